@@ -1,9 +1,12 @@
 #!/usr/bin/env python3
-"""examples.py PROGRAM PAGE..: runs the examples of pages with a built program, and compares what it writes byte for byte.
+"""examples.py PROGRAM PAGE.. --pieces PAGE FOLDER: runs the examples of pages with a built program, and compares what it writes byte for
+byte; and looks up each block of the page of pieces in the source files of a folder, white space at the beginning of lines aside.
 
 An example is a block `sh`, whose one line is `menhir` and its words, with `status=N` behind `sh` where the status is not 0.
 The blocks behind it, each where there is something, are `in` (the input), `out` and `err`. A block `file NAME` above it is a
-file that lies where it is run. Ends with 1 where an answer differs."""
+file that lies where it is run. Ends with 1 where an answer differs, or a piece is in no file."""
+import argparse
+import glob
 import os
 import shlex
 import subprocess
@@ -52,17 +55,44 @@ def differs(program, example):
     return [f"{name}: {got[name]!r}, and the page says {example[name]!r}" for name in got if got[name] != example[name]]
 
 
-def main(program, pages):
-    program = os.path.abspath(program)
+def flush_left(text):
+    """A text without the white space at the beginning of its lines."""
+    return "".join(line.lstrip(" ") for line in text.splitlines(keepends=True))
+
+
+def strays(page, folder):
+    """Each piece of code of a page: where it stands, and what is wrong if no source file of the folder has it."""
+    sources = []
+    for name in sorted(glob.glob(os.path.join(folder, "*.rt"))):
+        with open(name, encoding="utf-8") as source:
+            sources.append(flush_left(source.read()))
+    for _, start, text in blocks(page):
+        is_there = any(flush_left(text) in source for source in sources)
+        yield f"{page}:{start}", [] if is_there else [f"this piece is in no file of {folder}"]
+
+
+def checks(given):
+    """Each example and each piece: where it stands, and what is wrong with it."""
+    program = os.path.abspath(given.program)
+    for example in (it for page in given.pages for it in examples(page)):
+        yield example["at"], differs(program, example)
+    if given.pieces:
+        yield from strays(*given.pieces)
+
+
+def main():
+    parser = argparse.ArgumentParser()
+    parser.add_argument("program")
+    parser.add_argument("pages", nargs="*")
+    parser.add_argument("--pieces", nargs=2, metavar=("PAGE", "FOLDER"))
     passed = failed = 0
-    for example in (it for page in pages for it in examples(page)):
-        wrong = differs(program, example)
+    for at, wrong in checks(parser.parse_args()):
         for line in wrong:
-            print(f"{example['at']}: {line}")
+            print(f"{at}: {line}")
         passed, failed = passed + (not wrong), failed + bool(wrong)
     print(f"examples: {passed} passed, {failed} failed")
     return 1 if failed or not passed else 0
 
 
 if __name__ == "__main__":
-    sys.exit(main(sys.argv[1], sys.argv[2:]))
+    sys.exit(main())

@@ -1,8 +1,9 @@
-//! The command line tool: it makes the real shelf, source and sinks, and ends with the status of the work.
+//! The command line tool: `main` makes the real shelf, source and sinks, runs the top call over them, and ends with
+//! its status.
 #![tactic(auto)]
 
 ghost use Rattle.std.specs.Process.{exit_status};
-ghost use Rattle.mh_top_warnings.specs.LastLine.{SaysLine};
+ghost use Rattle.mh_top_warnings.specs.code.LastLine.{SaysLine};
 
 use mh_outside::{FileShelf, Sink, StdSink, StdSource, write_whole};
 use mh_top::{run, status};
@@ -14,14 +15,14 @@ const BAD_WORDS: &[u8] = b"menhir: usage: bad words\n";
 
 const NO_MEMORY: &[u8] = b"menhir: out of memory\n";
 
-/// Why the words of the command line are not had.
+/// Why the words of the command line cannot be read.
 #[derive(Clone, Copy)]
 enum WordsFault {
     Unreadable,
     Memory,
 }
 
-/// The words behind the name of the program.
+/// The words of the command line, without the name of the program.
 fn words(rt: &HostRuntime) -> Result<Vec<String>, WordsFault> {
     let mut words = Vec::new(rt.alloc());
     let mut args = match env::args(rt) {
@@ -43,7 +44,7 @@ fn words(rt: &HostRuntime) -> Result<Vec<String>, WordsFault> {
     Ok(words)
 }
 
-/// Says why no work is begun, and gives the status.
+/// Writes why no work is begun, and gives the status.
 fn refuse<E: Sink>(err: &mut E, line: &[u8], status: u8) -> ExitCode
     ensures { SaysLine status line.now (E.written err.old) (E.written err.new) (E.faults err.old)
         (E.faults err.new) (exit_status result) }

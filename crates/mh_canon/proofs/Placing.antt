@@ -8,10 +8,10 @@ use Rattle.mh_grammar.specs.Plain.{PlainGrammar}
 use Rattle.mh_grammar.specs.Placed.{Placed}
 use Rattle.mh_grammar.proofs.Lists.{all_at, contains_map}
 use Rattle.mh_items_kernels.specs.Shapes.{Items, Kernel}
-use Rattle.mh_items_kernels.specs.Collection.{IsBehindDot, IsMove}
-use Rattle.mh_items.specs.Moves.{Move, AreMoves, symbols_of}
+use Rattle.mh_items_kernels.specs.code.Moving.{IsBehindDot, IsMove}
+use Rattle.mh_items.specs.code.Moves.{Move, AreMoves, symbols_of}
 use Rattle.mh_canon_states.specs.Canonical.{IsOver}
-use Rattle.mh_canon_states.specs.Found.{IsSource, AreStates, AreEdges}
+use Rattle.mh_canon_states.specs.code.Found.{IsSource, AreStates, AreEdges}
 use Rattle.mh_canon_states.proofs.States.{AreEdges-none, AreEdges-push, IsOver-placed}
 
 pub record PlacedSoFar (g : PlainGrammar) (moves front : List Move) (old new : List Kernel) (row : List Edge) : Type 0 where

@@ -1,17 +1,17 @@
-//! How the canonical collection is made: the moves of each state in turn, whose new kernels are put behind the others.
+//! How the canonical collection is made: each state in turn gets its moves, whose new kernels are put after the others.
 ghost use Rattle.std.specs.Prelude.{◌≡◌, ◌<◌, ◌≤◌, ◌*◌, ℕ, [], length, Err, IfOk, OnOk};
 ghost use Rattle.mh_grammar.specs.Plain.{plain_of, IsInRange};
 ghost use Rattle.mh_items_kernels.specs.Automaton.{IsAutomaton};
 ghost use Rattle.mh_canon_states.specs.Canonical.{IsCanonical, IsOver};
 ghost use Rattle.mh_items_kernels.specs.Shapes.{Kernel as KernelOf};
 ghost use Rattle.mh_items_kernels.specs.Collection.{AreStarts};
-ghost use Rattle.mh_items.specs.Moves.{AreMoves};
-ghost use Rattle.mh_items.specs.Mover.{IsMover};
-ghost use Rattle.mh_canon_states.specs.Found.{IsSource, AreStates};
-ghost use Rattle.mh_canon.specs.Placed.{PlacesAll, HasEdges};
+ghost use Rattle.mh_items.specs.code.Moves.{AreMoves};
+ghost use Rattle.mh_items.specs.code.Mover.{IsMover};
+ghost use Rattle.mh_canon_states.specs.code.Found.{IsSource, AreStates};
+ghost use Rattle.mh_canon.specs.code.Placed.{PlacesAll, HasEdges};
 
 use crate::met::Kernels;
-use mh_canon_states::{MAX_STATES, Met, automaton_of, place};
+use mh_canon_states::MAX_STATES;
 use mh_grammar::{Edge, Grammar, Sequence};
 use mh_items::{Move, Mover};
 use mh_items_kernels::{Automaton, StatesFault, start_kernel};
@@ -36,7 +36,10 @@ pub fn canonical<const W: usize>(
     let mut kernels = start_kernels(alloc, grammar)?;
     let mut edges = Vec::new(alloc);
     match collect(alloc, grammar, &mut kernels, &mut edges) {
-        Ok(()) => Ok(automaton_of(kernels.into_list(alloc)?, edges)),
+        Ok(()) => Ok(Automaton {
+            kernels: Sequence::from_vec(kernels.into_list(alloc)?),
+            edges: Sequence::from_vec(edges),
+        }),
         Err(fault) => Err(fault),
     }
 }
@@ -104,7 +107,7 @@ fn start_kernels<const W: usize>(
     let mut kernels = Kernels::new(alloc);
     for start in 0..grammar.starts.len() {
         let kernel = start_kernel(alloc, grammar, start as u16)?;
-        kernels.place(kernel)?;
+        kernels.insert(kernel)?;
     }
     Ok(kernels)
 }
@@ -127,7 +130,7 @@ fn place_all<const W: usize>(
     let _grammar = grammar;
     let mut row = Vec::with_capacity(alloc, moves.len())?;
     for found in moves {
-        match place(kernels, found.kernel) {
+        match kernels.place(found.kernel) {
             Ok(target) => row.push(Edge {
                 symbol: found.symbol,
                 target,

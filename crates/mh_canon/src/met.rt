@@ -1,10 +1,10 @@
 //! The kernels of a collection, found by hash.
-ghost use Rattle.std.specs.Prelude.{◌≡◌, ◌≤◌, [], IfOk};
+ghost use Rattle.std.specs.Prelude.{◌≡◌, ◌<◌, ◌≤◌, ℕ, [], Err, IfOk};
 ghost use Rattle.mh_grammar.specs.Placed.{Placed};
 
 use indexmap::IndexSet;
-use mh_canon_states::Met;
-use mh_items_kernels::Kernel;
+use mh_canon_states::{MAX_STATES, number};
+use mh_items_kernels::{Kernel, StatesFault};
 use std::alloc::{AllocError, AllocFailed, Global};
 
 /// The kernels that were met, by their numbers.
@@ -31,12 +31,9 @@ impl<const W: usize> Kernels<W> {
     {
         self.set.into_iter().collect(alloc)
     }
-}
 
-impl<const W: usize> Met<W> for Kernels<W> {
-    ghost kernels = { λ s. s.set.keys };
-
-    fn place(&mut self, kernel: Kernel<W>) -> Result<usize, AllocFailed<Kernel<W>>>
+    /// The place of a kernel; a new one is put after the others.
+    pub(crate) fn insert(&mut self, kernel: Kernel<W>) -> Result<usize, AllocFailed<Kernel<W>>>
         requires { W ≤ 8 }
         ensures { IfOk result (Placed self.old.set.keys self.new.set.keys kernel.entry) }
     {
@@ -44,7 +41,18 @@ impl<const W: usize> Met<W> for Kernels<W> {
         Ok(at)
     }
 
-    fn all(&self) -> &[Kernel<W>]
+    /// The number of a kernel, of which there may be no more than `MAX_STATES`; a new one is put after the others.
+    pub(crate) fn place(&mut self, kernel: Kernel<W>) -> Result<u32, StatesFault>
+        requires { W ≤ 8 }
+        ensures ok { IfOk result (λ at. Placed self.old.set.keys self.new.set.keys kernel.entry at × (at < MAX_STATES)) }
+        ensures over { result ≡ Err StatesFault.TooManyStates → (at : ℕ) × Placed self.old.set.keys self.new.set.keys kernel.entry at × (MAX_STATES ≤ at) }
+    {
+        let at = self.insert(kernel)?;
+        number(at)
+    }
+
+    /// The kernels, by their numbers.
+    pub(crate) fn all(&self) -> &[Kernel<W>]
         ensures { result.now ≡ self.now.set.keys }
     {
         self.set.as_slice()

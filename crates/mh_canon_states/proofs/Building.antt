@@ -15,13 +15,12 @@ use Rattle.mh_grammar.specs.ItemSets.{AreSame, Close}
 use Rattle.mh_grammar.specs.Numbering.{InOrder}
 use Rattle.mh_grammar.specs.Placed.{Placed}
 use Rattle.mh_grammar.proofs.Placing.{contains_at, get_left, get_last, rows_pushed, AllPlaced-kept, AllPlaced-grows, AllPlaced-order, InOrder-append}
-use Rattle.mh_items_kernels.specs.Shapes.{Items, Kernel}
-use Rattle.mh_items_kernels.specs.Shapes.{KernelItem}
+use Rattle.mh_items_kernels.specs.Shapes.{Items, Kernel, KernelItem}
 use Rattle.mh_items_kernels.specs.Kernels.{Holds, IsItemList}
 use Rattle.mh_items_kernels.specs.Automaton.{start_kernel}
-use Rattle.mh_canon_states.specs.Canonical.{targets_of}
-use Rattle.mh_canon_states.specs.Found.{IsState, AreStates, AreStarts, IsSource, AreEdges}
-use Rattle.mh_items_kernels.specs.Collection.{IsBehindDot}
+use Rattle.mh_items_kernels.specs.Collection.{targets_of, AreStarts}
+use Rattle.mh_canon_states.specs.code.Found.{IsState, AreStates, IsSource, AreEdges}
+use Rattle.mh_items_kernels.specs.code.Moving.{IsBehindDot}
 use Rattle.mh_canon_states.proofs.Edging.{IsRow, IsRow-kept, IsRow-new}
 use Rattle.mh_grammar.proofs.Lists.{contains_here}
 use Rattle.mh_canon_states.proofs.Sets.{start_holds}

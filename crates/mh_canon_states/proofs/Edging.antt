@@ -14,9 +14,9 @@ use Rattle.mh_grammar.specs.Numbering.{Names}
 use Rattle.mh_grammar.proofs.Placing.{AllPlaced-names}
 use Rattle.mh_items_kernels.specs.Shapes.{Items, Kernel}
 use Rattle.mh_items_kernels.specs.Kernels.{Holds}
-use Rattle.mh_canon_states.specs.Canonical.{HasItem, targets_of}
-use Rattle.mh_canon_states.specs.Found.{AreEdges}
-use Rattle.mh_items_kernels.specs.Collection.{IsBehindDot, IsMove}
+use Rattle.mh_items_kernels.specs.Collection.{HasItem, targets_of}
+use Rattle.mh_canon_states.specs.code.Found.{AreEdges}
+use Rattle.mh_items_kernels.specs.code.Moving.{IsBehindDot, IsMove}
 use Rattle.mh_grammar.proofs.EdgeOrder.{same_is}
 use Rattle.mh_grammar.proofs.Lists.{contains_cases, contains_none, at_drop}
 use Rattle.mh_canon_states.proofs.Sets.{same_trans, same_sym, has_same, moved_same}

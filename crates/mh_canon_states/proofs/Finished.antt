@@ -9,12 +9,12 @@ use Rattle.mh_grammar.specs.declared.types.Symbol.{Symbol}
 use Rattle.mh_grammar.specs.Plain.{PlainGrammar}
 use Rattle.mh_grammar.specs.Edges.{find_edge}
 use Rattle.mh_grammar.specs.ItemSets.{AreSame, Close, StartItems, Reach}
-use Rattle.mh_items_kernels.specs.Shapes.{Kernel}
-use Rattle.mh_items_kernels.specs.Shapes.{Automaton}
+use Rattle.mh_items_kernels.specs.Shapes.{Kernel, Automaton}
 use Rattle.mh_items_kernels.specs.Kernels.{HasPlace}
 use Rattle.mh_items_kernels.specs.Automaton.{no_kernel, kernel_at, kernel_of, edges_at, leads_to, move_of, start_kernel, Moves}
-use Rattle.mh_canon_states.specs.Canonical.{HasItem, IsCanonical}
-use Rattle.mh_canon_states.specs.Found.{IsState}
+use Rattle.mh_items_kernels.specs.Collection.{HasItem}
+use Rattle.mh_canon_states.specs.Canonical.{IsCanonical}
+use Rattle.mh_canon_states.specs.code.Found.{IsState}
 use Rattle.mh_canon_states.proofs.Building.{Building}
 use Rattle.mh_canon_states.proofs.Edging.{IsRow}
 use Rattle.mh_items_kernels.proofs.OneList.{kernel_same}

@@ -5,9 +5,3 @@ pub mod Meaning
 pub mod Only
 pub mod Sets
 pub mod States
-pub mod Candidates
-pub mod Choosing
-pub mod Lists
-pub mod Paired
-pub mod Queueing
-pub mod Starting

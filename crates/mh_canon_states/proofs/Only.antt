@@ -13,11 +13,11 @@ use Rattle.mh_grammar.specs.Numbering as numbering
 use Rattle.mh_grammar.specs.Numbering.{Reached, Names, IsRowOf, IsNumbering}
 use Rattle.mh_grammar.proofs.Placing.{contains_at, at_contains}
 use Rattle.mh_grammar.proofs.OneNumbering.{one_numbering, same_places, take_place}
-use Rattle.mh_items_kernels.specs.Shapes.{Kernel}
-use Rattle.mh_items_kernels.specs.Shapes.{Automaton}
+use Rattle.mh_items_kernels.specs.Shapes.{Kernel, Automaton}
 use Rattle.mh_items_kernels.specs.Kernels.{Holds, IsItemList}
 use Rattle.mh_items_kernels.specs.Automaton.{kernel_at, kernel_of, edges_at, leads_to, move_of}
-use Rattle.mh_canon_states.specs.Canonical.{HasItem, IsCanonical, targets_of}
+use Rattle.mh_items_kernels.specs.Collection.{HasItem, targets_of}
+use Rattle.mh_canon_states.specs.Canonical.{IsCanonical}
 use Rattle.mh_canon_states.proofs.Edging.{symbol_itself, found_edge}
 use Rattle.mh_canon_states.proofs.Finished.{kernel_get, kernel_got, edges_get}
 use Rattle.mh_items_kernels.proofs.OneList.{kernel_same}

@@ -7,11 +7,10 @@ use Rattle.mh_grammar.specs.declared.types.Look.TheVariants.{End}
 use Rattle.mh_grammar.specs.Plain.{PlainGrammar}
 use Rattle.mh_grammar.specs.ItemSets as items
 use Rattle.mh_grammar.specs.ItemSets.{ItemSet, AreSame, Close, Moved, StartItems, Reach}
-use Rattle.mh_items_kernels.specs.Shapes.{Kernel}
-use Rattle.mh_items_kernels.specs.Shapes.{KernelItem}
+use Rattle.mh_items_kernels.specs.Shapes.{Kernel, KernelItem}
 use Rattle.mh_items_kernels.specs.Kernels.{Holds, HasPlace, IsKernelItem, IsItemList}
 use Rattle.mh_items_kernels.specs.Automaton.{start_kernel}
-use Rattle.mh_canon_states.specs.Canonical.{HasItem}
+use Rattle.mh_items_kernels.specs.Collection.{HasItem}
 use Rattle.mh_grammar.proofs.Lists.{contains_here, contains_cases, contains_none, recursion_contains, some_item}
 
 pub same_sym : (I J : ItemSet) → AreSame I J → AreSame J I

@@ -13,9 +13,10 @@ use Rattle.mh_grammar.specs.Placed.{Placed}
 use Rattle.mh_grammar.proofs.Placing.{AllPlaced-push, AllPlaced-each, AllPlaced-distinct}
 use Rattle.mh_items_kernels.specs.Shapes.{Items, Kernel}
 use Rattle.mh_items_kernels.specs.Kernels.{Holds, IsItemList}
-use Rattle.mh_canon_states.specs.Canonical.{Walk, walk_of, IsWalk, IsOver, targets_of}
-use Rattle.mh_canon_states.specs.Found.{IsState, AreStates, IsSource, AreEdges}
-use Rattle.mh_items_kernels.specs.Collection.{IsBehindDot, IsMove}
+use Rattle.mh_items_kernels.specs.Collection.{targets_of}
+use Rattle.mh_canon_states.specs.Canonical.{Walk, walk_of, IsWalk, IsOver}
+use Rattle.mh_canon_states.specs.code.Found.{IsState, AreStates, IsSource, AreEdges}
+use Rattle.mh_items_kernels.specs.code.Moving.{IsBehindDot, IsMove}
 use Rattle.mh_items_kernels.proofs.OneList.{kernel_same}
 use Rattle.mh_canon_states.proofs.Sets.{same_sym, same_trans, moved_same, close_same, place_holds}
 use Rattle.mh_grammar.proofs.Lists.{zip_push}

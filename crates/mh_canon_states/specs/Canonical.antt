@@ -9,7 +9,7 @@ use Rattle.mh_grammar.specs.ItemSets.{ItemSet, AreSame, StartItems, Reach}
 use Rattle.mh_grammar.specs.Numbering.{InOrder}
 use Rattle.mh_items_kernels.specs.Shapes.{Automaton}
 use Rattle.mh_items_kernels.specs.Kernels.{IsItemList}
-pub use Rattle.mh_items_kernels.specs.Collection.{HasItem, targets_of}
+use Rattle.mh_items_kernels.specs.Collection.{HasItem, targets_of}
 use Rattle.mh_items_kernels.specs.Automaton.{kernel_at, kernel_of, edges_at, leads_to, move_of, Moves}
 
 -- the symbols of a path lead from a start to this set
@@ -33,7 +33,8 @@ pub record IsCanonical (g : PlainGrammar) (a : Automaton) : Type 0 where
   pub sound : (s : ℕ) → s < length a.kernels → IsReach g (kernel_of a s)
   pub complete : (i : ℕ) (path : List Symbol) → i < length g.starts → HasItem (Reach g i path) → (s : ℕ) × (s < length a.kernels) × AreSame (kernel_of a s) (Reach g i path)
   pub distinct : (s u : ℕ) → s < length a.kernels → u < length a.kernels → AreSame (kernel_of a s) (kernel_of a u) → s ≡ u
-  -- the edges of a state rise by symbol, one for each symbol that moves an item of its closure, to the set of the moved items
+  -- the edges of a state rise by symbol, one for each symbol that moves an item of its closure, to the set of the moved
+  -- items
   pub order : (s : ℕ) → s < length a.kernels → IsRising IsEdgeBefore (edges_at a s)
   pub edge : (s : ℕ) (X : Symbol) → s < length a.kernels → Moves g a s X → (u : ℕ) × (leads_to a s X ≡ Some u)
   pub target : (s : ℕ) (X : Symbol) (u : ℕ) → leads_to a s X ≡ Some u → Moves g a s X × (u < length a.kernels) × AreSame (kernel_of a u) (move_of g a s X)

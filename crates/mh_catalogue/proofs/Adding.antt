@@ -10,14 +10,15 @@ use Rattle.mh_grammar.specs.Costs.{IsCost}
 use Rattle.mh_tables_core.specs.Table.{TableData, cost_of_token}
 use Rattle.mh_tables_core.specs.Failing.{Row as TableRow, IsRowBefore, FailsFirst, FailsCheaply, Failing, TooLongAt, Catalogue, IsInOrder, cost_of_word, dearest}
 use Rattle.mh_tables_core.specs.Facts.{Facts}
-use Rattle.mh_facts.specs.Orders.{cap}
+use Rattle.mh_facts.specs.Costs.{cap}
 use Rattle.mh_facts.proofs.Complete.{fails_refused}
 use Rattle.mh_facts.proofs.Sound.{reaches_known}
 use Rattle.mh_reach.specs.Reaching.{LeastCost}
 use Rattle.mh_catalogue_rows.specs.declared.rows.CatalogueFault.{CatalogueFault}
 use Rattle.mh_catalogue_rows.specs.declared.rows.CatalogueFault.TheVariants.{TooLong}
 use Rattle.mh_catalogue_rows.specs.declared.rows.Row.{Row}
-use Rattle.mh_catalogue_rows.specs.Rows.{row_of, rows_of, IsMade, RowsBelow}
+use Rattle.mh_catalogue_rows.specs.Rows.{row_of, rows_of, IsMade}
+use Rattle.mh_catalogue.specs.code.Gathering.{RowsBelow}
 
 pub rows_push : (rows : List Row) (r : Row) → rows_of (rows ++ r ∷ []) ≡ rows_of rows ++ row_of r ∷ []
 rows_push [] r = refl

@@ -2,7 +2,8 @@
 ghost use Rattle.std.specs.Prelude.{◌≡◌, ◌<◌, ◌+◌, ℕ, Err, OnOk, length};
 ghost use Rattle.mh_tables_core.specs.Facts.{Facts};
 ghost use Rattle.mh_tables_core.specs.Failing.{TooLongAt};
-ghost use Rattle.mh_catalogue_rows.specs.Rows.{rows_of, IsMade, RowsBelow};
+ghost use Rattle.mh_catalogue_rows.specs.Rows.{rows_of, IsMade};
+ghost use Rattle.mh_catalogue.specs.code.Gathering.{RowsBelow};
 
 use mh_catalogue_rows::{CatalogueFault, Row};
 use mh_grammar::Memory;

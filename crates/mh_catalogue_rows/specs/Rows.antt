@@ -1,10 +1,9 @@
--- The rows of a catalogue, as they are made, and what their making comes to.
-use Rattle.std.specs.Prelude.{◌≡◌, ℕ, List, map, length, ◌<◌, ◌≤◌, Result, Err, IfOk, Vec}
+-- The rows of a catalogue as `catalogue` gives them. Source: Pottier 2016; costs and the limit are this project's own.
+use Rattle.std.specs.Prelude.{◌≡◌, ℕ, List, map, length, ◌≤◌, Result, Err, IfOk, Vec}
 use Rattle.std.specs.declared.alloc.Global.{Global}
-use Rattle.std.specs.List.{AllByRecursion, Contains}
-use Rattle.mh_grammar.specs.Edges.{IsRising}
+use Rattle.std.specs.List.{AllByRecursion}
 use Rattle.mh_tables_core.specs.Table.{TableData}
-use Rattle.mh_tables_core.specs.Failing.{Row as TableRow, IsRowBefore, FailsFirst, FailsCheaply, Failing, Catalogue, TooLongAt, dearest}
+use Rattle.mh_tables_core.specs.Failing.{Row as TableRow, Catalogue, TooLongAt, dearest}
 use Rattle.mh_catalogue_rows.specs.declared.rows.CatalogueFault.{CatalogueFault}
 use Rattle.mh_catalogue_rows.specs.declared.rows.CatalogueFault.TheVariants.{TooLong}
 use Rattle.mh_catalogue_rows.specs.declared.rows.Row.{Row}
@@ -19,15 +18,6 @@ rows_of rows = map row_of rows
 -- no sentence has more tokens than the dearest one may cost
 abbrev pub AreShort : List TableRow → Type 0
 AreShort rows = AllByRecursion (λ row. length row.sentence ≤ dearest) rows
-
--- the rows of the states below a number
-pub record RowsBelow (t : TableData) (limit : ℕ) (rows : List TableRow) : Type 0 where
-  pub rising : IsRising IsRowBefore rows
-  pub each : AllByRecursion (λ row. FailsFirst t row.start row.sentence row.state) rows
-  pub below : AllByRecursion (λ row. row.state < limit) rows
-  pub short : AreShort rows
-  pub complete : (s : ℕ) → s < limit → Failing t s → (row : TableRow) × Contains rows row × (row.state ≡ s)
-  pub cheap : (s : ℕ) → s < limit → Failing t s → FailsCheaply t s
 
 -- the catalogue of the table, none of its sentences long; or, exactly where there is one, the lowest state in which only too dear sentences fail; or
 -- memory was wanted

@@ -18,7 +18,8 @@ use Rattle.mh_msgfile.specs.declared.messages.MsgFile.{MsgFile}
 use Rattle.mh_msgfile.specs.Messages.{IsOf, AreOf}
 use Rattle.mh_check.specs.declared.places.SentencePlace.{SentencePlace}
 use Rattle.mh_check.specs.Checks.{FailsIn, FaultFound, NotRefusedAt, RefusedEarlyAt, SharedBy, Accepts, Overshoots, Breaks, NotRefused, RefusedEarly, FirstFault, sentences_of}
-use Rattle.mh_check.specs.Compiling.{Item, item, items_of, items_from, sentences_in, place_of, message_of_place, Placed, IsCompiled}
+use Rattle.mh_check.specs.Compiling.{IsCompiled}
+use Rattle.mh_check.specs.code.Places.{Item, item, items_of, items_from, sentences_in, place_of, message_of_place, Placed}
 use Rattle.mh_tables_core.proofs.Refusing.{state_refused}
 use Rattle.mh_check.proofs.Placing.{placed_more, placed_replicate, shares, breaks, first_more}
 use Rattle.mh_check.proofs.Files.{is_compiled, sentences_are}

@@ -14,7 +14,8 @@ use Rattle.mh_msgfile.specs.declared.messages.Entry.{Entry}
 use Rattle.mh_msgfile.specs.declared.messages.MsgFile.{MsgFile}
 use Rattle.mh_check.specs.declared.places.SentencePlace.{SentencePlace}
 use Rattle.mh_check.specs.Checks.{Sound, IsMessage, sentences_of}
-use Rattle.mh_check.specs.Compiling.{Item, item, items_of, items_from, sentences_in, place_of, Placed, message_of_place, message_at, itself, itself_place, place_in, IsCompiled}
+use Rattle.mh_check.specs.Compiling.{message_at, itself, IsCompiled}
+use Rattle.mh_check.specs.code.Places.{Item, item, items_of, items_from, sentences_in, place_of, Placed, message_of_place, place_in, itself_place}
 
 -- ---- an entry more
 

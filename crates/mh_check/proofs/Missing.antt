@@ -1,7 +1,5 @@
 -- The states that a second file lacks, one after another.
 use Rattle.std.proofs.Common.{◌≡◌, ◌+◌, ◌-◌, ◌<◌, ◌≤◌, ℕ, suc, Bool, true, false, List, [], ◌∷◌, ◌++◌, filter, Option, length, refl, sym, ap, ap₂, ◌∙◌, arith, append_assoc, append-nil}
-use Rattle.std.specs.Prelude.{Result, Ok, Err, OnOk, is_some}
-use Rattle.mh_grammar_texts.specs.Lacking.{lacking}
 use Rattle.mh_check.specs.Compiling.{message_at, numbers_from, is_missing, missing}
 
 numbers_step : (n p : ℕ) → p < n → numbers_from p (n - p) ≡ p ∷ numbers_from (p + 1) (n - (p + 1))
@@ -17,17 +15,6 @@ module _ (left right : List (Option (List ℕ))) where
   filtered : (s : ℕ) (more : List ℕ) (c : Bool) → is_missing left right s ≡ c → filter (is_missing left right) (s ∷ more) ≡ filter (is_missing left right) (s ∷ []) ++ filter (is_missing left right) more
   filtered s more true is = rw is refl
   filtered s more false is = rw is refl
-
-  kept_one : (s : ℕ) (c : Bool) → is_missing left right s ≡ c → lacking (is_some (message_at left s)) (is_some (message_at right s)) s ≡ filter (is_missing left right) (s ∷ [])
-  kept_one s true is = rw is refl
-  kept_one s false is = rw is refl
-
-  -- a state that was put in, if the second lacks it
-  pub put_one : {X E : Type 0} (r : Result X E) (old new : List ℕ) (s : ℕ) (first second : Bool) → first ≡ is_some (message_at left s) → second ≡ is_some (message_at right s) → OnOk r (new ≡ old ++ lacking first second s)
-      → OnOk r (new ≡ old ++ filter (is_missing left right) (s ∷ []))
-  put_one (Ok x) old new s first second in_first in_second added =
-      added ∙ ap (λ (l : List ℕ). old ++ l) (ap₂ (λ (a b : Bool). lacking a b s) in_first in_second ∙ kept_one s (is_missing left right s) refl)
-  put_one (Err e) old new s first second in_first in_second added = tt
 
   pub missing_step : (states new : List ℕ) (p : ℕ) → p < length left → new ≡ states ++ filter (is_missing left right) (p ∷ []) → MissingSoFar states p → MissingSoFar new (p + 1)
   missing_step states new p lt added so_far =

@@ -10,7 +10,6 @@ use Rattle.std.proofs.lemmas.List.Elements.{Contains-append_left, recursion_from
 use Rattle.mh_tables_core.specs.Table.{TableData}
 use Rattle.mh_tables_core.specs.Run.{VerdictOf, Rejected}
 use Rattle.mh_msgfile.specs.declared.messages.MsgSentence.{MsgSentence}
-use Rattle.mh_grammar_texts.specs.Places.{PutsOnce}
 use Rattle.mh_check.specs.declared.places.SentencePlace.{SentencePlace}
 use Rattle.mh_check.specs.declared.compiling.CheckFault.{CheckFault}
 use Rattle.mh_check.specs.declared.compiling.CheckFault.TheVariants as faults
@@ -21,7 +20,8 @@ use Rattle.mh_run.specs.declared.outcome.Verdict.{Verdict}
 use Rattle.mh_run.specs.declared.outcome.Verdict.TheVariants as verdicts
 use Rattle.mh_msgfile.specs.Messages.{IsOf}
 use Rattle.mh_check.specs.Checks.{FailsIn, Sound, FaultFound, NotRefusedAt, RefusedEarlyAt, SharedBy, IsNoRefusal, Accepts, Overshoots, Breaks, NotRefused, RefusedEarly, Shared, FirstFault}
-use Rattle.mh_check.specs.Compiling.{Item, sentences_in, place_of, Placed, Tells}
+use Rattle.mh_check.specs.Compiling.{Tells}
+use Rattle.mh_check.specs.code.Places.{Item, sentences_in, place_of, Placed}
 use Rattle.mh_tables_core.proofs.Refusing.{state_refused}
 use Rattle.mh_check.proofs.Known.{fails_once}
 
@@ -214,12 +214,6 @@ module _ (t : TableData) (x : MsgSentence) (ts : List ℕ) (same : ts ≡ x.toke
   overshot_by v state is verdict earlier =
       NotRefused (ending_for v) (subst (λ (u : Verdict). IsNoRefusal (ending_for u)) (sym is) (Overshoots state)) (verdict_is v v refl verdict)
 
--- what stands at a place
--- what was put in, or was there
-pub was_free : (old new : List (Option SentencePlace)) (s : ℕ) (p : SentencePlace) (o : Option SentencePlace) → PutsOnce old s p new o → o ≡ None → (slice_get old s ≡ Some None) × (new ≡ set old s (Some p))
-was_free old new s p None puts is = puts
-was_free old new s p (Some earlier) puts is = cc
-
-pub was_taken : (old new : List (Option SentencePlace)) (s : ℕ) (p earlier : SentencePlace) (o : Option SentencePlace) → PutsOnce old s p new o → o ≡ Some earlier → slice_get old s ≡ Some (Some earlier)
-was_taken old new s p earlier None puts is = cc
-was_taken old new s p earlier (Some found) puts is = puts.0 ∙ ap Some is
+-- what a place holds
+pub at_place : (places : List (Option SentencePlace)) (s : ℕ) (o r : Option SentencePlace) → r ≡ get_or places s r → s < length places → r ≡ o → slice_get places s ≡ Some o
+at_place places s o r is lt same = slice_get-get_or places s r lt ∙ ap Some (sym is ∙ same)

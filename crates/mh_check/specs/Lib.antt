@@ -1,3 +1,4 @@
 pub mod Checks
 pub mod Compiling
 pub mod Texts
+pub mod code

@@ -1,10 +1,10 @@
 //! The messages of states.
 ghost use Rattle.std.specs.Prelude.{◌≡◌, ◌≤◌, ◌^◌, ◌∷◌, ◌++◌, [], length, map, filter, is_some, slice_get, MatchOption, IfOk, OnOk, Some, None};
-ghost use Rattle.mh_check.specs.Compiling.{message_at, message_of_place, is_missing, missing};
+ghost use Rattle.mh_check.specs.Compiling.{message_at, is_missing, missing};
+ghost use Rattle.mh_check.specs.code.Places.{message_of_place, place_in};
 
 use crate::places::SentencePlace;
 use mh_grammar::{Memory, Sequence};
-use mh_grammar_texts::{place_at, put_lacking};
 use std::alloc::Global;
 use std::marker::Model;
 
@@ -17,7 +17,7 @@ pub struct Compiled {
 
 impl Model for Compiled {
     ghost use Rattle.std.specs.Prelude.{List, ℕ, Option, map};
-    ghost use Rattle.mh_check.specs.Compiling.{message_of_place};
+    ghost use Rattle.mh_check.specs.code.Places.{message_of_place};
 
     ghost Value = { List (Option (List ℕ)) };
 
@@ -32,6 +32,16 @@ pub(crate) fn compiled_of(
     ensures { result ≡ map (message_of_place messages.items) places.items }
 {
     Compiled { places, messages }
+}
+
+/// The place of the sentence that fails in a state, if one does.
+fn place_at(places: &[Option<SentencePlace>], state: u32) -> Option<SentencePlace>
+    ensures { result ≡ place_in places.now state }
+{
+    match places.get(state as usize) {
+        Some(place) => *place,
+        None => None,
+    }
 }
 
 /// The message of an entry.
@@ -80,12 +90,10 @@ fn put_missing(
 ) -> Result<(), Memory>
     ensures { OnOk result (states.new.items ≡ states.old.items ++ filter (is_missing left.now right.now) (state ∷ [])) }
 {
-    put_lacking(
-        states,
-        left.has_message(state),
-        right.has_message(state),
-        state,
-    )
+    if left.has_message(state) && !right.has_message(state) {
+        states.push(state)?;
+    }
+    Ok(())
 }
 
 /// The states for which the first has a message and the second has none, rising. `Memory` only where there was none.

@@ -1,20 +1,20 @@
 //! Sentences that were looked at, by the states that they fail in.
-ghost use Rattle.std.specs.Prelude.{◌≡◌, ◌+◌, ◌<◌, ◌^◌, [], ◌∷◌, ◌++◌, List, IfOk, MatchResult, length};
+ghost use Rattle.std.specs.Prelude.{◌≡◌, ◌+◌, ◌<◌, [], ◌∷◌, List, IfOk, MatchResult, length};
 ghost use Rattle.std.specs.List.{AllByRecursion};
 ghost use Rattle.mh_msgfile.specs.Messages.{IsOf};
 ghost use Rattle.mh_msgfile.specs.declared.messages.MsgSentence.{MsgSentence as MsgSentence'};
 ghost use Rattle.mh_check.specs.Checks.{Breaks, FailsIn};
-ghost use Rattle.mh_check.specs.Compiling.{Item, item, items_of, Placed, PlacesAll, PlacesMore, Tells, listed};
+ghost use Rattle.mh_check.specs.Compiling.{Tells};
+ghost use Rattle.mh_check.specs.code.Places.{Item, item, items_of, Placed, PlacesAll, PlacesMore, listed};
 
 use crate::compiling::CheckFault;
 use mh_grammar::Memory;
-use mh_grammar_texts::{is_last, put_once};
 use mh_msgfile::{Entry, MsgSentence};
 use mh_run::{Verdict, verdict};
 use mh_tables_core::{Halting, Table};
 use std::alloc::Global;
 
-/// Where the sentence stands that fails in a state.
+/// The place in the file of the sentence that fails in a state.
 #[derive(Clone, Copy)]
 pub struct SentencePlace {
     /// The number of its line.
@@ -32,8 +32,12 @@ fn no_places(alloc: Global, table: &Table) -> Result<Vec<Option<SentencePlace>>,
     Ok(places)
 }
 
-/// The state that refuses the last token of a sentence, or why none does.
-fn failing_state(alloc: Global, table: &Halting, sentence: &MsgSentence) -> Result<u32, CheckFault>
+/// The state that refuses the last token of a sentence, or why none does. `Memory` only where there was none.
+pub fn failing_state(
+    alloc: Global,
+    table: &Halting,
+    sentence: &MsgSentence,
+) -> Result<u32, CheckFault>
     requires { IsOf (length table.now.grammar.starts) table.now.grammar.tokens sentence.now }
     ensures known { IfOk result (λ state. state < length table.now.states) }
     ensures fails { MatchResult result (λ state. FailsIn table.now sentence.now state) (λ fault. (earlier : List MsgSentence') → Tells fault (Breaks table.now earlier sentence.now)) }
@@ -46,7 +50,7 @@ fn failing_state(alloc: Global, table: &Halting, sentence: &MsgSentence) -> Resu
         Err(Memory) => return Err(CheckFault::Memory),
     };
     match ended {
-        Verdict::Reject { at, state } if is_last(at, tokens.len()) => Ok(state),
+        Verdict::Reject { at, state } if at as usize + 1 == tokens.len() => Ok(state),
         Verdict::Reject { at, .. } => Err(CheckFault::RefusedEarly { line, at }),
         Verdict::Accept { .. } => Err(CheckFault::NotRefused {
             line,
@@ -77,13 +81,16 @@ fn place_sentence(
         Ok(state) => state,
         Err(fault) => return Err(fault),
     };
-    match put_once(places, state, SentencePlace { line, entry }) {
+    match places[state as usize] {
         Some(earlier) => Err(CheckFault::SharedState {
             first: earlier.line,
             second: line,
             state,
         }),
-        None => Ok(()),
+        None => {
+            places[state as usize] = Some(SentencePlace { line, entry });
+            Ok(())
+        }
     }
 }
 

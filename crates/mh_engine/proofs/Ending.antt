@@ -8,8 +8,7 @@ use Rattle.mh_tables_core.specs.RunTrees.{grow, trees_after, Stands, yields}
 use Rattle.mh_tables_core.proofs.Ending.{step_moves}
 use Rattle.mh_tables_core.proofs.Trees.{stands_from_start}
 use Rattle.mh_grammar.specs.Trees.{SyntaxTree, Leaf}
-use Rattle.mh_engine.specs.code.Pairs.{Pairs}
-use Rattle.mh_engine.specs.Positions.{Position}
+use Rattle.mh_engine.specs.Positions.{Pairs, Position}
 use Rattle.mh_engine.specs.Phases.{next_move, phase_of, phase_by, phase_where}
 use Rattle.mh_engine.specs.Steps.{begun}
 use Rattle.mh_engine.specs.code.StepsOn.{after_steps}

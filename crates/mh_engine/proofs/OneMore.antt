@@ -8,8 +8,7 @@ use Rattle.mh_tables_core.proofs.Reductions.{no_shift_at_end}
 use Rattle.mh_tables_core.proofs.Longer.{move_longer}
 use Rattle.mh_tables_core.proofs.Ending.{step_moves}
 use Rattle.mh_grammar.specs.Trees.{SyntaxTree}
-use Rattle.mh_engine.specs.code.Pairs.{Pairs}
-use Rattle.mh_engine.specs.Positions.{Position}
+use Rattle.mh_engine.specs.Positions.{Pairs, Position}
 use Rattle.mh_engine.specs.Phases.{next_move, phase_of, phase_by, phase_where, first_of, IsAsking, CanGoOn}
 use Rattle.mh_engine.specs.Steps.{begun, resumed, offered, config_of}
 use Rattle.mh_engine.specs.code.StepsOn.{after_steps, CanMake}

@@ -17,9 +17,8 @@ use Rattle.mh_tables_core.proofs.Ending.{step_moves}
 use Rattle.mh_tables_core.proofs.Reductions.{no_shift_at_end, reduces_from_move, shifts_from_move, reduced}
 use Rattle.mh_grammar.specs.Trees.{SyntaxTree, Leaf, Node, forest_of, height_of}
 use Rattle.mh_tables_core.specs.Deep.{too_deep}
-use Rattle.mh_engine.specs.code.Pairs.{Pairs}
+use Rattle.mh_engine.specs.Positions.{Pairs, Position}
 use Rattle.mh_engine.specs.code.Cells.{pushed, taken}
-use Rattle.mh_engine.specs.Positions.{Position}
 use Rattle.mh_engine.specs.Phases.{next_move, phase_of, phase_by, phase_where, IsAsking, CanGoOn}
 use Rattle.mh_engine.specs.Steps.{resumed, offered, refused_at, config_of, is_refusal}
 use Rattle.mh_engine.specs.code.Reducing.{CanReduce}

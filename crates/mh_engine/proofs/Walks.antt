@@ -3,7 +3,7 @@ use Rattle.std.proofs.Common.{◌≡◌, ℕ, suc, ◌+◌, ◌-◌, ◌<◌, �
 use Rattle.std.proofs.lemmas.List.{reverse-append, length-reverse}
 use Rattle.std.proofs.Math.Seq.{take-append_seam, drop-append_seam}
 use Rattle.mh_grammar.specs.Trees.{SyntaxTree}
-use Rattle.mh_engine.specs.code.Pairs.{Pairs}
+use Rattle.mh_engine.specs.Positions.{Pairs}
 use Rattle.mh_engine.specs.code.Cells.{pushed, taken}
 
 -- so many cells of a stack stand above this part of it; their trees were found, the newest first

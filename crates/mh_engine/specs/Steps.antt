@@ -3,16 +3,14 @@ use Rattle.std.specs.Prelude.{ℕ, Bool, true, false, List, [], ◌∷◌, ◌++
 use Rattle.mh_tables_core.specs.Table.{TableData}
 use Rattle.mh_tables_core.specs.Run.{Config, Move, Accepts, Asks, Refuses, Shifts, Reduces, step, next_of}
 use Rattle.mh_tables_core.specs.RunTrees.{grow}
-use Rattle.mh_engine.specs.code.Pairs.{Pairs}
-use Rattle.mh_engine.specs.code.Cells.{bottom}
-use Rattle.mh_engine.specs.Positions.{Position}
+use Rattle.mh_engine.specs.Positions.{Position, bottom}
 use Rattle.mh_engine.specs.Phases.{next_move}
 
 -- where the run of a start on these tokens begins
 abbrev pub begun : TableData → ℕ → List ℕ → Position
 begun t start w = record { table = t; pairs = bottom start; left = w; refused = false }
 
--- one token more behind those to come
+-- one token more after those to come
 abbrev pub offered : Position → ℕ → Position
 offered c z = record { table = c.table; pairs = c.pairs; left = c.left ++ z ∷ []; refused = c.refused }
 
@@ -31,7 +29,7 @@ is_refusal Refuses = true
 is_refusal (Shifts j) = false
 is_refusal (Reduces p) = false
 
--- one step more of the run; a refusal is one, after which it stands where it stood
+-- the position after the next step of the run; a refusal is a step, which leaves the stack and the tokens as they are
 unfoldable pub resumed : Position → Position
 resumed c =
     let next = next_of (config_of c) (step c.table (config_of c)) in

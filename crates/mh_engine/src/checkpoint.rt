@@ -15,7 +15,6 @@ use crate::fault::ResumeFault;
 use crate::phase::Phase;
 use crate::stack::Stack;
 use mh_grammar::{Memory, Token};
-use mh_run::{first_state, left_refused};
 use mh_tables_core::{Choice, Halting, choose};
 use mh_tree::{Tree, can_be_children, leaf, node};
 use std::alloc::Global;
@@ -56,14 +55,14 @@ pub fn begin<'t>(table: &'t Halting, start: u16) -> Checkpoint<'t>
 {
     Checkpoint {
         table,
-        stack: Stack::bottom(first_state(start)),
+        stack: Stack::bottom(u32::from(start)),
         pending: None,
         refused: false,
     }
 }
 
 impl<'t> Checkpoint<'t> {
-    /// What every checkpoint keeps: an empty call that tells it to contracts.
+    /// What is true of every checkpoint: an empty call whose contract says so.
     pub(crate) fn facts(&self)
         ensures { Kept self.now }
     {
@@ -156,7 +155,7 @@ impl<'t> Checkpoint<'t> {
         Ok(Checkpoint {
             table: self.table,
             stack: self.stack.share()?,
-            pending: left_refused(self.pending),
+            pending: self.pending,
             refused: true,
         })
     }

@@ -2,15 +2,17 @@
 ghost use Rattle.std.specs.Prelude.{◌≡◌, ◌↔◌, IsTrue, ◌+◌, ◌-◌, ◌<◌, ◌≤◌, ◌^◌, ◌++◌, ◌∷◌, [], length, take, drop, IfOk, IfSome, IfNone};
 ghost use Rattle.mh_tables_core.specs.Run.{top_of};
 ghost use Rattle.mh_tables_core.specs.Deep.{max_depth};
-ghost use Rattle.mh_engine.specs.code.Pairs.{Pairs};
-ghost use Rattle.mh_engine.specs.code.Cells.{bottom, pushed, taken};
+ghost use Rattle.mh_engine.specs.Positions.{Pairs, bottom};
+ghost use Rattle.mh_engine.specs.code.Cells.{pushed, taken};
 
 use mh_grammar::Memory;
-use mh_run::has_room;
 use mh_tree::Tree;
 use std::alloc::Global;
 use std::marker::Model;
 use std::rc::Rc;
+
+/// The most trees on a stack, so also the most symbols: this project's own limit.
+const MAX_PAIRS: u32 = 4_000;
 
 /// The states of a run, with a tree above each but the first.
 #[cycle(stack)]
@@ -37,7 +39,8 @@ struct Cell {
 
 impl Model for Stack {
     ghost use Rattle.std.specs.Prelude.{◌≡◌, length};
-    ghost use Rattle.mh_engine.specs.code.Pairs.{Pairs, pairs_code};
+    ghost use Rattle.mh_engine.specs.Positions.{Pairs};
+    ghost use Rattle.mh_engine.specs.code.Pairs.{pairs_code};
 
     ghost Value = { Pairs };
 
@@ -100,7 +103,7 @@ impl Stack {
     pub(crate) fn has_room(&self) -> bool
         ensures { IsTrue result ↔ (length self.now.trees < max_depth) }
     {
-        has_room(self.count)
+        self.count < MAX_PAIRS
     }
 
     /// The newest state.

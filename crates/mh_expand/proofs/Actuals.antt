@@ -8,7 +8,7 @@ use Rattle.mh_rules.specs.declared.joined.Applied.{Applied}
 use Rattle.mh_rules.specs.declared.joined.Applied.TheViews.{out-Applied}
 use Rattle.mh_rules.specs.declared.joined.Applied.TheFolds.{fold_out-Applied}
 use Rattle.mh_grammar.specs.Placed.{Placed}
-use Rattle.mh_rules.specs.declared.applications.Application.{Application}
+use Rattle.mh_expand.specs.declared.applications.Application.{Application}
 use Rattle.mh_expand.specs.Terms.{Term, Atom, Apply, apply_all, term_step, term_of, replaced, replaced_head}
 use Rattle.mh_expand.specs.code.Sharing.{term_at, terms_at, node_term, IsNode, Grows}
 use Rattle.mh_expand.proofs.Applying.{apply_all-push, replaced-apply_all}

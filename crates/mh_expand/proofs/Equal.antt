@@ -6,7 +6,7 @@ use Rattle.std.proofs.lemmas.Bool.Decides.{Decides-eqb}
 use Rattle.std.proofs.lemmas.Bool.{and_parts, and_from}
 use Rattle.mh_rules.specs.declared.joined.Head.{Head}
 use Rattle.mh_rules.specs.declared.joined.Head.TheVariants.{Formal, Token, Rule}
-use Rattle.mh_rules.specs.declared.applications.Application.{Application}
+use Rattle.mh_expand.specs.declared.applications.Application.{Application}
 
 abbrev pub node : Head → List ℕ → Application
 node h ns = record { head = h; args = ns }

@@ -14,10 +14,10 @@ use Rattle.mh_rules.specs.declared.joined.Head.{Head}
 use Rattle.mh_rules.specs.declared.joined.Head.TheVariants.{Formal, Token, Rule}
 use Rattle.mh_rules.specs.declared.joined.JoinedRule.{JoinedRule}
 use Rattle.mh_rules.specs.declared.joined.Joined.{Joined}
-use Rattle.mh_rules.specs.declared.fault.ExpandFault.{ExpandFault}
+use Rattle.mh_expand.specs.declared.fault.ExpandFault.{ExpandFault}
 use Rattle.mh_rules.specs.declared.instances.Instance.{Instance}
 use Rattle.mh_rules.specs.declared.instances.Expanded.{Expanded}
-use Rattle.mh_rules.specs.declared.fault.ExpandFault.TheVariants.{Arity, Expansion}
+use Rattle.mh_expand.specs.declared.fault.ExpandFault.TheVariants.{Arity, Expansion}
 use Rattle.mh_expand.specs.Terms.{Term, head_of, head_name, arguments, text}
 use Rattle.mh_expand.specs.Expansion as expansion
 use Rattle.mh_expand.specs.Expansion.{IsInstance, IsRule, Takes, Fits, IsNew, IsFault, IsClear, IsReached, AreFirst, finds, Fails, IsFirstFault, Causes, producers_of, alternatives_of, start_term, start_terms, IsProduction, IsInstanceOf, IsExpanded}

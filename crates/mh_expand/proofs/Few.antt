@@ -8,7 +8,7 @@ use Rattle.std.proofs.lemmas.Option.{slice_get-get_or}
 use Rattle.mh_grammar.proofs.Lists.{contains_last, contains_none, contains_push, zip_length}
 use Rattle.mh_grammar.proofs.Placing.{contains_at}
 use Rattle.mh_rules.specs.declared.joined.Joined.{Joined}
-use Rattle.mh_rules.specs.declared.fault.ExpandFault.TheVariants.{Arity, Expansion}
+use Rattle.mh_expand.specs.declared.fault.ExpandFault.TheVariants.{Arity, Expansion}
 use Rattle.mh_rules.specs.declared.instances.Expanded.{Expanded}
 use Rattle.mh_expand.specs.Terms.{Term, head_of, head_name, text}
 use Rattle.mh_expand.specs.Expansion as expansion

@@ -2,27 +2,23 @@
 use Rattle.std.proofs.Common.{◌≡◌, ℕ, suc, ◌<◌, ◌≤◌, ◌⊎◌, List, [], ◌∷◌, ◌++◌, Option, Some, None, length, take, get_or, refl, sym, ap, ◌∙◌, arith, append_assoc, inl, inr}
 use Rattle.std.specs.List.{slice_get, All, Contains}
 use Rattle.std.specs.Option.{option_map}
-use Rattle.std.proofs.lemmas.Option.{slice_get-map}
-use Rattle.std.proofs.lemmas.List.{map-append}
-use Rattle.std.proofs.lemmas.List.Elements.{All-push}
+use Rattle.std.proofs.lemmas.Option.{slice_get-map, slice_get_within, slice_get-get_or}
+use Rattle.std.proofs.lemmas.List.{map-append, length-map, take-append-le, append-nil}
+use Rattle.std.proofs.lemmas.List.Elements.{All-push, Contains-append_left, Contains-append_right}
 use Rattle.std.proofs.lemmas.Bool.{cases_lt}
-use Rattle.std.proofs.lemmas.List.{length-map, take-append-le, append-nil}
 use Rattle.std.proofs.Math.Seq.{take-append_seam}
-use Rattle.std.proofs.lemmas.List.Elements.{Contains-append_left, Contains-append_right}
-use Rattle.std.proofs.lemmas.Option.{slice_get_within, slice_get-get_or}
 use Rattle.mh_grammar.proofs.Lists.{contains_here, contains_last, contains_none, contains_push, option_map_some, split_push}
 use Rattle.mh_grammar.specs.Numbering.{AreDistinct}
 use Rattle.mh_grammar.proofs.Placing.{get_last, get_cases, contains_at, at_contains, AreDistinct-push}
 use Rattle.mh_grammar.proofs.Pigeon.{length-distinct_in}
 use Rattle.mh_rules.specs.declared.joined.Joined.{Joined}
-use Rattle.mh_rules.specs.declared.fault.ExpandFault.{ExpandFault}
-use Rattle.mh_rules.specs.Counts.{count_fault}
+use Rattle.mh_expand.specs.declared.fault.ExpandFault.{ExpandFault}
 use Rattle.mh_expand.specs.Terms.{Term, Atom, head_of, head_name, text}
 use Rattle.mh_rules.specs.declared.joined.Head.TheVariants.{Token}
 use Rattle.mh_expand.specs.Expansion as expansion
 use Rattle.mh_expand.specs.Expansion.{IsInstance, IsNew, IsFull, IsFault, IsClear, Fits, Causes}
 use Rattle.mh_rules.specs.declared.instances.Part.TheVariants as parts
-use Rattle.mh_rules.specs.declared.fault.ExpandFault.TheVariants.{Arity, Expansion, Memory}
+use Rattle.mh_expand.specs.declared.fault.ExpandFault.TheVariants.{Arity, Expansion, Memory}
 use Rattle.mh_expand.specs.code.Sharing.{term_at, terms_at}
 use Rattle.mh_expand.specs.code.Searching.{IsSight, AreFound, IsSearch, IsTextWithin, Finds}
 use Rattle.mh_expand.proofs.Shared.{get_term, term_got}
@@ -184,11 +180,14 @@ Finds-token j before ts numbers z s = record {
     no_fault e (expansion.IsFault.long f n l) = n.instance
     no_fault e (expansion.IsFault.full f n l) = n.instance
 
--- a cause that follows from another
-pub wrong_count : (j : Joined) (before : List Term) (t : Term) (most : ℕ) (name : Option (List ℕ)) (e : ExpandFault) → (Fits j t → ⊥) → IsTextWithin most (text j t) name → e ≡ count_fault name → Causes (IsFault j before t) e
-wrong_count j before t most (Some n) e count within is = rw (is, within.0) (expansion.IsFault.count count)
-wrong_count j before t most None e count within is = rw is tt
+pub wrong_count : (j : Joined) (before : List Term) (t : Term) (most : ℕ) (name : Option (List ℕ)) (instance : List ℕ) → (Fits j t → ⊥) → IsTextWithin most (text j t) name → name ≡ Some instance → Causes (IsFault j before t) (Arity instance)
+wrong_count j before t most (Some n) instance count within is =
+    let same : Some n ≡ Some instance = is in
+    let here : n ≡ instance = cc in
+    rw (sym here, within.0) (expansion.IsFault.count count)
+wrong_count j before t most None instance count within is = let no : None ≡ Some instance = is in cc
 
+-- a cause that follows from another
 pub Causes-from : (P Q : ExpandFault → Type 0) → ((e : ExpandFault) → P e → Q e) → (e : ExpandFault) → Causes P e → Causes Q e
 Causes-from P Q h (Arity n) c = h (Arity n) c
 Causes-from P Q h (Expansion n) c = h (Expansion n) c

@@ -14,7 +14,7 @@ use Rattle.mh_rules.specs.declared.joined.Applied.TheFolds.{fold-roll-Applied, i
 use Rattle.mh_rules.specs.declared.joined.JoinedAlternative.{JoinedAlternative}
 use Rattle.mh_rules.specs.declared.joined.JoinedRule.{JoinedRule}
 use Rattle.mh_rules.specs.declared.joined.Joined.{Joined}
-use Rattle.mh_rules.specs.declared.fault.ExpandFault.TheVariants.{Arity}
+use Rattle.mh_expand.specs.declared.fault.ExpandFault.TheVariants.{Arity}
 use Rattle.mh_rules.specs.declared.instances.Part.{Part}
 use Rattle.mh_rules.specs.declared.instances.Part.TheVariants as parts
 use Rattle.mh_rules.specs.declared.instances.Instance.{Instance}
@@ -25,8 +25,7 @@ use Rattle.mh_expand.specs.Expansion.{IsInstance, IsRule, Takes, Fits, IsReached
 use Rattle.mh_expand.proofs.Going.{alternatives_there}
 use Rattle.mh_expand.proofs.Expanding.{fits_or}
 use Rattle.mh_grammar.proofs.Placing.{contains_at, at_contains}
-use Rattle.mh_rules.specs.Ready.{IsHeadBelow, IsAppliedBelow, IsRuleReady}
-use Rattle.mh_rules.specs.Ready.{IsReady, IsPartBelow, IsInstanceReady, IsExpandedReady}
+use Rattle.mh_rules.specs.Ready.{IsHeadBelow, IsAppliedBelow, IsRuleReady, IsReady, IsPartBelow, IsInstanceReady, IsExpandedReady}
 
 -- each head in a term is there
 abbrev pub IsTermBelow : ℕ → ℕ → ℕ → Term → Type 0

@@ -9,7 +9,7 @@ use Rattle.mh_grammar.specs.Numbering.{AreDistinct}
 use Rattle.mh_grammar.specs.Placed.{Placed}
 use Rattle.mh_grammar.proofs.Lists.{has_place}
 use Rattle.mh_grammar.proofs.Placing.{get_left, get_last, get_cases, AreDistinct-push, at_contains}
-use Rattle.mh_rules.specs.declared.applications.Application.{Application}
+use Rattle.mh_expand.specs.declared.applications.Application.{Application}
 use Rattle.mh_expand.specs.Terms.{Term, Atom, apply_all, head_of, arguments}
 use Rattle.mh_expand.specs.code.Sharing.{term_at, terms_at, node_term, terms_from, terms_of, AreNodes, Grows}
 use Rattle.mh_expand.proofs.Applying.{one_head, one_list, head_of-apply_all, arguments-apply_all}

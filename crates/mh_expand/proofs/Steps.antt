@@ -13,8 +13,8 @@ use Rattle.mh_rules.specs.declared.joined.Joined.{Joined}
 use Rattle.mh_rules.specs.declared.instances.Part.{Part}
 use Rattle.mh_rules.specs.declared.instances.Part.TheVariants.{Instance}
 use Rattle.mh_rules.specs.declared.instances.InstanceProduction.{InstanceProduction}
-use Rattle.mh_rules.specs.declared.fault.ExpandFault.{ExpandFault}
-use Rattle.mh_rules.specs.declared.applications.Application.{Application}
+use Rattle.mh_expand.specs.declared.fault.ExpandFault.{ExpandFault}
+use Rattle.mh_expand.specs.declared.applications.Application.{Application}
 use Rattle.mh_expand.specs.Terms.{Term, Atom, apply_all, arguments, head_of}
 use Rattle.mh_expand.specs.Expansion.{IsFault, Fails, Causes, right_side, start_term}
 use Rattle.mh_expand.specs.code.Sharing.{term_at, terms_at, node_term, IsNode, Grows}

@@ -11,8 +11,8 @@ use Rattle.mh_rules.specs.declared.joined.JoinedAlternative.{JoinedAlternative}
 use Rattle.mh_rules.specs.declared.joined.JoinedRule.{JoinedRule}
 use Rattle.mh_rules.specs.declared.joined.Joined.{Joined}
 use Rattle.mh_expand.specs.declared.search.TheConstants.{MAX_NAME}
-use Rattle.mh_rules.specs.declared.fault.ExpandFault.{ExpandFault}
-use Rattle.mh_rules.specs.declared.fault.ExpandFault.TheVariants.{Arity, Expansion, Memory}
+use Rattle.mh_expand.specs.declared.fault.ExpandFault.{ExpandFault}
+use Rattle.mh_expand.specs.declared.fault.ExpandFault.TheVariants.{Arity, Expansion, Memory}
 use Rattle.mh_rules.specs.declared.instances.TheConstants.{MAX_INSTANCES}
 use Rattle.mh_rules.specs.declared.instances.Part.{Part}
 use Rattle.mh_rules.specs.declared.instances.Part.TheVariants as parts

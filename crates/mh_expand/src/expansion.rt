@@ -2,15 +2,17 @@
 ghost use Rattle.std.specs.Prelude.{◌≡◌, ◌<◌, ◌≤◌, ◌++◌, ℕ, List, [], flat_map, length, slice_index, nat_eq, IsSome, IfOk, IfErr};
 ghost use Rattle.std.specs.List.{All};
 ghost use Rattle.indexmap.specs.IndexMap.{get};
-ghost use Rattle.mh_rules.specs.declared.fault.ExpandFault.{ExpandFault};
+ghost use Rattle.mh_expand.specs.declared.fault.ExpandFault.{ExpandFault};
 ghost use Rattle.mh_expand.specs.Terms.{Term, arguments, text};
 ghost use Rattle.mh_expand.specs.Expansion.{Fails, Causes, IsExpanded, IsFirstFault, producers_of, right_side, rule_at, start_terms};
 ghost use Rattle.mh_rules.specs.Ready.{IsReady, IsExpandedReady};
 ghost use Rattle.mh_expand.specs.Sentences.{HasSameSentences};
 ghost use Rattle.mh_expand.specs.code.Sharing.{terms_of, term_at, terms_at, Grows};
-ghost use Rattle.mh_expand.specs.Whole.{IsExpandedWhole};
+ghost use Rattle.mh_expand.specs.code.Whole.{IsExpandedWhole};
 ghost use Rattle.mh_expand.specs.code.Searching.{IsSearch, IsFit, AreRanks, WentStarts, WentInstance, WentAlternatives, WentAlternative, IsExpanding, AreExpanded};
 
+use crate::applications::Application;
+use crate::fault::ExpandFault;
 use crate::ranks::{Ranks, rank_of, ranks_of};
 use crate::replacing::replace;
 use crate::search::{MAX_NAME, find, find_instance};
@@ -19,8 +21,8 @@ use crate::texts::text_within;
 use indexmap::IndexSet;
 use mh_grammar::{Memory, Name, Sequence, TokenInfo};
 use mh_rules::{
-    Application, ExpandFault, Expanded, Head, Instance, InstanceProduction, Joined,
-    JoinedAlternative, JoinedRule, MAX_INSTANCES, Part, next_place, production_of,
+    Expanded, Head, Instance, InstanceProduction, Joined, JoinedAlternative, JoinedRule,
+    MAX_INSTANCES, Part,
 };
 use std::alloc::Global;
 
@@ -126,7 +128,8 @@ fn expand_all(
     ensures err { IfErr result (Causes (IsFirstFault joined.now)) }
 {
     let mut instances = Sequence::new(alloc);
-    'instances: while let Some(place) = next_place(instances.len(), found.len()) {
+    'instances: while instances.len() < found.len() {
+        let place = instances.len();
         match expand_instance(alloc, joined, terms, ranks, found, place) {
             Ok(instance) => instances.push(instance)?,
             Err(fault) => return Err(fault),
@@ -336,5 +339,10 @@ fn expand_alternative(
             Err(fault) => return Err(fault),
         }
     }
-    Ok(production_of(alternative, rhs))
+    Ok(InstanceProduction {
+        file: alternative.file,
+        place: alternative.place,
+        rhs,
+        prec: alternative.prec,
+    })
 }

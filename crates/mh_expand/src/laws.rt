@@ -2,7 +2,8 @@
 ghost use Rattle.std.specs.Prelude.{◌≡◌};
 ghost use Rattle.mh_expand.specs.Expansion.{IsExpanded, IsFirstFault};
 
-use mh_rules::{ExpandFault, Expanded, Joined};
+use crate::fault::ExpandFault;
+use mh_rules::{Expanded, Joined};
 
 /// Two expansions of the same rules are one, with the same numbers and the same order of productions.
 pub fn is_one_expansion(joined: &Joined, left: &Expanded, right: &Expanded)

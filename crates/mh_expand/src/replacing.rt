@@ -4,9 +4,10 @@ ghost use Rattle.std.specs.List.{All};
 ghost use Rattle.mh_expand.specs.Terms.{replaced, replaced_head, term_of};
 ghost use Rattle.mh_expand.specs.code.Sharing.{terms_of, terms_at, Grows, IsNode};
 
+use crate::applications::Application;
 use crate::terms::Terms;
 use mh_grammar::{Memory, Sequence};
-use mh_rules::{Application, Applied, Head};
+use mh_rules::{Applied, Head};
 use std::alloc::Global;
 
 /// The term that an actual stands for, where the formals stand for these terms. It calls itself as often as the actual is

@@ -6,11 +6,12 @@ ghost use Rattle.mh_expand.specs.Expansion.{IsInstance, Fits, IsFault, Causes};
 ghost use Rattle.mh_expand.specs.code.Sharing.{terms_of, term_at};
 ghost use Rattle.mh_expand.specs.code.Searching.{IsSearch, Finds};
 
+use crate::fault::ExpandFault;
 use crate::terms::Terms;
 use crate::texts::text_within;
 use indexmap::IndexSet;
 use mh_grammar::{Memory, Name};
-use mh_rules::{ExpandFault, Head, Joined, JoinedRule, MAX_INSTANCES, Part, count_fault};
+use mh_rules::{Head, Joined, JoinedRule, MAX_INSTANCES, Part};
 use std::alloc::{AllocFailed, Global};
 
 /// The most bytes that the name of an instance may have.
@@ -157,7 +158,10 @@ fn wrong_count(alloc: Global, joined: &Joined, terms: &Terms, number: usize) -> 
         Causes (IsFault joined.now before (term_at (terms_of terms.now.nodes.keys) number)) result }
 {
     match text_within(alloc, joined, terms, number, MAX_FAULT_NAME) {
-        Ok(name) => count_fault(name),
+        Ok(name) => match name {
+            Some(instance) => ExpandFault::Arity { instance },
+            None => ExpandFault::Memory,
+        },
         Err(_) => ExpandFault::Memory,
     }
 }

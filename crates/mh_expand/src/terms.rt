@@ -4,8 +4,8 @@ ghost use Rattle.std.specs.List.{All};
 ghost use Rattle.mh_grammar.specs.Placed.{Placed};
 ghost use Rattle.mh_expand.specs.code.Sharing.{AreNodes, terms_of, node_term};
 
+use crate::applications::Application;
 use indexmap::IndexSet;
-use mh_rules::Application;
 use std::alloc::{AllocError, AllocFailed, Global};
 
 /// Terms by number, each once, their arguments before them.

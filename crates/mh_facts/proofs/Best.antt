@@ -4,7 +4,7 @@ use Rattle.mh_tables_core.specs.Table.{TableData}
 use Rattle.mh_tables_core.specs.Facts.{Facts}
 use Rattle.mh_grammar.specs.Plain.{rhs_of, lhs_of}
 use Rattle.mh_facts.specs.declared.store.FactKey.{FactKey}
-use Rattle.mh_facts.specs.Least.{Laws, key, Holds, ClosedBy, Closes, SoundAt, Pending, Frontier, Complete, Turn, Label, longer, LabelLaws, HoldsAt, ClosedAt, ClosesAt}
+use Rattle.mh_facts.specs.code.Least.{Laws, key, Holds, ClosedBy, Closes, SoundAt, Pending, Frontier, Complete, Turn, Label, longer, LabelLaws, HoldsAt, ClosedAt, ClosesAt}
 use Rattle.mh_facts.proofs.Least.{closed_complete}
 
 -- what comes later than a word that is held is held

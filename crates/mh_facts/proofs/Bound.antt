@@ -10,7 +10,7 @@ use Rattle.mh_tables_core.proofs.Reductions.{shifts_from_move, reduces_from_move
 use Rattle.mh_facts.specs.Search.{front_of, Derives}
 use Rattle.mh_facts.specs.Search as rules
 use Rattle.mh_facts.specs.declared.store.FactKey.{FactKey}
-use Rattle.mh_facts.specs.Least.{IsEnd, Laws, key, Holds, ClosedBy, Congruent, SoundAt, SoundWay, GoesLike}
+use Rattle.mh_facts.specs.code.Least.{IsEnd, Laws, key, Holds, ClosedBy, Congruent, SoundAt, SoundWay, GoesLike}
 use Rattle.mh_facts.proofs.Forward.{derives_front, front_append}
 use Rattle.mh_facts.proofs.Sound.{derives_known, shift_known}
 

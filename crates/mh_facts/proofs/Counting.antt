@@ -6,7 +6,7 @@ use Rattle.std.specs.Map.{lookup}
 use Rattle.mh_facts.specs.declared.store.FactKey.{FactKey}
 use Rattle.mh_facts.specs.declared.store.Fact.{Fact}
 use Rattle.mh_facts.specs.Stored.{Facts, fact_at}
-use Rattle.mh_facts.specs.Least.{key}
+use Rattle.mh_facts.specs.code.Least.{key}
 use Rattle.mh_facts.proofs.Keyed.{AreKeys, at_kept, at_last}
 use Rattle.mh_facts.proofs.Putting.{fact_keys}
 

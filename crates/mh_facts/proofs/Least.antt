@@ -10,7 +10,7 @@ use Rattle.mh_tables_core.specs.Failing.{Fails}
 use Rattle.mh_facts.specs.Search.{front_of, Reaches, Refused}
 use Rattle.mh_facts.specs.Search as rules
 use Rattle.mh_facts.specs.declared.store.FactKey.{FactKey}
-use Rattle.mh_facts.specs.Least.{IsEnd, Laws, key, Holds, ClosedBy, SoundWay, Label, longer, LabelLaws, HoldsAt, ClosedAt, SoundReach, Complete, Candidate}
+use Rattle.mh_facts.specs.code.Least.{IsEnd, Laws, key, Holds, ClosedBy, SoundWay, Label, longer, LabelLaws, HoldsAt, ClosedAt, SoundReach, Complete, Candidate}
 use Rattle.mh_facts.proofs.Forward.{derives_front}
 use Rattle.mh_facts.proofs.Sound.{derives_known, reaches_known, shift_known, refused_fails}
 use Rattle.mh_facts.proofs.Complete.{fails_refused}

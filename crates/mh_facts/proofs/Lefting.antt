@@ -8,7 +8,7 @@ use Rattle.mh_grammar.proofs.Lists.{contains_none}
 use Rattle.mh_tables_core.specs.Table.{TableData}
 use Rattle.mh_facts.specs.declared.left.ByLeft.{ByLeft}
 use Rattle.mh_facts.specs.code.Rows.{row_of, Files}
-use Rattle.mh_facts.specs.Left.{IsByLeft, IsByLeftTo}
+use Rattle.mh_facts.specs.code.Left.{IsByLeft, IsByLeftTo}
 
 pub left_begins : (t : TableData) (left : ByLeft) → length left.rows.items ≡ t.grammar.nonterminals → ((n : ℕ) → row_of left.rows.items n ≡ []) → IsByLeftTo t (length t.grammar.starts) left
 left_begins t left rows none = record {

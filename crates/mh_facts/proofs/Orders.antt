@@ -1,12 +1,13 @@
 -- The orders keep the laws.
 use Rattle.std.proofs.Common.{◌≡◌, ℕ, zero, suc, ◌+◌, ◌-◌, ◌<◌, ◌≤◌, ◌⊎◌, inl, inr, List, [], ◌∷◌, ◌++◌, length, refl, ap, sym, subst, arith, ◌∙◌}
 use Rattle.std.proofs.lemmas.Bool.{cases_lt}
-use Rattle.mh_facts.specs.Least.{Laws, LabelLaws, Label, longer}
+use Rattle.mh_facts.specs.code.Least.{Laws, LabelLaws, Label, longer}
 use Rattle.mh_grammar.specs.WordOrder.{LexLe}
 use Rattle.mh_tables_core.specs.Failing.{cost_by}
 use Rattle.mh_grammar.proofs.WordOrder.{lex_same, lex_after, lex_front}
-use Rattle.mh_facts.specs.Orders.{cap, CostLe, CostLabelLe, FirstLe, SentenceLe}
-use Rattle.mh_facts.specs.Orders as orders
+use Rattle.mh_facts.specs.code.Orders.{CostLe, CostLabelLe, FirstLe, SentenceLe}
+use Rattle.mh_facts.specs.Costs.{cap}
+use Rattle.mh_facts.specs.code.Orders as orders
 
 pub cost_append : (weigh : ℕ → ℕ) (u v : List ℕ) → cost_by weigh (u ++ v) ≡ cost_by weigh u + cost_by weigh v
 cost_append weigh [] v = omega arith

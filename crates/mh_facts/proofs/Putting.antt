@@ -6,7 +6,7 @@ use Rattle.mh_facts.specs.declared.store.FactKey.{FactKey}
 use Rattle.mh_facts.specs.declared.store.Fact.{Fact}
 use Rattle.mh_facts.specs.Stored.{Facts, same_fact}
 use Rattle.mh_facts.proofs.Storing.{same_fact_is}
-use Rattle.mh_facts.specs.Tales.{with_size, sizes_of}
+use Rattle.mh_facts.specs.code.Tales.{with_size, sizes_of}
 use Rattle.mh_facts.proofs.Keyed.{AreKeys}
 
 number_same : (n : ℕ) → nat_eq n n ≡ true

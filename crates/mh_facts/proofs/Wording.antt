@@ -14,11 +14,12 @@ use Rattle.mh_facts.specs.declared.store.Fact.{Fact}
 use Rattle.mh_facts.specs.declared.store.Back.{Back}
 use Rattle.mh_facts.specs.declared.store.Back.TheVariants as backs
 use Rattle.mh_facts.specs.Stored.{Facts, fact_at, last_of, same_fact}
-use Rattle.mh_facts.specs.Least.{Laws, LabelLaws}
-use Rattle.mh_facts.specs.Orders.{cap, CostLe, FirstLe}
-use Rattle.mh_facts.specs.Orders as orders
+use Rattle.mh_facts.specs.code.Least.{Laws, LabelLaws}
+use Rattle.mh_facts.specs.code.Orders.{CostLe, FirstLe}
+use Rattle.mh_facts.specs.Costs.{cap}
+use Rattle.mh_facts.specs.code.Orders as orders
 use Rattle.mh_facts.proofs.Orders.{cost_append, cost_label_laws, first_laws}
-use Rattle.mh_facts.specs.Tales.{NoLater, NoDearerAt, capped, weigh, WordBy, before_dot, size_by, sizes_of, put, Told, Tale}
+use Rattle.mh_facts.specs.code.Tales.{NoLater, NoDearerAt, capped, weigh, WordBy, before_dot, size_by, sizes_of, put, Told, Tale}
 use Rattle.mh_facts.proofs.Keyed.{put_here, put_cases, put_other, each_more, none_more}
 use Rattle.mh_facts.proofs.Putting.{fact_keys, sizes_more}
 

@@ -1,11 +1,5 @@
 pub mod Ordered
 pub mod Stored
-pub mod Least
-pub mod Orders
 pub mod Search
-pub mod Classes
-pub mod Left
-pub mod Rules
-pub mod Tales
+pub mod Costs
 pub mod code
-pub mod Failing

@@ -1,6 +1,6 @@
 //! Tokens that a state's past cannot tell apart.
 ghost use Rattle.std.specs.Prelude.{◌≡◌, ◌<◌, length};
-ghost use Rattle.mh_facts.specs.Classes.{IsSized, IsClasses, rep_of, place_of, list_at};
+ghost use Rattle.mh_facts.specs.code.Classes.{IsSized, rep_of, place_of, list_at};
 
 use mh_grammar::Token;
 use mh_tables_core::Table;
@@ -8,7 +8,7 @@ use mh_tables_core::Table;
 /// The class of a token in a state.
 #[derive(Clone, Copy, Drop)]
 pub struct Class {
-    /// The token that stands for the class.
+    /// The token that represents the class.
     pub representative: Token,
     /// The number of the class among those of all states.
     pub place: u32,
@@ -26,7 +26,7 @@ pub struct Classes {
 }
 
 /// The class of a token in a state.
-#[tactic(auto, unfolding(crate::specs::Classes::rep_of, crate::specs::Classes::place_of))]
+#[tactic(auto, unfolding(crate::specs::code::Classes::rep_of, crate::specs::code::Classes::place_of))]
 pub fn class_of(table: &Table, classes: &Classes, state: u32, token: Token) -> Class
     requires sized { IsSized table.now classes.now }
     requires state { state < length table.now.states }

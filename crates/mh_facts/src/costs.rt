@@ -1,12 +1,12 @@
 //! Costs of words, up to the highest.
 ghost use Rattle.std.specs.Prelude.{◌≡◌, ◌≤◌, ◌<◌, ◌+◌, min};
 ghost use Rattle.mh_tables_core.specs.Table.{cost_of_token};
-ghost use Rattle.mh_facts.specs.Orders.{cap};
+ghost use Rattle.mh_facts.specs.Costs.{cap};
 
 use mh_grammar::Token;
 use mh_tables_core::Table;
 
-/// The highest cost: it stands for each of more than 1,000,000.
+/// The highest cost: that of each word that costs more than 1,000,000.
 pub const CAP: u32 = 1_000_001;
 
 /// The sum of two costs, up to the highest.
@@ -19,7 +19,7 @@ pub fn add_costs(left: u32, right: u32) -> u32
     if sum < CAP { sum } else { CAP }
 }
 
-/// The cost of a word that one token more stands behind, up to the highest.
+/// The cost of a word with one more token at its end, up to the highest.
 #[tactic(auto, using(crate::proofs::Wording::token_cheap))]
 pub fn add_token(table: &Table, cost: u32, token: Token) -> u32
     requires cost { cost ≤ cap }

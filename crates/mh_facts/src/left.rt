@@ -1,6 +1,6 @@
 //! The productions of a table by their left sides.
-ghost use Rattle.std.specs.Prelude.{◌≡◌, ◌<◌, ◌↔◌, OnOk, IfOk, length};
-ghost use Rattle.mh_facts.specs.Left.{IsByLeft, IsByLeftTo, left_at};
+ghost use Rattle.std.specs.Prelude.{◌≡◌, ◌<◌, IfOk, length};
+ghost use Rattle.mh_facts.specs.code.Left.{IsByLeft, IsByLeftTo, left_at};
 
 use mh_grammar::Memory;
 use mh_tables_core::Table;

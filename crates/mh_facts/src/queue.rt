@@ -1,4 +1,4 @@
-//! What waits, by cost.
+//! A queue by cost.
 ghost use Rattle.std.specs.Prelude.{◌≡◌, [], OnOk};
 ghost use Rattle.mh_facts.specs.code.Rows.{Gains, IsOne, Takes};
 

@@ -1,4 +1,4 @@
-//! What the search keeps beside the facts that it settled.
+//! What the search keeps beside the facts that are settled.
 use crate::queue::Queue;
 use crate::store::{Back, FactKey};
 use mh_grammar::Token;

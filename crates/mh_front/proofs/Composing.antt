@@ -6,7 +6,8 @@ use Rattle.mh_grammar.specs.declared.types.Grammar.{Grammar}
 use Rattle.mh_rules.specs.declared.joined.Joined.{Joined}
 use Rattle.mh_rules.specs.declared.instances.Expanded.{Expanded}
 use Rattle.mh_expand.specs.Sentences.{HasSameSentences}
-use Rattle.mh_inline.specs.Inlined.{IsInlined, number_of}
+use Rattle.mh_inline.specs.Kept.{number_of}
+use Rattle.mh_inline.specs.Inlined.{IsInlined}
 use Rattle.mh_inline.specs.Sentences.{KeepsSentences}
 use Rattle.mh_front.specs.Sentences.{HasSentencesOf}
 

@@ -17,14 +17,14 @@ use Rattle.mh_join_names.specs.Joining.{Joins}
 use Rattle.mh_rules.specs.declared.joined.TheConstants.{MAX_TOKENS}
 use Rattle.mh_rules.specs.Ready.{AreModulesReady, IsExpandedReady}
 use Rattle.mh_join.proofs.Readying as joins
-use Rattle.mh_rules.specs.declared.fault.ExpandFault.{ExpandFault}
+use Rattle.mh_expand.specs.declared.fault.ExpandFault.{ExpandFault}
 use Rattle.mh_expand.specs.Expansion.{IsFirstFault}
 use Rattle.mh_expand.proofs.Few.{few_instances}
 use Rattle.mh_expand.proofs.Order as order
 use Rattle.mh_expand.proofs.Ranged.{IsExpandedReady-expanded}
 use Rattle.mh_expand.proofs.Same.{has_same_sentences}
 use Rattle.mh_inline.specs.declared.fault.InlineFault.{InlineFault}
-use Rattle.mh_inline.specs.Inlined.{number_of}
+use Rattle.mh_inline.specs.Kept.{number_of}
 use Rattle.mh_inline.specs.Faults.{IsGrammarOf, IsFault}
 use Rattle.mh_inline.proofs.Only as only
 use Rattle.mh_inline.proofs.Ranges as ranges

@@ -8,8 +8,8 @@ use Rattle.mh_join_names.specs.declared.fault.JoinFault.TheVariants as joining
 use Rattle.mh_rules.specs.declared.joined.Joined.{Joined}
 use Rattle.mh_join_names.specs.Faults.{join_faults, first}
 use Rattle.mh_join_names.specs.Joining.{Joins}
-use Rattle.mh_rules.specs.declared.fault.ExpandFault.{ExpandFault}
-use Rattle.mh_rules.specs.declared.fault.ExpandFault.TheVariants as expanding
+use Rattle.mh_expand.specs.declared.fault.ExpandFault.{ExpandFault}
+use Rattle.mh_expand.specs.declared.fault.ExpandFault.TheVariants as expanding
 use Rattle.mh_rules.specs.declared.instances.Expanded.{Expanded}
 use Rattle.mh_expand.specs.Expansion.{IsExpanded, IsFirstFault}
 use Rattle.mh_inline.specs.declared.fault.InlineFault.{InlineFault}

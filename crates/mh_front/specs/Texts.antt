@@ -2,8 +2,8 @@
 use Rattle.std.specs.Prelude.{ℕ, List, ◌++◌, codes, decimal}
 use Rattle.mh_join_names.specs.declared.fault.JoinFault.{JoinFault}
 use Rattle.mh_join_names.specs.declared.fault.JoinFault.TheVariants as joining
-use Rattle.mh_rules.specs.declared.fault.ExpandFault.{ExpandFault}
-use Rattle.mh_rules.specs.declared.fault.ExpandFault.TheVariants as expanding
+use Rattle.mh_expand.specs.declared.fault.ExpandFault.{ExpandFault}
+use Rattle.mh_expand.specs.declared.fault.ExpandFault.TheVariants as expanding
 use Rattle.mh_inline.specs.declared.fault.InlineFault.{InlineFault}
 use Rattle.mh_inline.specs.declared.fault.InlineFault.TheVariants as inlining
 use Rattle.mh_front.specs.declared.fault.GrammarFault.{GrammarFault}

@@ -1,8 +1,1 @@
-pub mod Lacking
-pub mod Places
-pub mod Refusing
-pub mod Cells
-pub mod Commented
-pub mod Conflicts
-pub mod Kept
 pub mod Productions

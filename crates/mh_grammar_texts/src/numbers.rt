@@ -1,4 +1,4 @@
-//! The texts of numbers. Each function writes behind what a text holds.
+//! The texts of numbers. Each function adds to the end of a text.
 ghost use Rattle.std.specs.Prelude.{◌≡◌, ◌++◌, decimal, OnOk};
 
 use mh_grammar::Memory;

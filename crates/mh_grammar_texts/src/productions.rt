@@ -1,4 +1,4 @@
-//! The texts of symbols and productions. Each function writes behind what a text holds.
+//! The texts of symbols and productions. Each function adds to the end of a text.
 ghost use Rattle.std.specs.Prelude.{◌≡◌, ◌≤◌, ◌++◌, length, take, codes, MatchOption, OnOk, ⊤};
 ghost use Rattle.mh_grammar.specs.Plain.{plain_of, rhs_of};
 ghost use Rattle.mh_grammar_texts.specs.Productions.{names_after, symbols_text, left_side, production_text};
@@ -30,19 +30,19 @@ fn write_left_side(text: &mut Vec<u8>, grammar: &Grammar, production: u32) -> Re
     Ok(())
 }
 
-/// Symbols, each after a space, with a dot before those behind.
+/// Symbols, each after a space, with a dot between those before it and those after it.
 fn write_dotted(
     text: &mut Vec<u8>,
     grammar: &Grammar,
     before: &[Symbol],
-    behind: &[Symbol],
+    after: &[Symbol],
 ) -> Result<(), Memory>
     ensures { OnOk result (text.new.items ≡ text.old.items
-        ++ (names_after grammar.now before.now ++ (codes " ." ++ names_after grammar.now behind.now))) }
+        ++ (names_after grammar.now before.now ++ (codes " ." ++ names_after grammar.now after.now))) }
 {
     write_names(text, grammar, before)?;
     text.extend_from_slice(b" .")?;
-    write_names(text, grammar, behind)
+    write_names(text, grammar, after)
 }
 
 /// Symbols, each after a space, with a dot at a place of them where one is given.
@@ -59,8 +59,8 @@ fn write_symbols(
     match dot {
         None => write_names(text, grammar, symbols),
         Some(dot) => {
-            let (before, behind) = symbols.split_at(dot as usize);
-            write_dotted(text, grammar, before, behind)
+            let (before, after) = symbols.split_at(dot as usize);
+            write_dotted(text, grammar, before, after)
         }
     }
 }
@@ -119,9 +119,10 @@ pub fn write_production(
     write_sides(text, grammar, production, None)
 }
 
-/// The symbols before a place of a production's right side, each after a space.
+/// Writes the symbols before a place of a production's right side, each after a space. Fails for want of memory alone; then a front
+/// of them may be written.
 #[tactic(auto, unfolding(mh_grammar::specs::Plain::rhs_of))]
-pub(crate) fn write_before(
+pub fn write_before(
     text: &mut Vec<u8>,
     grammar: &Grammar,
     production: u32,

@@ -13,9 +13,9 @@ use Rattle.mh_inline_unfold.specs.declared.sizes.Sizing.{Sizing}
 use Rattle.mh_inline_unfold.specs.Instances.{is_inlined, Inlines}
 use Rattle.mh_inline_unfold.specs.Unfoldings as unfoldings
 use Rattle.mh_inline_unfold.specs.Unfoldings.{UnfoldsPart, UnfoldsEach}
-use Rattle.mh_inline_unfold.specs.Sizes.{IsSize, IsSizing, AreSmall}
-use Rattle.mh_inline.specs.Known.{AreEachKnown, IsNext}
-use Rattle.mh_inline.specs.Uses.{AreLast, KnowsNeeded}
+use Rattle.mh_inline_unfold.specs.code.Sizes.{IsSize, IsSizing, AreSmall}
+use Rattle.mh_inline.specs.code.Known.{AreEachKnown, IsNext}
+use Rattle.mh_inline.specs.code.Uses.{AreLast, KnowsNeeded}
 use Rattle.mh_inline_unfold.proofs.Same.{AreSome, small_part, small_alternative}
 
 pub small_size : (us : List Unfolding) (s : Size) → IsSize us s → s.count ≤ 20000 → s.longest ≤ 10000 → AreSmall us

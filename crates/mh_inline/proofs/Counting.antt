@@ -12,7 +12,7 @@ use Rattle.mh_inline_unfold.specs.declared.sizes.Size.{Size}
 use Rattle.mh_inline_unfold.specs.Instances.{inline_number, is_inlined, IsKept}
 use Rattle.mh_inline_unfold.specs.Unfoldings as unfoldings
 use Rattle.mh_inline_unfold.specs.Unfoldings.{only, own, nothing, choices}
-use Rattle.mh_inline_unfold.specs.Sizes.{IsPartSize, IsSideSize, IsEachSize, IsBlocked, AreSizes, AreSized, AreEachSized}
+use Rattle.mh_inline_unfold.specs.code.Sizes.{IsPartSize, IsSideSize, IsEachSize, IsBlocked, AreSizes, AreSized, AreEachSized}
 use Rattle.mh_grammar.proofs.Placing.{get_cases}
 use Rattle.mh_inline_unfold.proofs.Monoid.{Unfolds-push, UnfoldsEach-push}
 use Rattle.mh_inline_unfold.proofs.Same.{length-choices, longest-choices, longest-append, longest-own, times_some}

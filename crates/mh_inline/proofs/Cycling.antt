@@ -19,8 +19,8 @@ use Rattle.mh_inline_unfold.specs.Instances.{is_inlined, Inlines, Reaches}
 use Rattle.mh_inline_unfold.specs.Instances as instances
 use Rattle.mh_inline_unfold.specs.Unfoldings as unfoldings
 use Rattle.mh_inline_unfold.specs.Unfoldings.{UnfoldsPart, Unfolds, UnfoldsEach}
-use Rattle.mh_inline_unfold.specs.Sizes.{AreSettled, AreSizes, AreAllSized}
-use Rattle.mh_inline_unfold.specs.MadeOf.{IsMadeOf}
+use Rattle.mh_inline_unfold.specs.code.Sizes.{AreSettled, AreSizes, AreAllSized}
+use Rattle.mh_inline_unfold.specs.code.MadeOf.{IsMadeOf}
 use Rattle.mh_inline.specs.code.Found.{Adds, IsTable}
 use Rattle.mh_inline_unfold.proofs.Producers.{inline_instance}
 use Rattle.mh_inline.proofs.Finding.{kept_contains}

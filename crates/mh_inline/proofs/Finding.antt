@@ -12,9 +12,7 @@ use Rattle.mh_rules.specs.declared.instances.InstanceProduction.{InstanceProduct
 use Rattle.mh_rules.specs.declared.instances.Instance.{Instance}
 use Rattle.mh_inline.specs.declared.cycles.Found.{Found}
 use Rattle.mh_inline_unfold.specs.Instances.{inline_number}
-use Rattle.mh_inline_unfold.specs.MadeOf.{IsAmong}
-use Rattle.mh_inline_unfold.specs.MadeOf.{IsIn}
-use Rattle.mh_inline_unfold.specs.MadeOf.{IsMadeOf}
+use Rattle.mh_inline_unfold.specs.code.MadeOf.{IsAmong, IsIn, IsMadeOf}
 use Rattle.mh_inline.specs.code.Found.{AreQueued, Adds, IsTable, IsSame}
 use Rattle.mh_inline_unfold.proofs.Among.{among_one, one_among, kept_none, among_cases, among_front, among_last, in_cases, in_front, in_last, made_in, in_made}
 

@@ -13,7 +13,7 @@ use Rattle.mh_inline_unfold.specs.declared.unfolding.Unfolding.{Unfolding}
 use Rattle.mh_inline_unfold.specs.Instances.{is_inlined, inline_number}
 use Rattle.mh_inline_unfold.specs.Unfoldings as unfoldings
 use Rattle.mh_inline_unfold.specs.Unfoldings.{only, own, choices, UnfoldsPart, Unfolds, UnfoldsEach}
-use Rattle.mh_inline.specs.Known.{IsKnown, AreKnown, Extends}
+use Rattle.mh_inline.specs.code.Known.{IsKnown, AreKnown, Extends}
 
 module _ (is : List Instance) (known : List (List Unfolding)) where
   pub known_part : (X : Part) (n : ℕ) → AreKnown is known (X ∷ []) → inline_number is X ≡ Some n → IsKnown is known n

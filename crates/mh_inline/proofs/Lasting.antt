@@ -13,9 +13,9 @@ use Rattle.mh_inline_unfold.specs.declared.unfolding.Unfolding.{Unfolding}
 use Rattle.mh_inline_unfold.specs.declared.sizes.Sizing.{Sizing}
 use Rattle.mh_inline_unfold.specs.Instances.{is_inlined}
 use Rattle.mh_inline_unfold.specs.Unfoldings.{UnfoldsPart}
-use Rattle.mh_inline_unfold.specs.Sizes.{AreSmall, IsSizing}
-use Rattle.mh_inline_unfold.specs.MadeOf.{IsMadeOf}
-use Rattle.mh_inline.specs.Uses.{IsPartOfKept, PutsOff, AreLast, Forgets, KnowsNeeded, KnowsUsed}
+use Rattle.mh_inline_unfold.specs.code.Sizes.{AreSmall, IsSizing}
+use Rattle.mh_inline_unfold.specs.code.MadeOf.{IsMadeOf}
+use Rattle.mh_inline.specs.code.Uses.{IsPartOfKept, PutsOff, AreLast, Forgets, KnowsNeeded, KnowsUsed}
 use Rattle.mh_inline_unfold.proofs.Producers.{inline_instance}
 
 -- what stands in the order of sizes is an instance

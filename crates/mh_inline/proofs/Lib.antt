@@ -13,4 +13,3 @@ pub mod Only
 pub mod Producing
 pub mod Ranges
 pub mod Sentences
-pub mod Hindered

@@ -19,15 +19,15 @@ use Rattle.mh_inline_unfold.specs.declared.sizes.Sizing.{Sizing}
 use Rattle.mh_inline_unfold.specs.Instances.{IsAlternative}
 use Rattle.mh_rules.specs.Ready.{IsExpandedReady}
 use Rattle.mh_inline_unfold.specs.Unfoldings.{own, Unfolds}
-use Rattle.mh_inline_unfold.specs.Sizes.{longest, AreSmall, AreAllSized, IsSizing, IsWithin}
-use Rattle.mh_inline.specs.Uses.{KnowsUsed}
+use Rattle.mh_inline_unfold.specs.code.Sizes.{longest, AreSmall, AreAllSized, IsSizing, IsWithin}
+use Rattle.mh_inline.specs.code.Uses.{KnowsUsed}
 use Rattle.mh_inline.specs.Inlined as inlined
-use Rattle.mh_inline.specs.Inlined.{is_kept, nonterminal_of, number_of, production_of, IsOrigin, AreOrigins, AreProductions, IsInlined}
+use Rattle.mh_inline.specs.Kept.{is_kept, nonterminal_of, number_of, IsOrigin, AreOrigins}
+use Rattle.mh_inline.specs.Inlined.{production_of, AreProductions, IsInlined}
 use Rattle.mh_inline.specs.code.Making.{longest_side, IsOriginKnown, IsOriginsSize, AreOriginsSmall}
 use Rattle.mh_inline.specs.Faults.{IsSmall, IsOver}
 use Rattle.mh_inline_unfold.proofs.Monoid.{append_same}
-use Rattle.mh_inline_unfold.proofs.Same.{unfolds_same, small_part}
-use Rattle.mh_inline_unfold.proofs.Same.{some_ready}
+use Rattle.mh_inline_unfold.proofs.Same.{unfolds_same, small_part, some_ready}
 use Rattle.mh_inline.proofs.Producing.{longest_side-append, longest_side-made}
 
 pub alternative_same : (is : List Instance) (n k : ℕ) (p q : InstanceProduction) → IsAlternative is n k p → IsAlternative is n k q → p ≡ q

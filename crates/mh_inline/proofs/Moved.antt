@@ -15,11 +15,11 @@ use Rattle.mh_rules.specs.declared.instances.Instance.{Instance}
 use Rattle.mh_inline.specs.declared.moving.LastUse.{LastUse}
 use Rattle.mh_inline_unfold.specs.declared.unfolding.Unfolding.{Unfolding}
 use Rattle.mh_inline_unfold.specs.Instances.{is_inlined}
-use Rattle.mh_inline.specs.LastUse.{IsCandidate, IsLastIn, IsLastOf, IsLastUse, MayLack}
+use Rattle.mh_inline.specs.code.LastUse.{IsCandidate, IsLastIn, IsLastOf, IsLastUse, MayLack}
 use Rattle.mh_inline_unfold.specs.Unfoldings as unfoldings
 use Rattle.mh_inline_unfold.specs.Unfoldings.{own, choices, UnfoldsPart, Unfolds, UnfoldsEach}
-use Rattle.mh_inline.specs.Known.{IsKnown, AreKnown, AreEachKnown}
-use Rattle.mh_inline.specs.Uses.{Forgets}
+use Rattle.mh_inline.specs.code.Known.{IsKnown, AreKnown, AreEachKnown}
+use Rattle.mh_inline.specs.code.Uses.{Forgets}
 use Rattle.mh_inline_unfold.proofs.Monoid.{choices-nothing_left, choices-nothing_right, choices_assoc}
 use Rattle.mh_inline_unfold.proofs.Producers.{inline_some}
 use Rattle.mh_inline_unfold.proofs.Changing.{own-absent}

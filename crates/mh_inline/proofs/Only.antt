@@ -16,7 +16,8 @@ use Rattle.mh_inline.specs.declared.fault.InlineFault.{InlineFault}
 use Rattle.mh_inline.specs.declared.fault.InlineFault.TheVariants.{InlineCycle, InlineStart, TooManyProductions, EmptyLanguage, Memory}
 use Rattle.mh_inline.specs.declared.origins.Origin.{Origin}
 use Rattle.mh_inline_unfold.specs.Instances.{is_inlined}
-use Rattle.mh_inline.specs.Inlined.{number_of, IsOriginBefore, AreProductions, IsInlined}
+use Rattle.mh_inline.specs.Kept.{number_of, IsOriginBefore}
+use Rattle.mh_inline.specs.Inlined.{AreProductions, IsInlined}
 use Rattle.mh_inline.specs.Cycles.{IsFirstCyclicAt}
 use Rattle.mh_inline.specs.Faults.{HasNoInlineStart, IsFault, IsFirstInlineStartAt, IsFirstEmptyAt, IsGrammarOf, IsNamed, IsNoMemory, IsOver, IsSmall}
 use Rattle.mh_inline.proofs.Limits.{made_same}

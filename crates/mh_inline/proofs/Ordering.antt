@@ -11,7 +11,7 @@ use Rattle.mh_rules.specs.declared.instances.Instance.{Instance}
 use Rattle.mh_inline_unfold.specs.declared.sizes.Size.{Size}
 use Rattle.mh_inline_unfold.specs.Instances.{is_inlined}
 use Rattle.mh_inline_unfold.specs.Unfoldings as unfoldings
-use Rattle.mh_inline_unfold.specs.Sizes.{IsPartSize, IsEachSize, AreEachSized, IsEachBlocked, AreOrdered, IsOrdered, IsSettled}
+use Rattle.mh_inline_unfold.specs.code.Sizes.{IsPartSize, IsEachSize, AreEachSized, IsEachBlocked, AreOrdered, IsOrdered, IsSettled}
 use Rattle.mh_inline_unfold.proofs.Same.{AreSome}
 
 module _ (is : List Instance) (h : AreSome is) (sizes : List (Option Size)) (order : List ℕ) (s : AreOrdered is sizes order) where

@@ -20,8 +20,9 @@ use Rattle.mh_inline_unfold.specs.Instances.{IsAlternative, IsKept}
 use Rattle.mh_rules.specs.Ready.{IsPartBelow, IsInstanceReady, IsExpandedReady}
 use Rattle.mh_inline_unfold.specs.Unfoldings as unfoldings
 use Rattle.mh_inline_unfold.specs.Unfoldings.{only, own, joined, choices, UnfoldsPart, Unfolds, UnfoldsEach}
-use Rattle.mh_inline_unfold.specs.Sizes.{longest, IsSideSize, IsBlocked, AreAllSized}
+use Rattle.mh_inline_unfold.specs.code.Sizes.{longest, IsSideSize, IsBlocked, AreAllSized}
 use Rattle.mh_inline.specs.Inlined as inlined
+use Rattle.mh_inline.specs.Kept as kept_spec
 use Rattle.mh_inline.specs.Inlined.{symbol_of, last_token, production_of, AreProductions}
 use Rattle.mh_inline.specs.code.Keeping.{symbol_by, AreNumbers}
 use Rattle.mh_inline.specs.code.Making.{production_by, token_else, longest_side, AddsOrigin, IsOriginsSize, IsUnfoldingBelow}
@@ -145,10 +146,10 @@ module _ (t : ℕ) (is : List Instance) (numbers : List ℕ) (n : AreNumbers is 
   symbols_same [] p = refl
   symbols_same (X ∷ Xs) p = (λ i. symbol_same X (All-head (IsPartBelow t (length is)) X Xs p) i ∷ symbols_same Xs (All-tail (IsPartBelow t (length is)) X Xs p) i)
 
-  production_same : (tokens : List TokenInfo) (m lhs : ℕ) (u : Unfolding) → lhs ≡ inlined.number_of is m → IsUnfoldingBelow t (length is) u → production_by tokens numbers lhs u ≡ production_of tokens is m u
+  production_same : (tokens : List TokenInfo) (m lhs : ℕ) (u : Unfolding) → lhs ≡ kept_spec.number_of is m → IsUnfoldingBelow t (length is) u → production_by tokens numbers lhs u ≡ production_of tokens is m u
   production_same tokens m lhs u e p = (λ i. record { lhs = e i; rhs = symbols_same u.rhs p i; level = inlined.level_of tokens u.prec u.rhs })
 
-  pub productions_same : (tokens : List TokenInfo) (m lhs : ℕ) (prec : Prec) (us : List Unfolding) → lhs ≡ inlined.number_of is m → All (IsUnfoldingBelow t (length is)) us → map (λ u. production_by tokens numbers lhs (own prec u)) us ≡ map (λ u. production_of tokens is m (own prec u)) us
+  pub productions_same : (tokens : List TokenInfo) (m lhs : ℕ) (prec : Prec) (us : List Unfolding) → lhs ≡ kept_spec.number_of is m → All (IsUnfoldingBelow t (length is)) us → map (λ u. production_by tokens numbers lhs (own prec u)) us ≡ map (λ u. production_of tokens is m (own prec u)) us
   productions_same tokens m lhs prec [] e p = refl
   productions_same tokens m lhs prec (u ∷ us) e p = (λ i. production_same tokens m lhs (own prec u) e (All-head (IsUnfoldingBelow t (length is)) u us p) i ∷ productions_same tokens m lhs prec us e (All-tail (IsUnfoldingBelow t (length is)) u us p) i)
 
@@ -162,6 +163,6 @@ alternative_below e r n k p us a f =
 abbrev pub no_origin : Origin
 no_origin = record { rank = 0; place = 0; instance = 0; alternative = 0 }
 
-pub starts_same : (is : List Instance) (numbers starts : List ℕ) → AreNumbers is numbers → All (λ s. s < length is) starts → map (λ s. get_or numbers s 0) starts ≡ map (inlined.number_of is) starts
+pub starts_same : (is : List Instance) (numbers starts : List ℕ) → AreNumbers is numbers → All (λ s. s < length is) starts → map (λ s. get_or numbers s 0) starts ≡ map (kept_spec.number_of is) starts
 starts_same is numbers [] n a = refl
 starts_same is numbers (s ∷ starts) n a = (λ i. n.each s (All-head (λ x. x < length is) s starts a) i ∷ starts_same is numbers starts n (All-tail (λ x. x < length is) s starts a) i)

@@ -25,9 +25,11 @@ use Rattle.mh_inline_unfold.specs.Instances.{is_inlined, IsKept}
 use Rattle.mh_rules.specs.Ready.{IsPartBelow, IsExpandedReady}
 use Rattle.mh_inline_unfold.specs.Unfoldings.{own, Unfolds}
 use Rattle.mh_inline.specs.Inlined as inlined
-use Rattle.mh_inline.specs.Inlined.{is_kept, nonterminal_of, number_of, symbol_of, production_of, IsOrigin, AreOrigins, AreProductions, IsInlined}
+use Rattle.mh_inline.specs.Kept.{is_kept, nonterminal_of, number_of, IsOrigin, AreOrigins}
+use Rattle.mh_inline.specs.Inlined.{symbol_of, production_of, AreProductions, IsInlined}
 use Rattle.mh_inline.specs.Cycles.{HasNoCycle}
-use Rattle.mh_inline.specs.Faults.{HasEmptyStart, HasNoInlineStart, IsFirstUnmarked, IsSmall}
+use Rattle.mh_inline.specs.code.Marked.{IsFirstUnmarked, HasEmptyStart}
+use Rattle.mh_inline.specs.Faults.{HasNoInlineStart, IsSmall}
 use Rattle.mh_inline.proofs.Producing.{AreBelow, below_ready, each_of_side}
 use Rattle.mh_inline.proofs.Cycling.{numbers, length-numbers, numbers_at}
 

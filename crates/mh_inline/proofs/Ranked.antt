@@ -7,7 +7,7 @@ use Rattle.std.proofs.lemmas.List.Elements.{All-contains}
 use Rattle.mh_rules.specs.declared.instances.Instance.{Instance}
 use Rattle.mh_inline_unfold.specs.Instances.{is_inlined, Inlines, Reaches}
 use Rattle.mh_inline_unfold.specs.Instances.Reaches.{one, more}
-use Rattle.mh_inline_unfold.specs.MadeOf.{IsMadeOf}
+use Rattle.mh_inline_unfold.specs.code.MadeOf.{IsMadeOf}
 use Rattle.mh_inline.specs.code.Ranks.{IsRanked, AreRanked, IsAbove}
 use Rattle.mh_inline_unfold.proofs.Producers.{inline_instance}
 

@@ -27,7 +27,9 @@ use Rattle.mh_rules.specs.Ready.{IsExpandedReady}
 use Rattle.mh_inline_unfold.specs.Unfoldings as unfoldings
 use Rattle.mh_inline_unfold.specs.Unfoldings.{only, own, joined, choices, UnfoldsPart, Unfolds, UnfoldsEach}
 use Rattle.mh_inline.specs.Inlined as inlined
-use Rattle.mh_inline.specs.Inlined.{number_of, symbol_of, production_of, rank_of, IsOrigin, AreOrigins, AreProductions, IsInlined}
+use Rattle.mh_inline.specs.Kept.{number_of, IsOrigin, AreOrigins}
+use Rattle.mh_inline_unfold.specs.Ranks.{rank_of}
+use Rattle.mh_inline.specs.Inlined.{symbol_of, production_of, AreProductions, IsInlined}
 use Rattle.mh_rules.specs.Sentences.{IsTokenPart, PartProduces}
 use Rattle.mh_inline.specs.Sentences.{KeepsSentences}
 use Rattle.mh_inline.specs.Faults.{HasNoInlineStart}

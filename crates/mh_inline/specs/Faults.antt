@@ -1,5 +1,5 @@
 -- Why instances give no grammar: the first cause in this order.
-use Rattle.std.specs.Prelude.{◌≡◌, ◌<◌, ◌≤◌, ◌⊎◌, ℕ, Bool, true, false, List, Some, length, slice_get, slice_index_or}
+use Rattle.std.specs.Prelude.{◌≡◌, ◌<◌, ◌≤◌, ◌⊎◌, ℕ, true, false, List, Some, length, slice_get}
 use Rattle.std.specs.List.{All, Any}
 use Rattle.mh_grammar.specs.declared.types.Production.{Production}
 use Rattle.mh_grammar.specs.declared.types.Grammar.{Grammar}
@@ -10,10 +10,9 @@ use Rattle.mh_inline.specs.declared.fault.InlineFault.{InlineFault}
 use Rattle.mh_inline.specs.declared.fault.InlineFault.TheVariants.{InlineCycle, InlineStart, TooManyProductions, EmptyLanguage, Memory}
 use Rattle.mh_inline_unfold.specs.declared.sizes.TheConstants.{MAX_PRODUCTIONS, MAX_SYMBOLS}
 use Rattle.mh_inline_unfold.specs.Instances.{is_inlined}
-use Rattle.mh_inline_unfold.specs.declared.hindrances.Hindrance.{Hindrance}
-use Rattle.mh_inline_unfold.specs.declared.hindrances.Hindrance.TheVariants.{Cycle, InlineStart as Start}
 use Rattle.mh_inline.specs.Cycles.{IsFirstCyclicAt, HasNoCycle}
-use Rattle.mh_inline.specs.Inlined.{IsInlined, number_of}
+use Rattle.mh_inline.specs.Kept.{number_of}
+use Rattle.mh_inline.specs.Inlined.{IsInlined}
 
 -- the name of an instance
 pub record IsNamed (e : Expanded) (n : ℕ) (name : List ℕ) : Type 0 where
@@ -42,11 +41,6 @@ pub record IsFirstInlineStart (e : Expanded) (name : List ℕ) : Type 0 where
 abbrev pub HasNoInlineStart : Expanded → Type 0
 HasNoInlineStart e = All (λ s. is_inlined e.instances s ≡ false) e.starts
 
--- a hindrance of theirs, which is a fault
-abbrev pub IsHindrance : Expanded → Hindrance → Type 0
-IsHindrance e (Cycle n) = IsFirstCyclicAt e n
-IsHindrance e (Start n) = HasNoCycle e × IsFirstInlineStartAt e n
-
 -- within the limits
 pub record IsSmall (g : Grammar) : Type 0 where
   pub few : length g.productions ≤ MAX_PRODUCTIONS
@@ -67,13 +61,6 @@ pub record IsFirstEmpty (e : Expanded) (g : Grammar) (name : List ℕ) : Type 0 
   pub named : IsNamed e number name
   pub first : IsFirstEmptyAt e g number
 
--- the first place that is not marked
-pub record IsFirstUnmarked (marks : List Bool) (starts : List ℕ) (place : ℕ) : Type 0 where
-  pub start : ℕ
-  pub at : slice_get starts place ≡ Some start
-  pub unmarked : slice_index_or marks start false ≡ false
-  pub first : (k s : ℕ) → k < place → slice_get starts k ≡ Some s → slice_index_or marks s false ≡ true
-
 -- the grammar, where there is no fault
 pub record IsGrammarOf (e : Expanded) (g : Grammar) : Type 0 where
   pub acyclic : HasNoCycle e
@@ -81,17 +68,6 @@ pub record IsGrammarOf (e : Expanded) (g : Grammar) : Type 0 where
   pub inlined : IsInlined e g
   pub small : IsSmall g
   pub productive : All (IsProductive (plain_of g)) g.starts
-
--- all is well but that the start at a place is the first without a finite tree
-pub record HasEmptyStart (e : Expanded) (place : ℕ) : Type 0 where
-  pub acyclic : HasNoCycle e
-  pub kept : HasNoInlineStart e
-  pub grammar : Grammar
-  pub inlined : IsInlined e grammar
-  pub small : IsSmall grammar
-  pub number : ℕ
-  pub at : slice_get e.starts place ≡ Some number
-  pub first : IsFirstEmptyAt e grammar number
 
 abbrev pub IsFault : Expanded → InlineFault → Type 0
 IsFault e (InlineCycle name) = IsFirstCyclic e name

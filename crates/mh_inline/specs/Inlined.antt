@@ -16,8 +16,7 @@ use Rattle.mh_rules.specs.declared.instances.Instance.{Instance}
 use Rattle.mh_rules.specs.declared.instances.Expanded.{Expanded}
 use Rattle.mh_inline_unfold.specs.declared.unfolding.Unfolding.{Unfolding}
 use Rattle.mh_inline.specs.declared.origins.Origin.{Origin}
-pub use Rattle.mh_inline_unfold.specs.Ranks.{rank_of}
-pub use Rattle.mh_inline.specs.Kept.{is_kept, nonterminal_of, number_of, IsOrigin, IsOriginBefore, AreOrigins}
+use Rattle.mh_inline.specs.Kept.{is_kept, nonterminal_of, number_of, AreOrigins}
 use Rattle.mh_inline_unfold.specs.Instances.{IsAlternative}
 use Rattle.mh_inline_unfold.specs.Unfoldings.{own, Unfolds}
 

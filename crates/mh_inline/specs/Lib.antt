@@ -1,8 +1,5 @@
 pub mod Cycles
 pub mod code
-pub mod Known
-pub mod LastUse
-pub mod Uses
 pub mod Kept
 pub mod Faults
 pub mod Inlined

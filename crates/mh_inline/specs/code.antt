@@ -3,3 +3,7 @@ pub mod Found
 pub mod Ranks
 pub mod Keeping
 pub mod Making
+pub mod Known
+pub mod LastUse
+pub mod Uses
+pub mod Marked

@@ -2,12 +2,10 @@
 ghost use Rattle.std.specs.Prelude.{◌≡◌, ◌<◌, ◌↔◌, ◌∷◌, [], true, false, length, replicate, IfNone, IfOk, OnOk, IsTrue, MatchOption};
 ghost use Rattle.mh_inline_unfold.specs.Instances.{is_inlined, Reaches};
 ghost use Rattle.mh_inline.specs.Cycles.{HasNoCycle, IsFirstCyclicAt};
-ghost use Rattle.mh_inline_unfold.specs.MadeOf.{IsAmong};
-ghost use Rattle.mh_inline_unfold.specs.MadeOf.{IsIn};
-ghost use Rattle.mh_inline_unfold.specs.MadeOf.{IsMadeOf};
+ghost use Rattle.mh_inline_unfold.specs.code.MadeOf.{IsAmong, IsIn, IsMadeOf};
 ghost use Rattle.mh_inline.specs.code.Found.{Adds, AreQueued, IsSame, IsTable};
 ghost use Rattle.mh_inline.specs.code.Ranks.{AreRanked};
-ghost use Rattle.mh_inline_unfold.specs.Sizes.{AreAllSized, AreSettled, IsSizing};
+ghost use Rattle.mh_inline_unfold.specs.code.Sizes.{AreAllSized, AreSettled, IsSizing};
 
 use crate::ranks::{are_ranked, is_on_no_cycle};
 use mh_grammar::Memory;

@@ -4,12 +4,14 @@ ghost use Rattle.std.specs.List.{All};
 ghost use Rattle.mh_grammar.specs.Plain.{plain_of, IsInRange};
 ghost use Rattle.mh_grammar.specs.Numbering.{AreDistinct};
 ghost use Rattle.mh_rules.specs.Ready.{IsExpandedReady};
-ghost use Rattle.mh_inline_unfold.specs.Sizes.{AreAllSized, IsSizing};
-ghost use Rattle.mh_inline.specs.Inlined.{AreOrigins, AreProductions, IsInlined};
+ghost use Rattle.mh_inline_unfold.specs.code.Sizes.{AreAllSized, IsSizing};
+ghost use Rattle.mh_inline.specs.Kept.{AreOrigins};
+ghost use Rattle.mh_inline.specs.Inlined.{AreProductions, IsInlined};
 ghost use Rattle.mh_inline.specs.code.Keeping.{AreNumbers};
 ghost use Rattle.mh_inline.specs.code.Making.{AreOriginsSmall};
 ghost use Rattle.mh_inline.specs.Cycles.{HasNoCycle, IsFirstCyclicAt};
-ghost use Rattle.mh_inline.specs.Faults.{HasEmptyStart, HasNoInlineStart, IsFault, IsFirstInlineStartAt, IsFirstUnmarked, IsGrammarOf, IsHindrance, IsNamed, IsSmall};
+ghost use Rattle.mh_inline.specs.code.Marked.{IsFirstUnmarked, HasEmptyStart};
+ghost use Rattle.mh_inline.specs.Faults.{HasNoInlineStart, IsFault, IsFirstInlineStartAt, IsGrammarOf, IsNamed, IsSmall};
 ghost use Rattle.mh_inline.specs.code.Searching.{IsSearch};
 ghost use Rattle.mh_inline.specs.Sentences.{KeepsSentences};
 
@@ -22,7 +24,7 @@ use crate::productions::{productions_of, size_of_origins};
 use crate::sizes::inline_sizes;
 use crate::unfoldings::unfold_inline;
 use mh_grammar::{Grammar, Memory, Name, Production, Sequence, TokenInfo, productive};
-use mh_inline_unfold::{Hindrance, Sizing, first_hindrance, is_inline, is_small};
+use mh_inline_unfold::{Sizing, is_inline, is_small};
 use mh_rules::Expanded;
 use std::alloc::Global;
 
@@ -77,17 +79,6 @@ fn start_fault(expanded: &Expanded, number: usize) -> InlineFault
     match name_of(expanded, number) {
         Ok(name) => InlineFault::InlineStart { name },
         Err(_) => InlineFault::Memory,
-    }
-}
-
-fn hindrance_fault(expanded: &Expanded, hindrance: Hindrance) -> InlineFault
-    requires ready { IsExpandedReady expanded.now }
-    requires hindered { IsHindrance expanded.now hindrance }
-    ensures { IsFault expanded.now result }
-{
-    match hindrance {
-        Hindrance::Cycle(number) => cycle_fault(expanded, number),
-        Hindrance::InlineStart(number) => start_fault(expanded, number as usize),
     }
 }
 
@@ -225,10 +216,13 @@ fn inline_unless_cyclic(
     ensures grammar { IfOk result (IsGrammarOf expanded.now) }
     ensures fault { IfErr result (IsFault expanded.now) }
 {
-    match first_hindrance(cyclic, first_inline_start(expanded)) {
-        Some(hindrance) => Err(hindrance_fault(expanded, hindrance)),
-        None => inline_kept(alloc, expanded, sizing),
+    if let Some(number) = cyclic {
+        return Err(cycle_fault(expanded, number));
     }
+    if let Some(number) = first_inline_start(expanded) {
+        return Err(start_fault(expanded, number as usize));
+    }
+    inline_kept(alloc, expanded, sizing)
 }
 
 /// The grammar, or the first fault, behind a search.

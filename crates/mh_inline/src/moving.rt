@@ -3,8 +3,8 @@
 ghost use Rattle.std.specs.Prelude.{◌≡◌, ◌<◌, ◌≤◌, ◌⊎◌, ◌++◌, ◌+◌, [], ◌∷◌, Some, suc, true, false, length, map, drop, slice_get, slice_set, slice_index_or, take, IfOk, IfSome, OnOk};
 ghost use Rattle.mh_rules.specs.declared.instances.Instance.{Instance as Row};
 ghost use Rattle.mh_inline_unfold.specs.Instances.{is_inlined};
-ghost use Rattle.mh_inline.specs.Known.{AreEachKnown, AreKnown, IsKnown};
-ghost use Rattle.mh_inline.specs.LastUse.{IsCandidate, IsLastIn, IsLastOf, IsLastUse, MayLack};
+ghost use Rattle.mh_inline.specs.code.Known.{AreEachKnown, AreKnown, IsKnown};
+ghost use Rattle.mh_inline.specs.code.LastUse.{IsCandidate, IsLastIn, IsLastOf, IsLastUse, MayLack};
 ghost use Rattle.mh_inline_unfold.specs.Unfoldings.{own, Unfolds, UnfoldsEach};
 
 use crate::unfoldings::{unfold_alternatives, unfold_side};

@@ -5,8 +5,9 @@ ghost use Rattle.mh_grammar.specs.declared.types.TheConstants.{MAX_NUMBERED};
 ghost use Rattle.mh_inline_unfold.specs.Instances.{IsAlternative};
 ghost use Rattle.mh_rules.specs.Ready.{IsExpandedReady};
 ghost use Rattle.mh_inline_unfold.specs.Unfoldings.{own};
-ghost use Rattle.mh_inline_unfold.specs.Sizes.{AreAllSized, IsSizing};
-ghost use Rattle.mh_inline.specs.Inlined.{last_token, level_of, token_level, AreProductions, IsOrigin};
+ghost use Rattle.mh_inline_unfold.specs.code.Sizes.{AreAllSized, IsSizing};
+ghost use Rattle.mh_inline.specs.Kept.{IsOrigin};
+ghost use Rattle.mh_inline.specs.Inlined.{last_token, level_of, token_level, AreProductions};
 ghost use Rattle.mh_inline.specs.code.Keeping.{AreNumbers};
 ghost use Rattle.mh_inline.specs.code.Making.{production_by, token_else, AddsOrigin, IsOriginKnown, IsOriginsSize, IsUnfoldingBelow};
 

@@ -2,7 +2,7 @@
 ghost use Rattle.std.specs.Prelude.{◌≡◌, ◌+◌, ◌*◌, ◌<◌, ◌↔◌, [], ◌∷◌, false, min, length, IfOk, OnOk, OnSome, IsTrue, MatchOption};
 ghost use Rattle.std.specs.List.{All};
 ghost use Rattle.mh_rules.specs.Ready.{IsExpandedReady};
-ghost use Rattle.mh_inline_unfold.specs.Sizes.{AreEachSized, AreSettled, AreSized, AreSizes, IsBlocked, IsEachBlocked, IsEachSize, IsPartSize, IsSettled, IsSideSize, IsSizing, unsized_count};
+ghost use Rattle.mh_inline_unfold.specs.code.Sizes.{AreEachSized, AreSettled, AreSized, AreSizes, IsBlocked, IsEachBlocked, IsEachSize, IsPartSize, IsSettled, IsSideSize, IsSizing, unsized_count};
 
 use mh_grammar::Memory;
 use mh_inline_unfold::{MAX_PRODUCTIONS, MAX_SYMBOLS, Size, Sizing, inline_part, is_inline, plus};

@@ -3,11 +3,11 @@ ghost use Rattle.std.specs.Prelude.{◌≡◌, ◌+◌, ◌<◌, ◌∷◌, [], 
 ghost use Rattle.mh_inline_unfold.specs.declared.unfolding.Unfolding.{Unfolding as Unfolded};
 ghost use Rattle.mh_rules.specs.Ready.{IsExpandedReady};
 ghost use Rattle.mh_inline_unfold.specs.Unfoldings.{Unfolds, UnfoldsEach, UnfoldsPart};
-ghost use Rattle.mh_inline.specs.Known.{AreKnown, AreEachKnown, Extends, IsNext};
-ghost use Rattle.mh_inline.specs.LastUse.{IsLastOf, MayLack};
+ghost use Rattle.mh_inline.specs.code.Known.{AreKnown, AreEachKnown, Extends, IsNext};
+ghost use Rattle.mh_inline.specs.code.LastUse.{IsLastOf, MayLack};
 ghost use Rattle.mh_rules.specs.declared.instances.Instance.{Instance as Row};
-ghost use Rattle.mh_inline.specs.Uses.{AreLast, KnowsNeeded, KnowsUsed};
-ghost use Rattle.mh_inline_unfold.specs.Sizes.{AreSmall, IsSizing};
+ghost use Rattle.mh_inline.specs.code.Uses.{AreLast, KnowsNeeded, KnowsUsed};
+ghost use Rattle.mh_inline_unfold.specs.code.Sizes.{AreSmall, IsSizing};
 
 use crate::moving::{LastUse, last_use_of, unfold_with};
 use crate::uses::{forget_inlined, last_uses};

@@ -1,8 +1,8 @@
 //! Until when the unfoldings of inline instances are needed.
 ghost use Rattle.std.specs.Prelude.{◌≡◌, ◌<◌, length, IfOk, OnOk};
 ghost use Rattle.std.specs.List.{All, Contains};
-ghost use Rattle.mh_inline_unfold.specs.MadeOf.{IsMadeOf};
-ghost use Rattle.mh_inline.specs.Uses.{AreLast, Forgets, IsPartOfKept, PutsOff};
+ghost use Rattle.mh_inline_unfold.specs.code.MadeOf.{IsMadeOf};
+ghost use Rattle.mh_inline.specs.code.Uses.{AreLast, Forgets, IsPartOfKept, PutsOff};
 
 use mh_grammar::{Memory, Sequence};
 use mh_inline_unfold::{Unfolding, inlined_in, is_inline};

@@ -9,9 +9,7 @@ use Rattle.mh_rules.specs.declared.instances.Part.TheVariants.{Instance as Appli
 use Rattle.mh_rules.specs.declared.instances.InstanceProduction.{InstanceProduction}
 use Rattle.mh_rules.specs.declared.instances.Instance.{Instance}
 use Rattle.mh_inline_unfold.specs.Instances.{is_inlined, inline_number, IsKept}
-use Rattle.mh_inline_unfold.specs.MadeOf.{IsAmong}
-use Rattle.mh_inline_unfold.specs.MadeOf.{IsIn}
-use Rattle.mh_inline_unfold.specs.MadeOf.{IsMadeOf}
+use Rattle.mh_inline_unfold.specs.code.MadeOf.{IsAmong, IsIn, IsMadeOf}
 use Rattle.mh_inline_unfold.proofs.Producers.{inline_some, inline_none}
 
 module _ (is : List Instance) where

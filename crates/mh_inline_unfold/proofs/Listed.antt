@@ -8,10 +8,7 @@ use Rattle.mh_rules.specs.declared.instances.Part.{Part}
 use Rattle.mh_rules.specs.declared.instances.InstanceProduction.{InstanceProduction}
 use Rattle.mh_rules.specs.declared.instances.Instance.{Instance}
 use Rattle.mh_inline_unfold.specs.Instances.{inline_number}
-use Rattle.mh_inline_unfold.specs.MadeOf.{IsAmong}
-use Rattle.mh_inline_unfold.specs.MadeOf.{IsIn}
-use Rattle.mh_inline_unfold.specs.MadeOf.{IsMadeOf}
-use Rattle.mh_inline_unfold.specs.MadeOf.{Lists}
+use Rattle.mh_inline_unfold.specs.code.MadeOf.{IsAmong, IsIn, IsMadeOf, Lists}
 use Rattle.mh_inline_unfold.proofs.Producers.{inline_instance}
 use Rattle.mh_inline_unfold.proofs.Among.{among_one, one_among, kept_none, among_cases, among_front, among_last, in_cases, in_front, in_last, made_in, in_made}
 

@@ -15,7 +15,7 @@ use Rattle.mh_inline_unfold.specs.declared.unfolding.Unfolding.{Unfolding}
 use Rattle.mh_inline_unfold.specs.Instances.{is_inlined}
 use Rattle.mh_inline_unfold.specs.Unfoldings as unfoldings
 use Rattle.mh_inline_unfold.specs.Unfoldings.{joined, own, choices, UnfoldsPart, Unfolds, UnfoldsEach}
-use Rattle.mh_inline_unfold.specs.Sizes.{longest, AreSmall}
+use Rattle.mh_inline_unfold.specs.code.Sizes.{longest, AreSmall}
 
 inlined_at : (is : List Instance) (n : ℕ) (i : Instance) → slice_get is n ≡ Some i → i.inlined ≡ true → is_inlined is n ≡ false → ⊥
 inlined_at is n i at e f = false≢true (sym (rw at at f) ∙ e)

@@ -1,6 +1,4 @@
 pub mod Instances
-pub mod MadeOf
-pub mod Sizes
 pub mod Unfoldings
-pub mod Hindrances
 pub mod Ranks
+pub mod code

@@ -1,10 +1,7 @@
 //! The inline instances that an instance is made of, as a list.
 ghost use Rattle.std.specs.Prelude.{◌<◌, ◌↔◌, ◌∷◌, [], ℕ, length, IfOk, OnOk};
 ghost use Rattle.std.specs.List.{All, Contains};
-ghost use Rattle.mh_inline_unfold.specs.MadeOf.{IsAmong};
-ghost use Rattle.mh_inline_unfold.specs.MadeOf.{IsIn};
-ghost use Rattle.mh_inline_unfold.specs.MadeOf.{IsMadeOf};
-ghost use Rattle.mh_inline_unfold.specs.MadeOf.{Lists};
+ghost use Rattle.mh_inline_unfold.specs.code.MadeOf.{IsAmong, IsIn, IsMadeOf, Lists};
 
 use crate::instances::inline_part;
 use mh_grammar::Memory;

@@ -1,6 +1,6 @@
 //! How many unfoldings there are, and how long the longest is: the type, the limits, and how sizes add up.
 ghost use Rattle.std.specs.Prelude.{◌≡◌, ◌+◌, ◌↔◌, min, max, IsTrue};
-ghost use Rattle.mh_inline_unfold.specs.Sizes.{IsWithin};
+ghost use Rattle.mh_inline_unfold.specs.code.Sizes.{IsWithin};
 
 /// The most productions that a grammar may have.
 pub const MAX_PRODUCTIONS: u64 = 20_000;

@@ -16,7 +16,7 @@ use Rattle.mh_grammar.proofs.Lists.{at_drop}
 use Rattle.mh_grammar.proofs.Numbered.{listed_from_for}
 use Rattle.mh_items_kernels.specs.Shapes.{Kernel}
 use Rattle.mh_items_kernels.specs.Kernels.{Holds}
-use Rattle.mh_items_kernels.specs.Empties.{begins_empty, AreEmpties, HasComplete}
+use Rattle.mh_items_kernels.specs.code.Empties.{begins_empty, AreEmpties, HasComplete}
 
 -- ---- passes over the productions
 

@@ -1,23 +1,20 @@
 -- How the sets that closures are computed from are kept.
 use Rattle.std.proofs.Common.{◌≡◌, ℕ, ◌+◌, ◌*◌, ◌<◌, ◌≤◌, ◌⊎◌, ◌↔◌, List, [], ◌∷◌, ◌++◌, Some, length, get_or, set, refl, sym, ap, subst, ◌∙◌, arith, inl, inr, get_or-set_same}
-use Rattle.std.specs.List.{slice_get, Contains}
+use Rattle.std.specs.List.{slice_get, Contains, All}
 use Rattle.std.proofs.lemmas.Bool.{cases_eq}
-use Rattle.std.proofs.lemmas.List.{get_or-set_other, length-set}
-use Rattle.std.proofs.lemmas.List.Elements.{Contains-push, Contains-push_cases, Contains-append_left}
+use Rattle.std.proofs.lemmas.List.{get_or-set_other, length-set, get_or_push, get_or_append_left, length_push}
+use Rattle.std.proofs.lemmas.List.Elements.{Contains-push, Contains-push_cases, Contains-append_left, All-cons, All-nil, Contains-get_or}
 use Rattle.std.proofs.lemmas.Option.{slice_get-get_or, get_or_from_slice_get, slice_get_read, slice_get_within}
 use Rattle.mh_grammar.specs.declared.types.Symbol.TheVariants.{N}
 use Rattle.mh_grammar.specs.declared.types.Production.{Production}
-use Rattle.mh_grammar.specs.Plain.{PlainGrammar, IsInRange, IsProductionFor, IsProductionBelow}
+use Rattle.mh_grammar.specs.Plain.{PlainGrammar, IsInRange, IsProductionFor, IsProductionBelow, IsSymbolBelow}
 use Rattle.mh_grammar.specs.First.{First}
 use Rattle.mh_grammar.proofs.Numbered.{IsProductionFor-ordinary, listed_from_for}
 use Rattle.mh_items.specs.declared.links.Link.{Link}
-use Rattle.mh_items.specs.Firsts.{Begins, IsTokenOf, IsLink}
-use Rattle.std.specs.List.{All}
-use Rattle.std.proofs.lemmas.List.{get_or_push, get_or_append_left, length_push}
-use Rattle.std.proofs.lemmas.List.Elements.{All-cons, All-nil, Contains-get_or}
+use Rattle.mh_items.specs.code.Links.{IsTokenOf}
+use Rattle.mh_items.specs.Firsts.{Begins, IsLink}
 use Rattle.mh_grammar.specs.declared.types.Look.{Look}
 use Rattle.mh_grammar.specs.declared.types.Look.TheVariants.{Token, End}
-use Rattle.mh_grammar.specs.Plain.{IsSymbolBelow}
 use Rattle.mh_grammar.specs.First as first
 use Rattle.mh_grammar.proofs.FirstSets.{first_of-below}
 use Rattle.mh_items.proofs.Linking.{LinksSoFar, LinksSoFar-push, LinksSoFar-skip}

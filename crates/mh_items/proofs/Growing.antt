@@ -12,7 +12,7 @@ use Rattle.mh_grammar.specs.declared.types.Look.{Look}
 use Rattle.mh_sets.specs.Sets.{IsSet}
 use Rattle.mh_items.specs.declared.asked.Asked.{Asked}
 use Rattle.mh_items.specs.declared.links.Link.{Link}
-use Rattle.mh_items.specs.Asked.{looks_at, IsAsked, IsWaiting, AreQueued, IsTable, Adds, IsAt, IsPassedOn, IsStep}
+use Rattle.mh_items.specs.code.Asked.{looks_at, IsAsked, IsWaiting, AreQueued, IsTable, Adds, IsAt, IsPassedOn, IsStep}
 use Rattle.mh_grammar.proofs.Lists.{get_left, get_last, some_item}
 
 -- how many looks a set of a width may still get

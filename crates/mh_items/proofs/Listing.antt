@@ -8,26 +8,23 @@ use Rattle.std.proofs.lemmas.List.Kept.{AllPairs-from_increasing}
 use Rattle.std.proofs.lemmas.Option.{slice_get-get_or, slice_get_within, get_or_from_slice_get}
 use Rattle.mh_grammar.specs.declared.types.Production.{Production}
 use Rattle.mh_grammar.specs.declared.types.Look.{Look}
-use Rattle.mh_grammar.specs.Plain.{PlainGrammar, IsLookBelow, IsProductionFor, lhs_of}
+use Rattle.mh_grammar.specs.Plain.{PlainGrammar, IsLookBelow, IsProductionFor, lhs_of, IsInRange, IsSymbolBelow, production_count, rhs_of}
 use Rattle.mh_grammar.specs.ItemSets as sets
 use Rattle.mh_grammar.specs.ItemSets.{AreSame, Close, MayBegin}
 use Rattle.mh_grammar.specs.declared.types.Symbol.{Symbol}
 use Rattle.mh_grammar.specs.declared.types.Symbol.TheVariants.{N}
-use Rattle.mh_grammar.specs.Plain.{IsInRange, IsSymbolBelow, production_count, rhs_of}
-use Rattle.mh_grammar.proofs.Lists.{recursion_contains}
+use Rattle.mh_grammar.proofs.Lists.{recursion_contains, same_at, contains_at, at_contains, recursion-from}
 use Rattle.mh_grammar.proofs.Numbered.{listed_from_for}
-use Rattle.mh_items_kernels.specs.Shapes.{KernelItem}
-use Rattle.mh_items_kernels.specs.Shapes.{Kernel}
+use Rattle.mh_items_kernels.specs.Shapes.{KernelItem, Kernel}
 use Rattle.mh_items.specs.declared.asked.Asked.{Asked}
 use Rattle.mh_items_kernels.specs.Kernels.{Holds, IsItemList, IsKernelItem}
 use Rattle.mh_items_kernels.proofs.Dotted.{drop_tail}
-use Rattle.mh_items.specs.Added.{AreAdded, IsNumber}
-use Rattle.mh_items.specs.Merging.{IsUnion}
-use Rattle.mh_items.specs.Wanted as wanted
-use Rattle.mh_items.specs.Wanted.{AreWanted, Wants}
-use Rattle.mh_items.specs.Asked.{looks_at, IsAsked, IsTable}
+use Rattle.mh_items.specs.code.Added.{AreAdded, IsNumber}
+use Rattle.mh_items.specs.code.Merging.{IsUnion}
+use Rattle.mh_items.specs.code.Wanted as wanted
+use Rattle.mh_items.specs.code.Wanted.{AreWanted, Wants}
+use Rattle.mh_items.specs.code.Asked.{looks_at, IsAsked, IsTable}
 use Rattle.mh_sets.specs.Sets.{IsSet}
-use Rattle.mh_grammar.proofs.Lists.{same_at, contains_at, at_contains, recursion-from}
 use Rattle.mh_items.proofs.Merged.{holds_push, holds_cases}
 use Rattle.mh_items_kernels.proofs.Pushing.{kernel_push}
 use Rattle.mh_items.proofs.Wanting.{asked_known}

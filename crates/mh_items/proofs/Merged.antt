@@ -6,10 +6,9 @@ use Rattle.std.proofs.lemmas.List.Elements.{Contains-push, Contains-push_cases, 
 use Rattle.std.proofs.lemmas.Option.{slice_get_within, slice_get-get_or}
 use Rattle.mh_grammar.specs.declared.types.Look.{Look}
 use Rattle.mh_grammar.specs.Plain.{PlainGrammar}
-use Rattle.mh_items_kernels.specs.Shapes.{KernelItem}
-use Rattle.mh_items_kernels.specs.Shapes.{Kernel}
+use Rattle.mh_items_kernels.specs.Shapes.{KernelItem, Kernel}
 use Rattle.mh_items_kernels.specs.Kernels.{Holds, IsItemList, IsKernelItem, IsItemBefore, IsJoined}
-use Rattle.mh_items.specs.Merging.{IsUnion, IsMerged}
+use Rattle.mh_items.specs.code.Merging.{IsUnion, IsMerged}
 use Rattle.mh_grammar.proofs.Lists.{same_at, contains_at, at_contains, recursion_at, rising_at}
 use Rattle.mh_items_kernels.proofs.OneList.{item_along}
 use Rattle.mh_items_kernels.proofs.Pushing.{kernel_push}

@@ -13,9 +13,9 @@ use Rattle.mh_items_kernels.specs.Shapes.{KernelItem, Kernel}
 use Rattle.mh_items.specs.declared.asked.Asked.{Asked}
 use Rattle.mh_items_kernels.specs.Kernels.{Holds, IsKernelItem}
 use Rattle.mh_items.specs.Firsts.{BeginsAll, IsRest}
-use Rattle.mh_items.specs.Asked.{IsAsked, AreAwake, Adds, IsAt}
-use Rattle.mh_items.specs.Wanted as wanted
-use Rattle.mh_items.specs.Wanted.{Follows, IsItemSeed, IsSeedOf, IsSeed, AreSeeds}
+use Rattle.mh_items.specs.code.Asked.{IsAsked, AreAwake, Adds, IsAt}
+use Rattle.mh_items.specs.code.Wanted as wanted
+use Rattle.mh_items.specs.code.Wanted.{Follows, IsItemSeed, IsSeedOf, IsSeed, AreSeeds}
 use Rattle.mh_items_kernels.proofs.Dotted.{drop_from-slice_get, drop_tail}
 use Rattle.mh_items.proofs.Growing.{Adds-then, Adds-as}
 use Rattle.mh_grammar.proofs.Lists.{at_drop}

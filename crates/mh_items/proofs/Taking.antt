@@ -21,8 +21,8 @@ use Rattle.mh_items_kernels.specs.Shapes.{Items, KernelItem, Kernel}
 use Rattle.mh_items_kernels.specs.Kernels.{Holds, IsItemList, IsKernelItem}
 use Rattle.mh_items_kernels.proofs.Dotted.{drop_from-slice_get}
 use Rattle.mh_items.specs.declared.rows.Rows.{Rows}
-use Rattle.mh_items_kernels.specs.Collection.{IsBehindDot, IsMove}
-use Rattle.mh_items.specs.Moves.{Move, AreMoves, symbols_of}
+use Rattle.mh_items_kernels.specs.code.Moving.{IsBehindDot, IsMove}
+use Rattle.mh_items.specs.code.Moves.{Move, AreMoves, symbols_of}
 use Rattle.mh_items.specs.code.Rows.{place_of, symbol_of, row_at, AreEmpty, AreReady, move_from}
 use Rattle.mh_items.proofs.RowsGathered.{symbol_below, place_within}
 

@@ -7,7 +7,7 @@ use Rattle.std.specs.declared.cmp.Ordering.{Ordering}
 use Rattle.std.specs.declared.cmp.Ordering.TheVariants.{Less, Equal, Greater}
 use Rattle.mh_items_kernels.specs.Shapes.{KernelItem}
 use Rattle.mh_items_kernels.specs.Kernels.{IsItemBefore}
-use Rattle.mh_items.specs.Merging.{IsTurn, place_order}
+use Rattle.mh_items.specs.code.Merging.{IsTurn, place_order}
 use Rattle.mh_grammar.proofs.Lists.{same_at}
 
 -- what the order of two items says

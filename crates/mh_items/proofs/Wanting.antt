@@ -20,9 +20,9 @@ use Rattle.mh_items.specs.declared.first_sets.Firsts.{Firsts}
 use Rattle.mh_items.specs.declared.asked.Asked.{Asked}
 use Rattle.mh_items.specs.Firsts.{AreFirsts, AreLinksOf, IsLinked, IsRest}
 use Rattle.mh_items_kernels.specs.Kernels.{Holds}
-use Rattle.mh_items.specs.Asked.{looks_at, IsAsked, IsWaiting, room, AreQueued, IsTable, AreAwake, Adds, IsStep}
-use Rattle.mh_items.specs.Wanted as wanted
-use Rattle.mh_items.specs.Wanted.{Wants, IsSeed, AreSeeds, AreWanted}
+use Rattle.mh_items.specs.code.Asked.{looks_at, IsAsked, IsWaiting, room, AreQueued, IsTable, AreAwake, Adds, IsStep}
+use Rattle.mh_items.specs.code.Wanted as wanted
+use Rattle.mh_items.specs.code.Wanted.{Wants, IsSeed, AreSeeds, AreWanted}
 use Rattle.mh_grammar.proofs.Lists.{same_at, contains_at}
 
 module _ (g : PlainGrammar) (I : ItemSet) where

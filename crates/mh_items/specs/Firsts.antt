@@ -1,5 +1,5 @@
 -- What closures are computed from.
-use Rattle.std.specs.Prelude.{◌≡◌, ◌<◌, ◌↔◌, ℕ, List, [], ◌∷◌, Bool, Option, Some, None, length, true, false, slice_index_or, slice_get}
+use Rattle.std.specs.Prelude.{◌≡◌, ◌<◌, ◌↔◌, ℕ, List, [], ◌∷◌, Bool, Some, length, true, false, slice_index_or, slice_get}
 use Rattle.std.specs.List.{All, Contains}
 use Rattle.mh_grammar.specs.declared.types.Symbol.{Symbol}
 use Rattle.mh_grammar.specs.declared.types.Symbol.TheVariants.{N}
@@ -21,16 +21,7 @@ abbrev pub BeginsAll : PlainGrammar → List Symbol → Look → Type 0
 BeginsAll g y (Token a) = FirstOf g y a
 BeginsAll g y End = ⊥
 
--- one of the tokens
-abbrev pub IsTokenOf : List ℕ → Look → Type 0
-IsTokenOf tokens (Token a) = Contains tokens a
-IsTokenOf tokens End = ⊥
-
--- a set for each nonterminal, its FIRST
-pub record AreFirstSets (g : PlainGrammar) (first : List (List Look)) : Type 0 where
-  pub len : length first ≡ g.nonterminals
-  pub exact : (n : ℕ) (b : Look) → n < g.nonterminals → Contains (slice_index_or first n []) b ↔ Begins g (N n) b
-
+-- for each nonterminal whether it is nullable, and its FIRST
 pub record AreSets {W : ℕ} (g : PlainGrammar) (s : Sets W) : Type 0 where
   pub nullable_len : length s.nullable ≡ g.nonterminals
   pub first_len : length s.first ≡ g.nonterminals
@@ -42,16 +33,11 @@ pub record IsRest (g : PlainGrammar) (y : List Symbol) (tokens : List Look) (pas
   pub begins : (b : Look) → Contains tokens b ↔ BeginsAll g y b
   pub empty : (passes ≡ true) ↔ DerivesAll g y []
 
--- a right side that begins with a nonterminal, and a link that says what may come behind that
+-- a right side that begins with a nonterminal, and a link that says what may come after this nonterminal
 pub record IsLink {W : ℕ} (g : PlainGrammar) (symbols : List Symbol) (link : Link W) : Type 0 where
   pub behind : List Symbol
   pub side : symbols ≡ N link.to ∷ behind
   pub rest : IsRest g behind link.tokens link.passes
-
--- the link of a right side; there is none where it begins with no nonterminal
-abbrev pub IsLinkOf : {W : ℕ} → PlainGrammar → List Symbol → Option (Link W) → Type 0
-IsLinkOf g symbols (Some link) = IsLink g symbols link
-IsLinkOf g symbols None = (n : ℕ) (y : List Symbol) → symbols ≡ N n ∷ y → ⊥
 
 -- a production of the nonterminal has this link
 pub record IsLinked {W : ℕ} (g : PlainGrammar) (n : ℕ) (link : Link W) : Type 0 where
@@ -65,6 +51,7 @@ pub record AreLinksOf {W : ℕ} (g : PlainGrammar) (n : ℕ) (links : List (Link
   pub sound : (link : Link W) → Contains links link → IsLinked g n link
   pub complete : (q m : ℕ) (y : List Symbol) → IsProductionFor g n q → rhs_of g q ≡ N m ∷ y → (link : Link W) × Contains links link × IsLink g (rhs_of g q) link
 
+-- the sets of a grammar, with the links and the numbers of each nonterminal's productions
 pub record AreFirsts {W : ℕ} (g : PlainGrammar) (f : Firsts W) : Type 0 where
   pub sets : AreSets g f.sets
   pub len : length f.links ≡ g.nonterminals

@@ -1,9 +1,2 @@
-pub mod Added
-pub mod Asked
-pub mod Closer
 pub mod Firsts
-pub mod Merging
-pub mod Wanted
-pub mod Moves
 pub mod code
-pub mod Mover

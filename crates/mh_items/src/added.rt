@@ -6,14 +6,14 @@ ghost use Rattle.mh_grammar.specs.Plain.{plain_of, IsInRange};
 ghost use Rattle.mh_items_kernels.specs.Shapes.{Kernel as KernelOf};
 ghost use Rattle.mh_items_kernels.specs.Kernels.{IsItemList};
 ghost use Rattle.mh_items.specs.Firsts.{AreFirsts};
-ghost use Rattle.mh_items.specs.Asked.{IsTable};
-ghost use Rattle.mh_items.specs.Wanted.{AreWanted};
-ghost use Rattle.mh_items.specs.Added.{AreAdded, IsNumber};
+ghost use Rattle.mh_items.specs.code.Asked.{IsTable};
+ghost use Rattle.mh_items.specs.code.Wanted.{AreWanted};
+ghost use Rattle.mh_items.specs.code.Added.{AreAdded, IsNumber};
 
 use crate::asked::Asked;
 use crate::first_sets::Firsts;
 use mh_grammar::{Grammar, Memory};
-use mh_items_kernels::{KernelItem, first_item};
+use mh_items_kernels::KernelItem;
 use std::alloc::Global;
 
 /// The productions of the nonterminals that a closure asks for, rising, each with its looks.
@@ -37,7 +37,11 @@ pub(crate) fn added_items<const W: usize>(
     let mut items = Vec::new(alloc);
     for number in numbers.as_slice() {
         let production = &grammar.productions[*number as usize - starts];
-        items.push(first_item(*number, set.looks[usize::from(production.lhs)].copied()))?;
+        items.push(KernelItem {
+            production: *number,
+            dot: 0,
+            looks: set.looks[usize::from(production.lhs)].copied(),
+        })?;
     }
     Ok(items)
 }

@@ -3,7 +3,7 @@ ghost use Rattle.std.specs.Prelude.{◌≡◌, ◌<◌, ◌≤◌, ◌+◌, map,
 ghost use Rattle.mh_grammar.specs.Plain.{plain_of, IsInRange};
 ghost use Rattle.mh_items_kernels.specs.Kernels.{IsItemList};
 ghost use Rattle.mh_items.specs.code.Rows.{AreEmpty, AreGathered, AreReady, move_from, symbol_of};
-ghost use Rattle.mh_items.specs.Moves.{AreMoves};
+ghost use Rattle.mh_items.specs.code.Moves.{AreMoves};
 
 use crate::rows::{Rows, place};
 use mh_grammar::{Grammar, Memory, Sequence, Symbol};
@@ -12,7 +12,8 @@ use mh_sets::TokenSet;
 use std::alloc::Global;
 use std::mem;
 
-/// A symbol that items of a closure stand before, and the kernel of the items behind it.
+/// A symbol that some items of a closure have after their dots, and the kernel of these items with the dots moved past
+/// the symbol.
 #[derive(Drop)]
 pub struct MoveWith<L> {
     pub symbol: Symbol,
@@ -43,7 +44,7 @@ pub(crate) fn moves<const W: usize>(
     taken(alloc, grammar, rows)
 }
 
-/// Puts each item, with the dot behind its next symbol, into the row of that symbol.
+/// Puts each item, with the dot after its next symbol, into the row of this symbol.
 fn gather<const W: usize>(
     grammar: &Grammar,
     items: &[KernelItem<W>],

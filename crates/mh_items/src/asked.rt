@@ -2,7 +2,7 @@
 ghost use Rattle.std.specs.Prelude.{◌≡◌, ◌<◌, ◌≤◌, ◌↔◌, ℕ, true, List, length, vec_len, slice_get, Some, IfOk, OnOk};
 ghost use Rattle.std.specs.List.{All};
 ghost use Rattle.mh_grammar.specs.declared.types.TheConstants.{MAX_NUMBERED};
-ghost use Rattle.mh_items.specs.Asked.{IsTable, IsNothing, Adds, IsAt, IsStep, IsWaiting};
+ghost use Rattle.mh_items.specs.code.Asked.{IsTable, IsNothing, Adds, IsAt, IsStep, IsWaiting};
 
 use crate::links::Link;
 use mh_grammar::Memory;
@@ -19,7 +19,7 @@ pub struct Asked<const W: usize> {
 }
 
 impl<const W: usize> Asked<W> {
-    /// Nothing is asked of so many nonterminals.
+    /// Nothing is asked yet of the nonterminals, of which there are `rows`.
     pub(crate) fn new(alloc: Global, rows: usize) -> Result<Asked<W>, Memory>
         requires few { W ≤ 8 }
         requires rows { rows ≤ MAX_NUMBERED }
@@ -63,7 +63,7 @@ impl<const W: usize> Asked<W> {
         Ok(())
     }
 
-    /// Asks for what may stand behind the first symbols of a nonterminal's productions.
+    /// Asks for what may come after the first symbols of a nonterminal's productions.
     pub(crate) fn visit(&mut self, links: &[Link<W>], looks: &TokenSet<W>) -> Result<(), Memory>
         requires few { W ≤ 8 }
         requires links { All (λ link. link.to < vec_len self.old.looks) links.now }

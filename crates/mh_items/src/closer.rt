@@ -4,8 +4,8 @@ ghost use Rattle.mh_grammar.specs.declared.types.Symbol.TheVariants.{N};
 ghost use Rattle.mh_grammar.specs.Plain.{plain_of, rhs_of, IsInRange};
 ghost use Rattle.mh_grammar.specs.ItemSets.{AreSame, Close};
 ghost use Rattle.mh_items_kernels.specs.Kernels.{Holds, IsItemList, IsKernelItem};
-ghost use Rattle.mh_items_kernels.specs.Empties.{HasComplete};
-ghost use Rattle.mh_items.specs.Closer.{IsCloser};
+ghost use Rattle.mh_items_kernels.specs.code.Empties.{HasComplete};
+ghost use Rattle.mh_items.specs.code.Closer.{IsCloser};
 
 use crate::asked::Asked;
 use crate::closures::closure_over;
@@ -77,7 +77,7 @@ impl<const W: usize> Closer<W> {
     }
 }
 
-/// Whether an item stands before a marked nonterminal.
+/// Whether an item has its dot before a marked nonterminal.
 fn asks_for<const W: usize>(grammar: &Grammar, marks: &[bool], item: &KernelItem<W>) -> bool
     requires few { W ≤ 8 }
     requires range { IsInRange (plain_of grammar.now) }

@@ -6,8 +6,8 @@ ghost use Rattle.mh_grammar.specs.Plain.{plain_of, rhs_of, IsInRange};
 ghost use Rattle.mh_grammar.specs.ItemSets.{AreSame, Close};
 ghost use Rattle.mh_items.specs.Firsts.{AreFirsts, AreSets};
 ghost use Rattle.mh_items_kernels.specs.Kernels.{Holds, IsItemList, IsKernelItem};
-ghost use Rattle.mh_items.specs.Asked.{IsTable, IsNothing, Adds};
-ghost use Rattle.mh_items.specs.Wanted.{Follows, IsItemSeed, IsSeedOf};
+ghost use Rattle.mh_items.specs.code.Asked.{IsTable, IsNothing, Adds};
+ghost use Rattle.mh_items.specs.code.Wanted.{Follows, IsItemSeed, IsSeedOf};
 
 use crate::added::added_items;
 use crate::asked::Asked;
@@ -112,7 +112,7 @@ fn add_item<const W: usize>(
     }
 }
 
-/// The looks that may come behind the symbol at the dot of an item.
+/// The looks that may come after the symbol at the dot of an item.
 fn looks_behind<const W: usize>(
     grammar: &Grammar,
     sets: &Sets<W>,

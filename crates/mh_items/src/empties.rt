@@ -3,7 +3,7 @@ ghost use Rattle.std.specs.Prelude.{◌≡◌, ◌^◌, ◌<◌, ℕ, true, fals
 ghost use Rattle.std.specs.List.{All};
 ghost use Rattle.mh_grammar.specs.Grid.{Grows};
 ghost use Rattle.mh_grammar.specs.Plain.{plain_of, IsInRange, IsProductionBelow, IsSymbolBelow};
-ghost use Rattle.mh_items_kernels.specs.Empties.{AreEmpties, begins_empty};
+ghost use Rattle.mh_items_kernels.specs.code.Empties.{AreEmpties, begins_empty};
 
 use mh_grammar::{Grammar, Memory, Production, Symbol};
 use std::alloc::Global;

@@ -6,7 +6,8 @@ ghost use Rattle.mh_grammar.specs.Plain.{PlainGrammar, plain_of, IsInRange, IsPr
 ghost use Rattle.mh_grammar.specs.First.{First};
 ghost use Rattle.mh_grammar.specs.declared.types.Look.{Look as LookOf};
 ghost use Rattle.mh_items.specs.declared.links.Link.{Link as LinkOf};
-ghost use Rattle.mh_items.specs.Firsts.{AreFirsts, AreSets, AreFirstSets, AreLinksOf, IsTokenOf};
+ghost use Rattle.mh_items.specs.code.Links.{IsTokenOf, AreFirstSets};
+ghost use Rattle.mh_items.specs.Firsts.{AreFirsts, AreSets, AreLinksOf};
 
 use crate::first_sets::{Firsts, Sets};
 use crate::links::{Link, link_of};

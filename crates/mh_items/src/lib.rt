@@ -1,8 +1,5 @@
-//! The closure of LR(1) kernels and their moves.
-//!
-//! All moves of a closure at once, in the order of their symbols.
-//!
-//! The moves of many kernels of one grammar: each is closed, and its moves are taken.
+//! The closures of LR(1) kernels and their moves: of one kernel, and of many kernels of one grammar, where each costs
+//! what it asks for.
 #![tactic(auto)]
 
 mod added;
@@ -26,8 +23,8 @@ pub use closures::closure;
 pub use gathering::firsts;
 pub use mh_items_kernels::{
     Automaton, AutomatonWith, Closure, ItemWith, ItemsWith, Kernel, KernelItem, StatesFault,
-    advanced, are_equal, behind, copied_item, first_item, is_marked, joined_item, one_list, order,
-    passed_on, rest_from, start_kernel, symbol_at, symbol_in,
+    advanced, are_equal, behind, copied_item, joined_item, one_list, passed_on, rest_from,
+    start_kernel, symbol_at, symbol_in,
 };
 pub use mover::Mover;
 pub use moving::moved;

@@ -1,13 +1,14 @@
 //! What strings of symbols may begin with, and the productions of a nonterminal that begin with another.
-ghost use Rattle.std.specs.Prelude.{◌≡◌, ◌<◌, ◌↔◌, ◌≤◌, ◌*◌, ◌⊎◌, [], length, IsTrue};
+ghost use Rattle.std.specs.Prelude.{◌≡◌, ◌<◌, ◌↔◌, ◌≤◌, ◌*◌, ◌⊎◌, [], false, length, slice_index_or, IsTrue};
 ghost use Rattle.std.specs.List.{All, Contains};
 ghost use Rattle.mh_grammar.specs.Plain.{PlainGrammar, IsSymbolBelow, Derives};
 ghost use Rattle.mh_grammar.specs.declared.types.Look.{Look as LookOf};
-ghost use Rattle.mh_items.specs.Firsts.{AreSets, Begins, IsRest, IsLinkOf};
+ghost use Rattle.mh_items.specs.code.Links.{IsLinkOf};
+ghost use Rattle.mh_items.specs.Firsts.{AreSets, Begins, IsRest};
 
 use crate::first_sets::Sets;
 use mh_grammar::{Look, Symbol};
-use mh_items_kernels::{is_marked, rest_from, symbol_in};
+use mh_items_kernels::{rest_from, symbol_in};
 use mh_sets::TokenSet;
 
 /// The tokens that a string of symbols may begin with, and whether it may derive the empty word.
@@ -17,7 +18,7 @@ pub(crate) struct Rest<const W: usize> {
     pub(crate) passes: bool,
 }
 
-/// A production that begins with a nonterminal, and what may come behind that.
+/// A production that begins with a nonterminal, and what may come after this nonterminal.
 #[derive(Drop)]
 pub(crate) struct Link<const W: usize> {
     pub(crate) to: u16,
@@ -65,6 +66,14 @@ fn add_symbol<const W: usize>(tokens: &mut TokenSet<W>, sets: &Sets<W>, symbol: 
             is_marked(sets.nullable.as_slice(), n)
         }
     }
+}
+
+/// Whether a nonterminal is marked, as those are that derive the empty word.
+fn is_marked(marks: &[bool], n: u16) -> bool
+    requires { n < length marks.now }
+    ensures { result ≡ slice_index_or marks.now n false }
+{
+    marks[usize::from(n)]
 }
 
 /// The link of a right side, where it begins with a nonterminal.

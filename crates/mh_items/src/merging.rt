@@ -3,10 +3,10 @@ ghost use Rattle.std.specs.Prelude.{◌≡◌, ◌<◌, ◌≤◌, ◌+◌, ◌�
 ghost use Rattle.mh_grammar.specs.Plain.{plain_of, IsInRange};
 ghost use Rattle.mh_items_kernels.specs.Kernels.{IsItemList};
 ghost use Rattle.mh_items_kernels.specs.Shapes.{KernelItem as ItemOf};
-ghost use Rattle.mh_items.specs.Merging.{IsUnion, IsMerged, IsTurn};
+ghost use Rattle.mh_items.specs.code.Merging.{IsUnion, IsMerged, IsTurn, place_order};
 
 use mh_grammar::{Grammar, Memory, Sequence};
-use mh_items_kernels::{Closure, KernelItem, copied_item, joined_item, order};
+use mh_items_kernels::{Closure, KernelItem, copied_item, joined_item};
 use std::alloc::Global;
 use std::cmp::Ordering;
 
@@ -37,7 +37,7 @@ pub(crate) fn merged<const W: usize>(
     })
 }
 
-/// The item that comes next, and how far both lists are behind it.
+/// The item that comes next, and the places in both lists after this item.
 fn next_item<const W: usize>(
     grammar: &Grammar,
     left: &[KernelItem<W>],
@@ -78,4 +78,23 @@ fn turn<const W: usize>(
         return Ordering::Greater;
     }
     order(&left[i], &right[j])
+}
+
+/// Which of two items comes first, by production and then by dot.
+fn order<const W: usize>(x: &KernelItem<W>, y: &KernelItem<W>) -> Ordering
+    ensures { result ≡ place_order x.now y.now }
+{
+    if x.production < y.production {
+        return Ordering::Less;
+    }
+    if y.production < x.production {
+        return Ordering::Greater;
+    }
+    if x.dot < y.dot {
+        return Ordering::Less;
+    }
+    if y.dot < x.dot {
+        return Ordering::Greater;
+    }
+    Ordering::Equal
 }

@@ -2,8 +2,8 @@
 ghost use Rattle.std.specs.Prelude.{◌≡◌, ◌≤◌, ◌*◌, length, IfOk};
 ghost use Rattle.mh_grammar.specs.Plain.{plain_of, IsInRange};
 ghost use Rattle.mh_items_kernels.specs.Kernels.{IsItemList};
-ghost use Rattle.mh_items.specs.Moves.{AreMovesOf};
-ghost use Rattle.mh_items.specs.Mover.{IsMover};
+ghost use Rattle.mh_items.specs.code.Moves.{AreMovesOf};
+ghost use Rattle.mh_items.specs.code.Mover.{IsMover};
 
 use crate::all_moves::{Move, moves};
 use crate::closer::Closer;

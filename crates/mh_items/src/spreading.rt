@@ -2,9 +2,9 @@
 ghost use Rattle.std.specs.Prelude.{◌≡◌, ◌≤◌, ℕ, length, vec_len, OnOk};
 ghost use Rattle.mh_grammar.specs.Plain.{plain_of};
 ghost use Rattle.mh_items_kernels.specs.Shapes.{Kernel as KernelOf};
-ghost use Rattle.mh_items.specs.Asked.{IsTable, IsWaiting, AreQueued, AreAwake};
+ghost use Rattle.mh_items.specs.code.Asked.{IsTable, IsWaiting, AreQueued, AreAwake};
 ghost use Rattle.mh_items.specs.Firsts.{AreFirsts};
-ghost use Rattle.mh_items.specs.Wanted.{AreSeeds, AreWanted};
+ghost use Rattle.mh_items.specs.code.Wanted.{AreSeeds, AreWanted};
 
 use crate::asked::Asked;
 use crate::first_sets::Firsts;

@@ -1,12 +1,12 @@
--- The words of collections of item sets, whichever way they are made (Knuth 1965, Pager 1977): paths, starts, moves, edges.
+-- The words of collections of item sets, whichever way they are made (Knuth 1965, Pager 1977): paths, starts, moves,
+-- edges.
 use Rattle.std.specs.Prelude.{◌≡◌, ◌<◌, ℕ, List, [], ◌∷◌, Some, length, map, slice_get}
 use Rattle.mh_grammar.specs.declared.types.Symbol.{Symbol}
 use Rattle.mh_grammar.specs.declared.types.Look.{Look}
 use Rattle.mh_grammar.specs.declared.edges.Edge.{Edge}
-use Rattle.mh_grammar.specs.Plain.{PlainGrammar, rhs_of}
-use Rattle.mh_grammar.specs.ItemSets.{ItemSet, AreSame, Close, Moved}
-use Rattle.mh_items_kernels.specs.Shapes.{Items, Kernel, Automaton}
-use Rattle.mh_items_kernels.specs.Kernels.{Holds, HasPlace, IsItemList}
+use Rattle.mh_grammar.specs.Plain.{PlainGrammar}
+use Rattle.mh_grammar.specs.ItemSets.{ItemSet, Close, Moved}
+use Rattle.mh_items_kernels.specs.Shapes.{Kernel, Automaton}
 use Rattle.mh_items_kernels.specs.Automaton.{start_kernel, leads_to}
 
 -- some item is in the set
@@ -21,27 +21,16 @@ abbrev pub After : PlainGrammar → ItemSet → List Symbol → ItemSet
 After g I [] = I
 After g I (X ∷ path) = Moved g (Close g (After g I path)) X
 
--- the kernels of so many starts, in order
+-- the kernels of the first starts, in order
 pub record AreStarts (count : ℕ) (kernels : List Kernel) : Type 0 where
   pub len : length kernels ≡ count
   pub each : (i : ℕ) → i < count → slice_get kernels i ≡ Some (start_kernel i)
 
--- the symbol stands behind the dot of an item
-pub record IsBehindDot (g : PlainGrammar) (k : Kernel) (X : Symbol) : Type 0 where
-  pub production : ℕ
-  pub dot : ℕ
-  pub place : HasPlace k production dot
-  pub behind : slice_get (rhs_of g production) dot ≡ Some X
-
--- the kernel of a move of a closure
-pub record IsMove (g : PlainGrammar) (closed : Items) (X : Symbol) (k : Kernel) : Type 0 where
-  pub kernel : IsItemList g k
-  pub same : AreSame (Holds k) (Moved g (Holds closed) X)
-
--- where a row of edges leads, and on which symbols
+-- where the edges of a row lead
 abbrev pub targets_of : List Edge → List ℕ
 targets_of row = map (λ e. e.target) row
 
+-- the symbols of the edges of a row
 abbrev pub edge_symbols : List Edge → List Symbol
 edge_symbols row = map (λ (e : Edge). e.symbol) row
 

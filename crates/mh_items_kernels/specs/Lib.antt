@@ -1,7 +1,6 @@
 pub mod Automaton
 pub mod Collection
 pub mod Conflicts
-pub mod Empties
 pub mod Kernels
-pub mod Order
 pub mod Shapes
+pub mod code

@@ -1,4 +1,4 @@
-//! LR(1) kernels, what stands at their dots, and what every layer needs of an automaton.
+//! LR(1) kernels, the symbols at their dots, and what every layer needs of an automaton.
 #![tactic(auto)]
 
 mod items;
@@ -7,7 +7,7 @@ mod laws;
 mod places;
 mod starts;
 
-pub use items::{advanced, copied_item, first_item, is_marked, joined_item, order, passed_on};
+pub use items::{advanced, copied_item, joined_item, passed_on};
 pub use kernels::{
     Automaton, AutomatonWith, Closure, ItemWith, ItemsWith, Kernel, KernelItem, StatesFault,
 };

@@ -24,8 +24,8 @@ use Rattle.mh_grammar.specs.Text.{Text}
 use Rattle.mh_join_names.specs.Names.{same, files, formal_number, start_names, definitions, definitions_in, prelude_definitions, is_elsewhere, rules, insert_all, insert_key}
 use Rattle.mh_join_names.specs.Faults.{Meanings, meant_by, refs, is_error, text_of, unless, undefined, undefined_in_actual, undefined_in_alternative, undefined_prec, undefined_in_rule, undefined_start, undefined_in_level, undefined_in_on_error, undefined_in_declarations, undefined_in_file, duplicates, has_some, error_token, errors_in_actual, errors_in_alternative, errors_in_rule, errors_in_file, unlevelled_in_file, many_tokens, other_faults, faults_by}
 use Rattle.mh_join_names.specs.Joining.{IsJoinedBy, IsJoined}
-use Rattle.mh_join_names.specs.Maps.{meanings_in, elsewhere_in, HasMeanings}
-use Rattle.mh_join_parts.specs.Standing.{unresolved, unresolved_in_rule, unresolved_in_rules, unresolved_in_file, unresolved_on_error, CanJoin, definitions_by}
+use Rattle.mh_join_names.specs.code.Maps.{meanings_in, elsewhere_in, HasMeanings}
+use Rattle.mh_join_parts.specs.code.Standing.{unresolved, unresolved_in_rule, unresolved_in_rules, unresolved_in_file, unresolved_on_error, CanJoin, definitions_by}
 use Rattle.mh_join.proofs.PreludeRules.{number_known, prelude_stands}
 use Rattle.mh_join.proofs.Shallow.{prelude_shallow}
 

@@ -22,7 +22,7 @@ use Rattle.mh_join_names.specs.Prelude.{call, words, plain, optional, in_order, 
 use Rattle.mh_grammar.specs.Text.{Text}
 use Rattle.mh_join_names.specs.Names.{same, files, formal_number, definitions, definitions_from, definitions_in, prelude_definitions, outline_of, same_owner, is_rule, same_rule, rules, rule_number, start_names, insert_all, insert_key}
 use Rattle.mh_join_names.specs.Faults.{Meanings, meant_by, refs, refs_step, unless, undefined, undefined_in_actual}
-use Rattle.mh_join_parts.specs.Standing.{unresolved, unresolved_in_rule, unresolved_in_rules}
+use Rattle.mh_join_parts.specs.code.Standing.{unresolved, unresolved_in_rule, unresolved_in_rules}
 use Rattle.mh_grammar.proofs.SameText.{same_is}
 use Rattle.mh_join_names.proofs.Lists.{is_some-position}
 use Rattle.mh_join_names.proofs.Actuals.{flat_refs}

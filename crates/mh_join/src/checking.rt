@@ -1,10 +1,10 @@
 //! The first fault in several files.
 ghost use Rattle.mh_rules.specs.Ready.{AreModulesReady};
 ghost use Rattle.mh_join_names.specs.Faults.{Finds, faults_by};
-ghost use Rattle.mh_join_names.specs.Maps.{meanings_in};
+ghost use Rattle.mh_join_names.specs.code.Maps.{meanings_in};
 
 use mh_join_faults::{check_duplicates, check_others, check_undefined};
-use mh_join_names::{JoinFault, Names, first_fault};
+use mh_join_names::{JoinFault, Names};
 use mh_rules::Module;
 use std::alloc::Global;
 
@@ -13,9 +13,11 @@ pub fn check(alloc: Global, names: &Names, modules: &[Module]) -> Result<(), Joi
     requires { AreModulesReady modules.now }
     ensures { Finds (faults_by (meanings_in names.now) modules.now) result }
 {
-    first_fault(
-        check_undefined(alloc, names, modules),
-        check_duplicates(alloc, names, modules),
-        check_others(names, modules),
-    )
+    if let Err(fault) = check_undefined(alloc, names, modules) {
+        return Err(fault);
+    }
+    if let Err(fault) = check_duplicates(alloc, names, modules) {
+        return Err(fault);
+    }
+    check_others(names, modules)
 }

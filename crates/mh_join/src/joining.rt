@@ -1,7 +1,7 @@
 //! Several files as one list of rules.
 ghost use Rattle.std.specs.Prelude.{◌≡◌, IfOk};
 ghost use Rattle.mh_join_names.specs.Joining.{Joins};
-ghost use Rattle.mh_join_names.specs.Maps.{HasMeanings};
+ghost use Rattle.mh_join_names.specs.code.Maps.{HasMeanings};
 ghost use Rattle.mh_join_names.specs.Prelude as spec;
 ghost use Rattle.mh_rules.specs.Ready.{AreModulesReady, IsReady};
 

@@ -13,7 +13,7 @@ use Rattle.mh_join_names.specs.declared.fault.JoinFault.TheVariants as faults
 use Rattle.mh_grammar.specs.Text.{Text}
 use Rattle.mh_join_names.specs.Names.{same}
 use Rattle.mh_join_names.specs.Faults.{first, unless, repeats, own_name, own_names}
-use Rattle.mh_join_faults.specs.Once.{PutsOwn}
+use Rattle.mh_join_faults.specs.code.Once.{PutsOwn}
 use Rattle.mh_join_names.proofs.Lists.{flat_more}
 use Rattle.mh_join_names.proofs.Finding.{IsFirst}
 

@@ -5,13 +5,12 @@ ghost use Rattle.mh_join_names.specs.Names.{files};
 ghost use Rattle.mh_join_names.specs.Names as names_spec;
 ghost use Rattle.mh_join_names.specs.Faults as spec;
 ghost use Rattle.mh_join_names.specs.Faults.{Finds, unless, name_duplicates, rule_duplicates, other_kind, kinds_in_file, other_token, aliases_in_file, repeats, own_names, own_in_file, formals_in_file, other_shape, shapes_in_file, other_level, levels_in_declaration, levels_in_file};
-ghost use Rattle.mh_join_names.specs.Maps.{meanings_in, is_public_in};
-ghost use Rattle.mh_join_faults.specs.Once.{PutsOnce, PutsOwn};
+ghost use Rattle.mh_join_names.specs.code.Maps.{meanings_in, is_public_in};
+ghost use Rattle.mh_join_faults.specs.code.Once.{PutsOnce, PutsOwn};
 
+use crate::agreement::{same_level, same_shape};
 use mh_grammar::{Level, Name};
-use mh_join_names::{
-    JoinFault, Kind, Names, is_public, marked_public, name_by, put_name, same_level, same_shape,
-};
+use mh_join_names::{JoinFault, Kind, Names, is_public, marked_public, name_by, put_name};
 use mh_rules::{LevelDecl, Module, Ref, Rule, TokenDecl};
 use std::alloc::Global;
 use std::collections::HashSet;

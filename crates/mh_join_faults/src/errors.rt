@@ -3,7 +3,7 @@ ghost use Rattle.std.specs.Prelude.{◌≡◌, ◌++◌, length};
 ghost use Rattle.std.specs.List.{flat_map};
 ghost use Rattle.mh_rules.specs.Ready.{AreModulesReady};
 ghost use Rattle.mh_join_names.specs.Faults.{Finds, unless, has_some, errors_in_actual, errors_in_rule, errors_in_file, unlevelled, unlevelled_in_rule, unlevelled_in_file, many_tokens, other_faults};
-ghost use Rattle.mh_join_names.specs.Maps.{meanings_in};
+ghost use Rattle.mh_join_names.specs.code.Maps.{meanings_in};
 
 use crate::undefined::is_error;
 use mh_grammar::Name;
@@ -13,10 +13,10 @@ use mh_rules::{Actual, MAX_TOKENS, Module, Ref, Rule};
 fn check_start(names: &Names) -> Result<(), JoinFault>
     ensures { Finds (unless (has_some (meanings_in names.now).starts) JoinFault.NoStart) result }
 {
-    if names.has_start() {
-        Ok(())
-    } else {
+    if names.starts.is_empty() {
         Err(JoinFault::NoStart)
+    } else {
+        Ok(())
     }
 }
 

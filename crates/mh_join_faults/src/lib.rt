@@ -4,6 +4,7 @@
 //! Names and strings of several files that have two meanings.
 #![tactic(auto)]
 
+mod agreement;
 mod duplicates;
 mod errors;
 mod undefined;

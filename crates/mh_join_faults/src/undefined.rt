@@ -5,7 +5,7 @@ ghost use Rattle.mh_rules.specs.Ready.{AreModulesReady};
 ghost use Rattle.mh_join_names.specs.Names.{files, formal_number};
 ghost use Rattle.mh_join_names.specs.Faults as spec;
 ghost use Rattle.mh_join_names.specs.Faults.{Finds, meant_by, unless, undefined_in_actual, undefined_prec, undefined_in_alternative, undefined_in_rule, undefined_start, undefined_in_level, undefined_in_on_error, undefined_in_declarations, undefined_in_file};
-ghost use Rattle.mh_join_names.specs.Maps.{meanings_in, formals_in};
+ghost use Rattle.mh_join_names.specs.code.Maps.{meanings_in, formals_in};
 
 use mh_grammar::{Name, Sequence};
 use mh_join_names::{Formals, JoinFault, Names, formals_of};

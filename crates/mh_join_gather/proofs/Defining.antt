@@ -6,7 +6,7 @@ use Rattle.std.proofs.Math.Bool.{and-false, and-or_distrib_left, and-true, or-fa
 use Rattle.mh_join_names.specs.declared.names.Definers.{Definers}
 use Rattle.mh_grammar.specs.Text.{Text}
 use Rattle.mh_join_names.specs.Names.{same}
-use Rattle.mh_join_names.specs.Definers.{elsewhere_by, Defines}
+use Rattle.mh_join_names.specs.code.Definers.{elsewhere_by, Defines}
 use Rattle.mh_grammar.proofs.SameText.{same_cases, same_self}
 
 module _ {S : Type 0} where

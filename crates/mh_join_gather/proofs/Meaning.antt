@@ -14,9 +14,9 @@ use Rattle.mh_join_names.specs.Prelude.{prelude_rules}
 use Rattle.mh_grammar.specs.Text.{Text}
 use Rattle.mh_join_names.specs.Names.{same, files, token_names, token_number, aliased, levels_in, level_of, cost_of, is_elsewhere, start_names, definitions_from, definitions_in, prelude_definitions, outline_of, owner_in, is_rule, same_rule, firsts, rules, rule_number}
 use Rattle.mh_join_names.specs.Faults.{kind_of}
-use Rattle.mh_join_names.specs.Definers.{elsewhere_by}
-use Rattle.mh_join_names.specs.Numbering.{outline_by, outlines_in, outlines_of, number_in, IsNumbered}
-use Rattle.mh_join_names.specs.Maps.{HasMeanings}
+use Rattle.mh_join_names.specs.code.Definers.{elsewhere_by}
+use Rattle.mh_join_names.specs.code.Numbering.{outline_by, outlines_in, outlines_of, number_in, IsNumbered}
+use Rattle.mh_join_names.specs.code.Maps.{HasMeanings}
 use Rattle.mh_join_names.proofs.Lists.{fun_ext}
 
 -- OUTLINES

@@ -13,7 +13,7 @@ use Rattle.mh_join_names.specs.declared.outlines.Outline.{Outline}
 use Rattle.mh_join_names.specs.declared.numbering.Numbering.{Numbering}
 use Rattle.mh_grammar.specs.Text.{Text}
 use Rattle.mh_join_names.specs.Names.{same, same_owner, is_rule, same_rule, insert_all, insert_key}
-use Rattle.mh_join_names.specs.Numbering.{number_in, IsNumbered, IsOwner, AddsNumber, Numbers}
+use Rattle.mh_join_names.specs.code.Numbering.{number_in, IsNumbered, IsOwner, AddsNumber, Numbers}
 use Rattle.mh_join_names.proofs.Lists.{position-push, is_some-position, enumerate-push, length-take_in}
 
 module _ {A : Type 0} where

@@ -4,7 +4,7 @@ ghost use Rattle.std.specs.List.{flat_map};
 ghost use Rattle.std.specs.HashMap.{get, IsEmpty};
 ghost use Rattle.mh_grammar.specs.Text.{Text};
 ghost use Rattle.mh_join_names.specs.Names.{same, alias_of, aliased};
-ghost use Rattle.mh_join_names.specs.Puts.{Puts};
+ghost use Rattle.mh_join_names.specs.code.Puts.{Puts};
 
 use mh_grammar::Memory;
 use mh_join_names::{Aliases, put_first};

@@ -4,11 +4,22 @@ ghost use Rattle.std.specs.List.{flat_map};
 ghost use Rattle.std.specs.HashMap.{get, IsEmpty};
 ghost use Rattle.mh_grammar.specs.Text.{Text};
 ghost use Rattle.mh_join_names.specs.Names.{same, cost_of, given_cost};
-ghost use Rattle.mh_join_names.specs.Puts.{Puts};
+ghost use Rattle.mh_join_names.specs.code.Puts.{Puts};
 
 use mh_grammar::Memory;
-use mh_join_names::{Costs, add_cost};
+use mh_join_names::{Costs, put_first};
 use mh_rules::{Module, TokenDecl};
+
+/// Puts in the cost of a token, if the declaration gives one: the first that its name is given counts. Fails for want
+/// of memory alone.
+fn add_cost(costs: &mut Costs, token: &TokenDecl) -> Result<(), Memory>
+    ensures { OnOk result (Puts costs.old (given_cost token.now) costs.new) }
+{
+    if let Some(cost) = token.cost {
+        put_first(costs, &token.name, cost)?;
+    }
+    Ok(())
+}
 
 fn add_costs(costs: &mut Costs, tokens: &[TokenDecl]) -> Result<(), Memory>
     ensures { OnOk result (Puts costs.old (flat_map given_cost tokens.now) costs.new) }

@@ -4,7 +4,7 @@ ghost use Rattle.std.specs.List.{list_any};
 ghost use Rattle.std.specs.HashMap.{get, IsEmpty};
 ghost use Rattle.mh_grammar.specs.Text.{Text};
 ghost use Rattle.mh_join_names.specs.Names.{same, is_elsewhere};
-ghost use Rattle.mh_join_names.specs.Definers.{elsewhere_by, Defines};
+ghost use Rattle.mh_join_names.specs.code.Definers.{elsewhere_by, Defines};
 
 use mh_grammar::{Memory, Name};
 use mh_join_names::{Definers, DefinersOf};

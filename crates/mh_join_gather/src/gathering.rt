@@ -1,8 +1,8 @@
 //! The names of several files, put into maps.
 ghost use Rattle.std.specs.Prelude.{◌≡◌, IfOk, OnOk};
 ghost use Rattle.mh_join_names.specs.Prelude.{prelude_rules};
-ghost use Rattle.mh_join_names.specs.Maps.{HasMeanings};
-ghost use Rattle.mh_join_gather.specs.Blank.{IsBlank};
+ghost use Rattle.mh_join_names.specs.code.Maps.{HasMeanings};
+ghost use Rattle.mh_join_gather.specs.code.Blank.{IsBlank};
 
 use crate::aliases::put_aliases;
 use crate::costs::put_costs;

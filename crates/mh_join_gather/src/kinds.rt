@@ -5,7 +5,7 @@ ghost use Rattle.std.specs.HashMap.{get, IsEmpty};
 ghost use Rattle.mh_grammar.specs.Text.{Text};
 ghost use Rattle.mh_join_names.specs.Names.{same};
 ghost use Rattle.mh_join_names.specs.Faults.{kinds_in, kind_of};
-ghost use Rattle.mh_join_names.specs.Puts.{Puts};
+ghost use Rattle.mh_join_names.specs.code.Puts.{Puts};
 
 use mh_grammar::Memory;
 use mh_join_names::{Kind, Kinds, put_first};

@@ -6,7 +6,7 @@ ghost use Rattle.std.specs.HashMap.{get, IsEmpty};
 ghost use Rattle.mh_join_names.specs.Names as spec;
 ghost use Rattle.mh_grammar.specs.Text.{Text};
 ghost use Rattle.mh_join_names.specs.Names.{same, with_level, levels_by, levels_in};
-ghost use Rattle.mh_join_names.specs.Puts.{Puts};
+ghost use Rattle.mh_join_names.specs.code.Puts.{Puts};
 
 use mh_grammar::{Level, Memory};
 use mh_join_names::{Aliases, Levels, name_by, put_first};

@@ -5,13 +5,11 @@ ghost use Rattle.std.specs.HashMap.{IsEmpty};
 ghost use Rattle.std.specs.HashSet.{contains};
 ghost use Rattle.mh_grammar.specs.Text.{Text};
 ghost use Rattle.mh_join_names.specs.Names.{same, marks_public};
-ghost use Rattle.mh_join_names.specs.Numbering.{outline_by, outline_in, outlines_of, IsNumbered, IsOwner, AddsNumber, Numbers};
-ghost use Rattle.mh_join_gather.specs.Blank.{HasNone};
+ghost use Rattle.mh_join_names.specs.code.Numbering.{outline_by, outline_in, outlines_of, IsNumbered, IsOwner, AddsNumber, Numbers};
+ghost use Rattle.mh_join_gather.specs.code.Blank.{HasNone};
 
 use mh_grammar::{Memory, Name};
-use mh_join_names::{
-    NameList, Numbering, Outline, marked_public, owner_in, prelude_owner, put_first,
-};
+use mh_join_names::{NameList, Numbering, Outline, marked_public, owner_in, put_first};
 use mh_rules::{Module, Rule};
 use std::alloc::Global;
 use std::collections::{HashMap, HashSet};
@@ -133,14 +131,14 @@ fn add_rules(
     added
 }
 
-/// Puts in the rules of the prelude.
+/// Puts in the rules of the prelude, which owns them: none of them is joined with a rule of a file.
 fn add_prelude(numbering: &mut Numbering, rules: &[Rule]) -> Result<(), Memory>
     requires numbered { IsNumbered numbering.old }
     requires owner { IsOwner numbering.old (Some 0) }
     ensures { OnOk result (Numbers numbering.old numbering.new (map (outline_by (Some 0)) rules.now)) }
 {
     for rule in rules {
-        add_rule(numbering, prelude_owner(), rule)?;
+        add_rule(numbering, Some(0), rule)?;
     }
     Ok(())
 }

@@ -1,6 +1,5 @@
 -- Faults that are sought one after the other.
 use Rattle.std.proofs.Common.{◌≡◌, ℕ, ◌+◌, ◌<◌, List, [], ◌∷◌, ◌++◌, Some, None, Ok, Err, Result, length, get_or, drop, sym, ap, subst, ◌∙◌, ◌⊎◌, inl, inr, arith}
-use Rattle.std.specs.Result.{result_and}
 use Rattle.std.specs.List.{flat_map, enumerate_from}
 use Rattle.mh_grammar.proofs.Lists.{left_at}
 use Rattle.mh_join_names.specs.declared.fault.JoinFault.{JoinFault}
@@ -18,10 +17,6 @@ first_then (x ∷ es) fs e (inr p) = inr p
 
 pub finds_then : {X : Type 0} (es fs : List JoinFault) (r : Result X JoinFault) → es ≡ [] → Finds fs r → Finds (es ++ fs) r
 finds_then es fs r e h = subst (λ k. Finds (k ++ fs) r) (sym e) h
-
-pub finds_and : {X Y : Type 0} (es fs : List JoinFault) (r : Result X JoinFault) (s : Result Y JoinFault) → Finds es r → Finds fs s → Finds (es ++ fs) (result_and r s)
-finds_and es fs (Ok x) s p q = finds_then es fs s p q
-finds_and es fs (Err e) s p q = first_then es fs e p
 
 module _ {A : Type 0} (f : A → List JoinFault) (xs : List A) (i : ℕ) (x : A) (h : i < length xs) (at : x ≡ get_or xs i x) (so_far : flat_map f (drop i xs) ≡ flat_map f xs) where
   here : f x ++ flat_map f (drop (i + 1) xs) ≡ flat_map f xs

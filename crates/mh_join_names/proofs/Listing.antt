@@ -7,7 +7,7 @@ use Rattle.std.specs.HashMap.{HashMap, get}
 use Rattle.std.proofs.lemmas.List.Quantifiers.{position-Some}
 use Rattle.mh_grammar.specs.Text.{Text}
 use Rattle.mh_join_names.specs.Names.{same, insert_key}
-use Rattle.mh_join_names.specs.Listed.{Listed, IsPlaced}
+use Rattle.mh_join_names.specs.code.Listed.{Listed, IsPlaced}
 use Rattle.mh_join_names.proofs.Lists.{put_case, position-push, is_some-position}
 
 module _ {S : Type 0} (keys : List Text) where

@@ -12,7 +12,7 @@ use Rattle.std.proofs.lemmas.Iterator.Adapters.{position_from-zero}
 use Rattle.std.specs.HashMap.{HashMap, get}
 use Rattle.mh_grammar.proofs.Lists.{taken}
 use Rattle.mh_grammar.proofs.SameText.{same_self, same_cases}
-use Rattle.mh_join_names.specs.Puts.{Puts}
+use Rattle.mh_join_names.specs.code.Puts.{Puts}
 use Rattle.mh_grammar.specs.Text.{Text}
 use Rattle.mh_join_names.specs.Names.{same}
 

@@ -1,9 +1,5 @@
 pub mod Prelude
 pub mod Names
-pub mod Listed
-pub mod Puts
 pub mod Faults
 pub mod Joining
-pub mod Definers
-pub mod Numbering
-pub mod Maps
+pub mod code

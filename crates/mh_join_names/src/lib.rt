@@ -1,11 +1,8 @@
 //! What several files of a grammar mean together: the definitions, and the names of the files looked up by hash.
 #![tactic(auto)]
 
-mod agreement;
 mod aliases;
-mod costs;
 mod fault;
-mod first;
 mod formals;
 mod kinds;
 mod maps;
@@ -15,11 +12,8 @@ mod numbering;
 mod outlines;
 mod publics;
 
-pub use agreement::{same_level, same_shape};
 pub use aliases::{Aliases, name_by};
-pub use costs::add_cost;
 pub use fault::JoinFault;
-pub use first::first_fault;
 pub use formals::{Formals, formals_of};
 pub use kinds::Kind;
 pub use maps::{put_first, put_name};
@@ -27,4 +21,4 @@ pub use name_list::NameList;
 pub use names::{Costs, Definers, DefinersOf, Kinds, Levels, Names};
 pub use numbering::Numbering;
 pub use outlines::Outline;
-pub use publics::{is_public, marked_public, owner_in, prelude_owner};
+pub use publics::{is_public, marked_public, owner_in};

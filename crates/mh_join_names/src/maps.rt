@@ -3,7 +3,7 @@ ghost use Rattle.std.specs.Prelude.{◌≡◌, ◌∷◌, [], ◌||◌, not, IfO
 ghost use Rattle.std.specs.HashSet.{contains};
 ghost use Rattle.mh_grammar.specs.Text.{Text};
 ghost use Rattle.mh_join_names.specs.Names.{same};
-ghost use Rattle.mh_join_names.specs.Puts.{Puts};
+ghost use Rattle.mh_join_names.specs.code.Puts.{Puts};
 
 use mh_grammar::{Memory, Name};
 use std::collections::{HashMap, HashSet};

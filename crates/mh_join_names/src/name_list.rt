@@ -4,7 +4,7 @@ ghost use Rattle.std.specs.List.{list_any};
 ghost use Rattle.std.specs.HashMap.{get};
 ghost use Rattle.mh_grammar.specs.Text.{Text};
 ghost use Rattle.mh_join_names.specs.Names.{same, insert_key};
-ghost use Rattle.mh_join_names.specs.Listed.{IsPlaced};
+ghost use Rattle.mh_join_names.specs.code.Listed.{IsPlaced};
 
 use mh_grammar::{Memory, Name};
 use std::alloc::Global;
@@ -19,7 +19,7 @@ pub struct NameList {
 }
 
 impl Model for NameList {
-    ghost use Rattle.mh_join_names.specs.Listed.{Listed, IsPlaced};
+    ghost use Rattle.mh_join_names.specs.code.Listed.{Listed, IsPlaced};
 
     ghost Value = { Listed };
 

@@ -4,8 +4,8 @@ ghost use Rattle.std.specs.List.{list_any};
 ghost use Rattle.std.specs.HashMap.{get};
 ghost use Rattle.mh_join_names.specs.Names as spec;
 ghost use Rattle.mh_join_names.specs.Names.{same, user_head, visible_head};
-ghost use Rattle.mh_join_names.specs.Faults.{has_some, meant_by};
-ghost use Rattle.mh_join_names.specs.Maps.{numbers_in, meanings_in, elsewhere_in, formals_in};
+ghost use Rattle.mh_join_names.specs.Faults.{meant_by};
+ghost use Rattle.mh_join_names.specs.code.Maps.{numbers_in, meanings_in, elsewhere_in, formals_in};
 
 use crate::aliases::Aliases;
 use crate::formals::Formals;
@@ -170,13 +170,6 @@ impl Names {
             Ref::Plain(name) => self.head_of_name(file, formals, name),
             Ref::Alias(alias) => self.token_head(self.aliases.get(alias)?),
         }
-    }
-
-    /// Whether there is a start symbol.
-    pub fn has_start(&self) -> bool
-        ensures { result ≡ has_some self.now.starts.keys }
-    {
-        !self.starts.is_empty()
     }
 
     /// Whether a name is a token or has a level.

@@ -1,6 +1,6 @@
 //! Rules by their numbers.
 ghost use Rattle.std.specs.Prelude.{◌≡◌};
-ghost use Rattle.mh_join_names.specs.Numbering.{number_in};
+ghost use Rattle.mh_join_names.specs.code.Numbering.{number_in};
 
 use crate::outlines::Outline;
 use mh_grammar::Name;

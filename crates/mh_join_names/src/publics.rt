@@ -1,5 +1,5 @@
 //! Which rules of a file are public.
-ghost use Rattle.std.specs.Prelude.{◌≡◌, ◌||◌, ◌&&◌, Some, if◌then◌else◌, IfOk, OnOk};
+ghost use Rattle.std.specs.Prelude.{◌≡◌, ◌||◌, ◌&&◌, if◌then◌else◌, IfOk, OnOk};
 ghost use Rattle.std.specs.List.{list_any};
 ghost use Rattle.std.specs.HashSet.{contains};
 ghost use Rattle.mh_grammar.specs.Text.{Text};
@@ -53,11 +53,4 @@ pub fn owner_in(starts: &NameList, marked: &HashSet<Name>, file: u64, name: &Nam
     } else {
         Some(file)
     }
-}
-
-/// Who owns the rules of the prelude: they are its own, so that none is joined with a rule of a file.
-pub fn prelude_owner() -> Option<u64>
-    ensures { result ≡ Some 0 }
-{
-    Some(0)
 }

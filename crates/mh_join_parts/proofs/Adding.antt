@@ -16,7 +16,7 @@ use Rattle.mh_grammar.specs.Text.{Text}
 use Rattle.mh_join_names.specs.Names.{Definition, definitions_from}
 use Rattle.mh_join_names.specs.Faults.{Meanings}
 use Rattle.mh_join_names.specs.Joining.{alternatives_by, alternatives_for, is_number, rule_without, without_alternatives, AreRules}
-use Rattle.mh_join_parts.specs.Standing.{Adds}
+use Rattle.mh_join_parts.specs.code.Standing.{Adds}
 use Rattle.mh_join_names.proofs.Lists.{enumerate-push, length-take_in}
 
 eqb_self : (n : ℕ) → (n == n) ≡ true

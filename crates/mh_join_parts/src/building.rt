@@ -7,8 +7,8 @@ ghost use Rattle.mh_grammar.specs.Text.{Text};
 ghost use Rattle.mh_join_names.specs.Names.{same, marks_public, files, formal_number, definitions_from, definitions_in};
 ghost use Rattle.mh_join_names.specs.Faults.{meant_by, undefined_in_actual, undefined_in_on_error, undefined_start};
 ghost use Rattle.mh_join_names.specs.Joining.{resolved, all_resolved, prec_by, alternative_by, token_info, on_error_in, rule_without, AreRules};
-ghost use Rattle.mh_join_names.specs.Maps.{meanings_in, elsewhere_in, formals_in};
-ghost use Rattle.mh_join_parts.specs.Standing.{unresolved, unresolved_in_rule, unresolved_in_rules, unresolved_in_file, unresolved_on_error, definitions_by, Adds};
+ghost use Rattle.mh_join_names.specs.code.Maps.{meanings_in, elsewhere_in, formals_in};
+ghost use Rattle.mh_join_parts.specs.code.Standing.{unresolved, unresolved_in_rule, unresolved_in_rules, unresolved_in_file, unresolved_on_error, definitions_by, Adds};
 
 use crate::printing::printed;
 use mh_grammar::{Level, Memory, Name, Sequence, TokenInfo, lost};

@@ -2,7 +2,7 @@
 ghost use Rattle.std.specs.Prelude.{◌≡◌, IfOk};
 ghost use Rattle.mh_join_names.specs.Joining as spec;
 ghost use Rattle.mh_join_names.specs.Joining.{printed_by};
-ghost use Rattle.mh_join_names.specs.Maps.{elsewhere_in};
+ghost use Rattle.mh_join_names.specs.code.Maps.{elsewhere_in};
 
 use mh_grammar::{Memory, Name, from_bytes};
 use mh_join_names::{Names, Outline};

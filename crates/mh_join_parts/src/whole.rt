@@ -4,8 +4,8 @@ ghost use Rattle.std.specs.List.{flat_map};
 ghost use Rattle.mh_join_names.specs.Faults.{undefined_start};
 ghost use Rattle.mh_join_names.specs.Joining.{IsJoinedBy, on_error_in, token_info};
 ghost use Rattle.mh_join_names.specs.Names.{files};
-ghost use Rattle.mh_join_names.specs.Maps.{meanings_in, elsewhere_in};
-ghost use Rattle.mh_join_parts.specs.Standing.{CanJoin, definitions_by, unresolved_on_error};
+ghost use Rattle.mh_join_names.specs.code.Maps.{meanings_in, elsewhere_in};
+ghost use Rattle.mh_join_parts.specs.code.Standing.{CanJoin, definitions_by, unresolved_on_error};
 
 use crate::building::{joined_rules, put_on_error, put_starts, put_tokens};
 use mh_grammar::{Memory, Sequence, lost};

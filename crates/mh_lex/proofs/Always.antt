@@ -2,19 +2,19 @@
 use Rattle.std.proofs.Common.{◌≡◌, ℕ, zero, suc, ◌-◌, ◌<◌, ◌≤◌, ◌&&◌, Bool, true, false, cond, List, [], ◌∷◌, ◌++◌, length, drop, take, Option, Some, None, refl, sym, ap, subst, ◌∙◌, arith, length-drop, length-append}
 use Rattle.std.specs.Prelude.{nat_lt}
 use Rattle.std.proofs.lemmas.Bool.Decides.{nat_tests}
-use Rattle.mh_lex_bytes.specs.declared.code.Ends.{Ends}
-use Rattle.mh_lex_bytes.specs.declared.code.Ends.TheVariants.{Comment, Brace, Bracket, Header, Angle, Slash}
-use Rattle.mh_lex_bytes.specs.declared.code.Step.{Step}
-use Rattle.mh_lex_bytes.specs.declared.code.Step.TheVariants.{Closes, Passes, Nests, Remark, Stuck}
+use Rattle.mh_lex.specs.declared.code.Ends.{Ends}
+use Rattle.mh_lex.specs.declared.code.Ends.TheVariants.{Comment, Brace, Bracket, Header, Angle, Slash}
+use Rattle.mh_lex.specs.declared.code.Step.{Step}
+use Rattle.mh_lex.specs.declared.code.Step.TheVariants.{Closes, Passes, Nests, Remark, Stuck}
 use Rattle.mh_lex.specs.declared.kinds.Kind.{Kind}
 use Rattle.mh_lex.specs.declared.kinds.Lexeme.{Lexeme}
 use Rattle.mh_lex.specs.declared.kinds.Front.{Front}
 use Rattle.mh_lex.specs.declared.kinds.Front.TheVariants.{Ended, Short, Long, Fault}
-use Rattle.mh_lex.specs.Bytes.{byte_at, has, is_end, is_word_start, is_word_byte, is_blank, is_mark}
+use Rattle.mh_lex_bytes.specs.Bytes.{byte_at, has, is_end, is_word_start, is_word_byte, is_blank, is_mark}
 use Rattle.mh_lex.specs.Spellings.{word_rest, string_rest, literal, quoted_opening, quoted_id, quoted_rest}
 use Rattle.mh_lex.specs.Steps.{passed, begins_comment, nests_in, single, item, plain, closer, has_remarks, step}
 use Rattle.mh_lex.specs.Begins.{front, percent, slash, string_front, keyword_of}
-use Rattle.mh_lex.specs.Keywords.{is_keyword}
+use Rattle.mh_lex_bytes.specs.Keywords.{is_keyword}
 use Rattle.mh_lex.specs.Bodies.{Body}
 use Rattle.mh_lex.specs.Bodies.Body.{closes, passes, nests, remark}
 use Rattle.mh_lex.specs.Lexing.{Taken, LexesFrom, Lexes, kept, left_after}

@@ -2,23 +2,19 @@
 use Rattle.std.proofs.Common.{◌≡◌, ℕ, zero, suc, ◌<◌, List, [], ◌∷◌, ◌++◌, take, drop, Option, Some, None, true, false, refl, sym, ap, subst, ◌∙◌, append_assoc}
 use Rattle.std.specs.List.{AllByRecursion}
 use Rattle.std.proofs.lemmas.List.{take-append-drop}
-use Rattle.mh_lex_bytes.specs.declared.code.Ends.{Ends}
-use Rattle.mh_lex_bytes.specs.declared.code.Step.{Step}
-use Rattle.mh_lex_bytes.specs.declared.code.Step.TheVariants.{Closes, Passes, Nests, Remark}
+use Rattle.mh_lex.specs.declared.code.Ends.{Ends}
+use Rattle.mh_lex.specs.declared.code.Step.{Step}
+use Rattle.mh_lex.specs.declared.code.Step.TheVariants.{Closes, Passes, Nests, Remark}
 use Rattle.mh_lex.specs.declared.kinds.Kind.{Kind}
 use Rattle.mh_lex.specs.declared.kinds.Kind.TheVariants as kinds
 use Rattle.mh_lex.specs.declared.kinds.Lexeme.{Lexeme}
 use Rattle.mh_lex.specs.Bodies.{Body}
 use Rattle.mh_lex.specs.Bodies.Body.{closes, passes, nests, remark}
-use Rattle.mh_lex.specs.InCode.{Item, Starts, Code, IsOpened, IsCode, SpansCode}
-use Rattle.mh_lex.specs.InCode.{Code as code}
-use Rattle.mh_lex.specs.InCode.{HasCode as coded}
+use Rattle.mh_lex.specs.InCode.{Item, Starts, Code, IsOpened, IsCode, SpansCode, Code as code, HasCode as coded}
 use Rattle.mh_lex.specs.Lexing.{Taken, Lexes}
 use Rattle.mh_lex.specs.Lexing.Taken.{short, long}
-use Rattle.mh_lex.proofs.Readings.{AreBytes, Reading, nest_of, close_of, has_items, reading_of}
-use Rattle.mh_lex.proofs.Readings.{Reading as readings}
-use Rattle.mh_lex.proofs.Spelled.{Opening, opening_at, holds_code, whole_kind, Holding, lexemes_hold, Taken-text}
-use Rattle.mh_lex.proofs.Spelled.{Opening as openings}
+use Rattle.mh_lex.proofs.Readings.{AreBytes, Reading, nest_of, close_of, has_items, reading_of, Reading as readings}
+use Rattle.mh_lex.proofs.Spelled.{Opening, opening_at, holds_code, whole_kind, Holding, lexemes_hold, Taken-text, Opening as openings}
 
 all_drop : {X : Type 0} (P : X → Type 0) (n : ℕ) (xs : List X) → AllByRecursion P xs → AllByRecursion P (drop n xs)
 all_drop P zero xs h = h

@@ -5,17 +5,17 @@ use Rattle.std.proofs.lemmas.Bool.{not-true, and_left, and_parts}
 use Rattle.std.proofs.lemmas.Bool.Decides.{nat_tests, Decides-eqb}
 use Rattle.std.proofs.lemmas.List.Elements.{recursion_from_All}
 use Rattle.std.proofs.lemmas.List.Sums.{AllPass-from_list_all}
-use Rattle.mh_lex_bytes.specs.declared.code.Ends.TheVariants as ends
-use Rattle.mh_lex_bytes.specs.declared.code.Step.TheVariants.{Closes, Passes}
+use Rattle.mh_lex.specs.declared.code.Ends.TheVariants as ends
+use Rattle.mh_lex.specs.declared.code.Step.TheVariants.{Closes, Passes}
 use Rattle.mh_lex.specs.declared.kinds.Kind.{Kind}
 use Rattle.mh_lex.specs.declared.kinds.Kind.TheVariants as kinds
 use Rattle.mh_lex.specs.declared.kinds.Lexeme.{Lexeme}
 use Rattle.mh_lex.specs.declared.kinds.Front.TheVariants.{Ended, Short, Long}
-use Rattle.mh_lex.specs.Bytes.{is_word_start, is_word_byte, is_blank, is_mark, is_decimal}
+use Rattle.mh_lex_bytes.specs.Bytes.{is_word_start, is_word_byte, is_blank, is_mark, is_decimal}
 use Rattle.mh_lex.specs.Spellings.{more, word_rest, string_rest, literal, quoted_opening}
 use Rattle.mh_lex.specs.Steps.{step, item}
-use Rattle.mh_lex.specs.Keywords.{is_keyword}
-use Rattle.mh_lex.specs.Words.{is_word}
+use Rattle.mh_lex_bytes.specs.Keywords.{is_keyword}
+use Rattle.mh_lex_bytes.specs.Words.{is_word}
 use Rattle.mh_lex.specs.Begins.{front, percent, keyword_of}
 use Rattle.mh_lex.specs.Bodies.{Body}
 use Rattle.mh_lex.specs.Bodies.Body.{closes, passes}
@@ -24,8 +24,8 @@ use Rattle.mh_lex.specs.Lexing.Taken.{short, long}
 use Rattle.mh_lex.specs.Lexing.LexesFrom.{ended, taken}
 use Rattle.mh_lex.specs.Texts.{LexemeText, IsText, is_content, laid, places, one_of, count_of_percents}
 use Rattle.mh_lex.specs.Texts.LexemeText.{word, mark, percents, keyword, quoted, empty_action, cost}
-use Rattle.mh_lex_bytes.proofs.Rows.{keyword_is_word}
-use Rattle.mh_lex.proofs.Tests.{third, fourth}
+use Rattle.mh_lex_bytes.proofs.Rows.{keyword_is_word, start_is_byte}
+use Rattle.mh_lex_bytes.proofs.Tests.{third, fourth}
 
 -- one of two
 either : {P : Type 0} (a b : Bool) → (a || b) ≡ true → (a ≡ true → P) → (b ≡ true → P) → P
@@ -39,9 +39,6 @@ drop_all (b ∷ bs) rest = drop_all bs rest
 -- a word
 word_tests : (b : ℕ) → is_word_start b ≡ true → ((b == 256) ≡ false) × (is_blank b ≡ false)
 word_tests b h = (grind (arith, nat_tests), grind (arith, nat_tests))
-
-pub start_is_byte : (b : ℕ) → is_word_start b ≡ true → is_word_byte b ≡ true
-start_is_byte b h = rw h refl
 
 word_rest-append : (t rest : List ℕ) → AllByRecursion (λ b. is_word_byte b ≡ true) t → word_rest (t ++ 32 ∷ rest) ≡ length t
 word_rest-append [] rest h = refl

@@ -2,13 +2,14 @@
 use Rattle.std.proofs.Common.{◌≡◌, ℕ, zero, suc, ◌+◌, ◌<◌, ◌-◌, Bool, true, false, cond, List, [], ◌∷◌, Option, Some, None, drop, refl, sym, subst, ◌∙◌, arith, add-one}
 use Rattle.std.specs.Prelude.{nat_lt}
 use Rattle.std.proofs.lemmas.List.{drop-drop}
-use Rattle.mh_lex_bytes.specs.declared.code.Ends.{Ends}
-use Rattle.mh_lex_bytes.specs.declared.code.Ends.TheVariants.{Comment, Brace, Bracket, Header, Angle, Slash}
-use Rattle.mh_lex_bytes.specs.declared.code.Step.{Step}
-use Rattle.mh_lex_bytes.specs.declared.code.Step.TheVariants.{Closes, Passes, Nests, Remark, Stuck}
-use Rattle.mh_lex.specs.Bytes.{byte_at, has, is_end, is_word_start}
+use Rattle.mh_lex.specs.declared.code.Ends.{Ends}
+use Rattle.mh_lex.specs.declared.code.Ends.TheVariants.{Comment, Brace, Bracket, Header, Angle, Slash}
+use Rattle.mh_lex.specs.declared.code.Step.{Step}
+use Rattle.mh_lex.specs.declared.code.Step.TheVariants.{Closes, Passes, Nests, Remark, Stuck}
+use Rattle.mh_lex_bytes.specs.Bytes.{byte_at, has, is_end, is_word_start}
 use Rattle.mh_lex.specs.Spellings.{string_rest, literal, quoted_opening, quoted_id, quoted_rest}
-use Rattle.mh_lex.specs.Steps.{passed, begins_comment, innermost_of, item, closer, step}
+use Rattle.mh_lex.specs.code.Finding.{innermost_of}
+use Rattle.mh_lex.specs.Steps.{passed, begins_comment, item, closer, step}
 use Rattle.mh_lex.specs.Bodies.{Body}
 use Rattle.mh_lex.specs.Bodies.Body.{closes, passes, nests, remark}
 

@@ -1,6 +1,4 @@
 pub mod Sums
-pub mod Tests
-pub mod Choosing
 pub mod Levels
 pub mod Takes
 pub mod Spans

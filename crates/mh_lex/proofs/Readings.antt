@@ -7,24 +7,22 @@ use Rattle.std.proofs.lemmas.Slice.Eq.{starts_is}
 use Rattle.std.proofs.lemmas.Bool.Decides.{nat_tests, Decides-eqb}
 use Rattle.std.proofs.lemmas.Bool.{not-false, and_parts, both_ways}
 use Rattle.std.proofs.lemmas.Option.{same_Some}
-use Rattle.mh_lex_bytes.specs.declared.code.Ends.{Ends}
-use Rattle.mh_lex_bytes.specs.declared.code.Ends.TheVariants.{Comment, Brace, Bracket, Header, Angle, Slash}
-use Rattle.mh_lex_bytes.specs.declared.code.Step.{Step}
-use Rattle.mh_lex_bytes.specs.declared.code.Step.TheVariants.{Closes, Passes, Nests, Remark, Stuck}
-use Rattle.mh_lex.specs.Bytes.{byte_at, has, is_end, is_word_start, is_word_byte, is_decimal, is_octal, is_hexadecimal, is_id_byte, is_escape}
+use Rattle.mh_lex.specs.declared.code.Ends.{Ends}
+use Rattle.mh_lex.specs.declared.code.Ends.TheVariants.{Comment, Brace, Bracket, Header, Angle, Slash}
+use Rattle.mh_lex.specs.declared.code.Step.{Step}
+use Rattle.mh_lex.specs.declared.code.Step.TheVariants.{Closes, Passes, Nests, Remark, Stuck}
+use Rattle.mh_lex_bytes.specs.Bytes.{byte_at, has, is_end, is_word_start, is_word_byte, is_decimal, is_octal, is_hexadecimal, is_id_byte, is_escape}
 use Rattle.mh_lex.specs.Spellings.{more, word_rest, string_rest, id_rest, quoted_opening, quoted_id, closes_quoted, quoted_rest, escaped, literal}
 use Rattle.mh_lex.specs.Steps.{passed, begins_comment, nests_in, single, item, plain, closer, has_remarks, step}
 use Rattle.mh_lex.specs.Texts.{is_content}
-use Rattle.mh_lex.specs.InCode.{Content, Character, Until, IsId, EndsWord, Item, Starts}
+use Rattle.mh_lex.specs.InCode.{Content, Character, Until, IsId, EndsWord, Item, Starts, Item as items, Starts as starts}
 use Rattle.mh_lex.specs.InCode.Content.{nothing, free, taken}
 use Rattle.mh_lex.specs.InCode.Character.{one, escape, decimal, hexadecimal, octal}
 use Rattle.mh_lex.specs.InCode.Until.{here, later}
-use Rattle.mh_lex.specs.InCode.{Item as items}
-use Rattle.mh_lex.specs.InCode.{Starts as starts}
 use Rattle.mh_lex.proofs.LaidOut.{take_all}
 use Rattle.mh_lex.proofs.Levels.{each_end}
 use Rattle.mh_lex.proofs.Spelled.{string_split, word_bytes}
-use Rattle.mh_lex.proofs.Tests.{front_is, two_are}
+use Rattle.mh_lex_bytes.proofs.Tests.{front_is, two_are}
 
 -- bytes
 abbrev pub AreBytes : List ℕ → Type 0

@@ -6,36 +6,32 @@ use Rattle.std.proofs.lemmas.List.{take-append-drop}
 use Rattle.std.proofs.lemmas.Bool.Decides.{nat_tests, Decides-eqb}
 use Rattle.std.proofs.lemmas.Bool.{and_parts}
 use Rattle.std.proofs.lemmas.Option.{same_Some}
-use Rattle.mh_lex_bytes.specs.declared.code.Ends.{Ends}
-use Rattle.mh_lex_bytes.specs.declared.code.Ends.TheVariants.{Comment, Brace, Bracket, Header, Angle, Slash}
-use Rattle.mh_lex_bytes.specs.declared.code.Step.{Step}
-use Rattle.mh_lex_bytes.specs.declared.code.Step.TheVariants.{Closes, Passes, Nests, Remark}
+use Rattle.mh_lex.specs.declared.code.Ends.{Ends}
+use Rattle.mh_lex.specs.declared.code.Ends.TheVariants.{Comment, Brace, Bracket, Header, Angle, Slash}
+use Rattle.mh_lex.specs.declared.code.Step.{Step}
+use Rattle.mh_lex.specs.declared.code.Step.TheVariants.{Closes, Passes, Nests, Remark}
 use Rattle.mh_lex.specs.declared.kinds.Kind.{Kind}
 use Rattle.mh_lex.specs.declared.kinds.Kind.TheVariants as kinds
 use Rattle.mh_lex.specs.declared.kinds.Front.TheVariants.{Long}
-use Rattle.mh_lex.specs.Bytes.{byte_at, has, is_word_start, is_word_byte}
+use Rattle.mh_lex_bytes.specs.Bytes.{byte_at, has, is_word_start, is_word_byte}
 use Rattle.mh_lex.specs.Spellings.{more, word_rest, string_rest, literal, quoted_opening, quoted_id, closes_quoted, quoted_rest}
 use Rattle.mh_lex.specs.Steps.{passed, single, item, step}
 use Rattle.mh_lex.specs.Texts.{is_content}
 use Rattle.mh_lex.specs.Begins.{front, percent}
-use Rattle.mh_lex.specs.Bodies.{Body}
-use Rattle.mh_lex.specs.Bodies.{Body as body}
-use Rattle.mh_lex.specs.InCode.{Content, Character, Until, IsId, EndsWord, Item, Starts, Code, HasCode}
+use Rattle.mh_lex.specs.Bodies.{Body, Body as body}
+use Rattle.mh_lex.specs.InCode.{Content, Character, Until, IsId, EndsWord, Item, Starts, Code, HasCode, Starts as starts, Character as characters, Code as code}
 use Rattle.mh_lex.specs.InCode.Content.{nothing, free, taken}
 use Rattle.mh_lex.specs.InCode.Until.{here, later}
 use Rattle.mh_lex.specs.InCode.Item.{string, character, word, quoted}
-use Rattle.mh_lex.specs.InCode.{Starts as starts}
-use Rattle.mh_lex.specs.InCode.{Character as characters}
-use Rattle.mh_lex.specs.InCode.{Code as code}
 use Rattle.mh_lex.specs.InCode.HasCode.{action, header, attribute, own_attribute}
 use Rattle.mh_lex.specs.Lexing.{Taken}
 use Rattle.mh_lex.specs.Lexing.Taken.{long}
-use Rattle.mh_lex.proofs.LaidOut.{drop_all, start_is_byte, string_rest-append}
+use Rattle.mh_lex_bytes.proofs.Rows.{start_is_byte}
+use Rattle.mh_lex.proofs.LaidOut.{drop_all, string_rest-append}
 use Rattle.mh_lex.proofs.Levels.{each_end}
 use Rattle.mh_lex.proofs.Coded.{bytes_behind}
-use Rattle.mh_lex.proofs.Readings.{AreBytes, Reading, nest_of, close_of, has_items, differ, above, literal_is, opening_is, closes_split, closes_here, behind_opening, id_told, reading_of}
-use Rattle.mh_lex.proofs.Readings.{Reading as readings}
-use Rattle.mh_lex.proofs.Tests.{second, third, fourth}
+use Rattle.mh_lex.proofs.Readings.{AreBytes, Reading, nest_of, close_of, has_items, differ, above, literal_is, opening_is, closes_split, closes_here, behind_opening, id_told, reading_of, Reading as readings}
+use Rattle.mh_lex_bytes.proofs.Tests.{second, third, fourth}
 
 -- WHAT AN ITEM IS TO THE STEP
 

@@ -4,18 +4,18 @@ use Rattle.std.specs.List.{AllByRecursion}
 use Rattle.std.proofs.lemmas.List.{take-append-drop, drop-drop}
 use Rattle.std.proofs.lemmas.Bool.Decides.{Decides-eqb}
 use Rattle.std.proofs.lemmas.Bool.{and_parts}
-use Rattle.mh_lex_bytes.specs.declared.code.Ends.{Ends}
-use Rattle.mh_lex_bytes.specs.declared.code.Ends.TheVariants as ends
+use Rattle.mh_lex.specs.declared.code.Ends.{Ends}
+use Rattle.mh_lex.specs.declared.code.Ends.TheVariants as ends
 use Rattle.mh_lex.specs.declared.kinds.Kind.{Kind}
 use Rattle.mh_lex.specs.declared.kinds.Kind.TheVariants as kinds
 use Rattle.mh_lex.specs.declared.kinds.Lexeme.{Lexeme}
 use Rattle.mh_lex.specs.declared.kinds.Front.{Front}
 use Rattle.mh_lex.specs.declared.kinds.Front.TheVariants.{Ended, Short, Long, Fault}
-use Rattle.mh_lex.specs.Bytes.{byte_at, has, is_end, is_word_start, is_word_byte, is_blank, is_mark}
+use Rattle.mh_lex_bytes.specs.Bytes.{byte_at, has, is_end, is_word_start, is_word_byte, is_blank, is_mark}
 use Rattle.mh_lex.specs.Spellings.{more, word_rest, string_rest}
 use Rattle.mh_lex.specs.Steps.{begins_comment}
 use Rattle.mh_lex.specs.Begins.{front, percent, slash, string_front, keyword_of}
-use Rattle.mh_lex.specs.Keywords.{is_keyword}
+use Rattle.mh_lex_bytes.specs.Keywords.{is_keyword}
 use Rattle.mh_lex.specs.Bodies.{Body}
 use Rattle.mh_lex.specs.Bodies.Body.{closes, passes, nests, remark}
 use Rattle.mh_lex.specs.Lexing.{Taken, LexesFrom, Lexes, kept}
@@ -24,7 +24,7 @@ use Rattle.mh_lex.specs.Lexing.LexesFrom.{ended, trailer, taken, fault}
 use Rattle.mh_lex.specs.Texts.{LexemeText, is_content, bytes_of, HasText, IsSpelled}
 use Rattle.mh_lex.specs.Texts.LexemeText.{word, mark, percents, keyword, quoted}
 use Rattle.mh_lex.proofs.LaidOut.{drop_all, take_all}
-use Rattle.mh_lex.proofs.Tests.{front_is, two_are, three_are}
+use Rattle.mh_lex_bytes.proofs.Tests.{front_is, two_are, three_are}
 
 -- one of two
 by_cond : {P : Type 0} {X : Type 0} (b : Bool) (x y z : X) → cond b x y ≡ z → (b ≡ true → x ≡ z → P) → (b ≡ false → y ≡ z → P) → P

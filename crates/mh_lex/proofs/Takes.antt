@@ -1,7 +1,7 @@
 -- On lexemes one after the other.
 use Rattle.std.proofs.Common.{◌≡◌, ◌≢◌, ℕ, suc, ◌+◌, ◌-◌, ◌<◌, ◌≤◌, List, [], ◌++◌, length, drop, Option, Some, None, refl, sym, ap, subst, ◌∙◌, arith, append_assoc, length-drop}
 use Rattle.std.proofs.lemmas.List.{drop-drop, append-nil}
-use Rattle.mh_lex_bytes.specs.declared.code.Ends.{Ends}
+use Rattle.mh_lex.specs.declared.code.Ends.{Ends}
 use Rattle.mh_lex.specs.declared.kinds.Kind.{Kind}
 use Rattle.mh_lex.specs.declared.kinds.Lexeme.{Lexeme}
 use Rattle.mh_lex.specs.declared.kinds.Front.TheVariants.{Ended, Short, Long, Fault}

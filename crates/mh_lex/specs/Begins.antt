@@ -1,11 +1,11 @@
 -- What begins a lexeme, a comment or a blank. Source: the Menhir manual's syntax of grammars, and this project's profile.
-use Rattle.std.specs.Prelude.{ℕ, ◌+◌, ◌<◌, ◌≤◌, ◌==◌, ◌&&◌, false, cond, List, [], ◌∷◌, Option, Some, None, drop, take}
-use Rattle.mh_lex_bytes.specs.declared.code.Ends.TheVariants as ends
+use Rattle.std.specs.Prelude.{ℕ, ◌+◌, ◌==◌, ◌&&◌, false, cond, List, [], ◌∷◌, Option, Some, None, drop, take}
+use Rattle.mh_lex.specs.declared.code.Ends.TheVariants as ends
 use Rattle.mh_lex.specs.declared.kinds.Kind.TheVariants as kinds
 use Rattle.mh_lex.specs.declared.kinds.Front.{Front}
 use Rattle.mh_lex.specs.declared.kinds.Front.TheVariants.{Ended, Short, Long, Fault}
-use Rattle.mh_lex.specs.Bytes.{byte_at, has, is_end, is_word_start, is_blank, is_mark}
-use Rattle.mh_lex.specs.Keywords.{is_keyword}
+use Rattle.mh_lex_bytes.specs.Bytes.{byte_at, has, is_end, is_word_start, is_blank, is_mark}
+use Rattle.mh_lex_bytes.specs.Keywords.{is_keyword}
 use Rattle.mh_lex.specs.Spellings.{word_rest, string_rest}
 use Rattle.mh_lex.specs.Steps.{begins_comment}
 
@@ -47,10 +47,3 @@ front s =
     (cond (has s 0 123) (Long (Some kinds.Action) ends.Brace 1)
     (cond (has s 0 60) (Long (Some kinds.TypeText) ends.Angle 1)
     (cond (has s 0 91 && has s 1 64) (Long (Some kinds.Attribute) ends.Bracket 2) Fault))))))))))
-
--- lengths are above 0 and within so many bytes
-abbrev pub Begins : ℕ → Front → Type 0
-Begins len Ended = Unit {0}
-Begins len (Short what n) = (0 < n) × (n ≤ len)
-Begins len (Long what e n) = (0 < n) × (n ≤ len)
-Begins len Fault = Unit {0}

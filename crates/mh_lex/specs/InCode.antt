@@ -5,7 +5,7 @@ use Rattle.std.specs.List.{AllByRecursion}
 use Rattle.mh_lex.specs.declared.kinds.Kind.{Kind}
 use Rattle.mh_lex.specs.declared.kinds.Kind.TheVariants as kinds
 use Rattle.mh_lex.specs.declared.kinds.Lexeme.{Lexeme}
-use Rattle.mh_lex.specs.Bytes.{is_word_start, is_word_byte, is_decimal, is_octal, is_hexadecimal, is_id_byte, is_escape}
+use Rattle.mh_lex_bytes.specs.Bytes.{is_word_start, is_word_byte, is_decimal, is_octal, is_hexadecimal, is_id_byte, is_escape}
 use Rattle.mh_lex.specs.Texts.{bytes_of}
 
 -- what stands between the quotes of a string: a backslash takes the next byte with it

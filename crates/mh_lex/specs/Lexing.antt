@@ -2,14 +2,12 @@
 use Rattle.std.specs.Prelude.{◌≡◌, ◌≢◌, ℕ, suc, ◌-◌, ◌<◌, ◌≤◌, List, [], ◌∷◌, ◌++◌, length, Option, Some, None, drop, Result, Ok, Err}
 use Rattle.mh_lex.specs.declared.kinds.SyntaxFault.{SyntaxFault}
 use Rattle.mh_lex.specs.declared.kinds.SyntaxFault.TheVariants.{Syntax, Memory}
-use Rattle.mh_lex_bytes.specs.declared.code.Ends.{Ends}
+use Rattle.mh_lex.specs.declared.code.Ends.{Ends}
 use Rattle.mh_lex.specs.declared.kinds.Kind.{Kind}
 use Rattle.mh_lex.specs.declared.kinds.Kind.TheVariants as kinds
 use Rattle.mh_lex.specs.declared.kinds.Lexeme.{Lexeme}
 use Rattle.mh_lex.specs.declared.kinds.Front.TheVariants.{Ended, Short, Long}
-use Rattle.mh_lex.specs.declared.kinds.Taking.{Taking}
-use Rattle.mh_lex.specs.declared.kinds.Taking.TheVariants as takings
-pub use Rattle.mh_lex_bytes.specs.Lines.{line_at}
+use Rattle.mh_lex_bytes.specs.Lines.{line_at}
 use Rattle.mh_lex.specs.Begins.{front}
 use Rattle.mh_lex.specs.Bodies.{Body}
 
@@ -62,12 +60,6 @@ Rises low high (l ∷ ls) = (low ≤ l.start) × (l.start < l.end) × Rises l.en
 -- it is not empty, and ends within so many bytes
 abbrev pub IsWithin : ℕ → Lexeme → Type 0
 IsWithin size l = (l.start < l.end) × (l.end ≤ size)
-
--- what one step over the bytes at a place finds
-abbrev pub Finds : List ℕ → ℕ → Taking → Type 0
-Finds bytes at takings.Ended = front (drop at bytes) ≡ Ended
-Finds bytes at (takings.Piece what end) = (at < end) × (end ≤ length bytes) × Taken (drop at bytes) what (drop end bytes)
-Finds bytes at takings.Fault = (front (drop at bytes) ≢ Ended) × ((what : Option Kind) (rest : List ℕ) → Taken (drop at bytes) what rest → ⊥)
 
 -- the line of the first fault
 abbrev pub Refuses : {X : Type 0} → List ℕ → Result X SyntaxFault → Type 0

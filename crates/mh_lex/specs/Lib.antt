@@ -1,10 +1,8 @@
-pub mod Bytes
-pub mod Words
 pub mod Spellings
 pub mod Steps
 pub mod Bodies
-pub mod Keywords
 pub mod Begins
 pub mod Lexing
 pub mod Texts
 pub mod InCode
+pub mod code

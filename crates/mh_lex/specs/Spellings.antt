@@ -2,7 +2,7 @@
 -- project's profile where it takes less.
 use Rattle.std.specs.Prelude.{ℕ, ◌+◌, ◌-◌, ◌==◌, ◌&&◌, ◌||◌, Bool, cond, not, List, [], ◌∷◌, length, Option, Some, None, drop, take, nat_eq}
 use Rattle.std.specs.List.{starts_with}
-use Rattle.mh_lex.specs.Bytes.{byte_at, has, is_word_byte, is_id_byte, is_escape, is_decimal, is_octal, is_hexadecimal}
+use Rattle.mh_lex_bytes.specs.Bytes.{byte_at, has, is_word_byte, is_id_byte, is_escape, is_decimal, is_octal, is_hexadecimal}
 
 -- one byte more
 abbrev pub more : Option ℕ → Option ℕ

@@ -1,13 +1,21 @@
 -- What stands at the front inside of code, comments and types. Source: this project's profile; the Menhir manual leaves
 -- what is in actions to OCaml.
-use Rattle.std.specs.Prelude.{ℕ, zero, suc, ◌+◌, ◌<◌, ◌≤◌, ◌&&◌, Bool, false, cond, List, Option, Some, None, drop, nat_lt}
-use Rattle.mh_lex_bytes.specs.declared.code.Ends.{Ends}
-use Rattle.mh_lex_bytes.specs.declared.code.Ends.TheVariants.{Comment, Brace, Bracket, Header, Angle, Slash}
-use Rattle.mh_lex_bytes.specs.declared.code.Step.{Step}
-use Rattle.mh_lex_bytes.specs.declared.code.Step.TheVariants.{Closes, Passes, Nests, Remark, Stuck}
-pub use Rattle.mh_lex_bytes.specs.Code.{has_remarks}
-use Rattle.mh_lex.specs.Bytes.{byte_at, has, is_end, is_word_start}
+use Rattle.std.specs.Prelude.{ℕ, ◌+◌, ◌&&◌, Bool, true, false, cond, List, Option, Some, None, drop, nat_lt}
+use Rattle.mh_lex.specs.declared.code.Ends.{Ends}
+use Rattle.mh_lex.specs.declared.code.Ends.TheVariants.{Comment, Brace, Bracket, Header, Angle, Slash}
+use Rattle.mh_lex.specs.declared.code.Step.{Step}
+use Rattle.mh_lex.specs.declared.code.Step.TheVariants.{Closes, Passes, Nests, Remark, Stuck}
+use Rattle.mh_lex_bytes.specs.Bytes.{byte_at, has, begins_arrow, is_end, is_word_start}
 use Rattle.mh_lex.specs.Spellings.{string_rest, word_rest, literal, quoted_opening, quoted_id, quoted_rest}
+
+-- a comment inside is passed over whole
+abbrev pub has_remarks : Ends → Bool
+has_remarks Comment = true
+has_remarks Brace = true
+has_remarks Bracket = true
+has_remarks Header = true
+has_remarks Angle = true
+has_remarks Slash = false
 
 -- over an opening of so many bytes and what follows up to its end, where it has one
 abbrev pub passed : ℕ → Option ℕ → Step
@@ -23,11 +31,6 @@ abbrev pub nests_in : Ends → List ℕ → Bool
 nests_in Brace s = has s 0 123
 nests_in Bracket s = has s 0 91
 nests_in _ s = false
-
--- the innermost level, where so many comments are open inside of the code
-abbrev pub innermost_of : Ends → ℕ → Ends
-innermost_of code zero = code
-innermost_of code (suc remarks) = Comment
 
 -- a single byte
 abbrev pub single : Ends → List ℕ → Step
@@ -48,7 +51,7 @@ plain Comment s = item Comment s
 plain Brace s = item Brace s
 plain Bracket s = item Bracket s
 plain Header s = item Header s
-plain Angle s = cond (has s 0 45 && has s 1 62) (Passes 2) (single Angle s)
+plain Angle s = cond (begins_arrow s) (Passes 2) (single Angle s)
 plain Slash s = single Slash s
 
 -- the length of what closes the code: *) } ] %} > */, 0 where it does not stand here
@@ -60,19 +63,7 @@ closer Header s = cond (has s 0 37 && has s 1 125) 2 0
 closer Angle s = cond (has s 0 62) 1 0
 closer Slash s = cond (has s 0 42 && has s 1 47) 2 0
 
--- where nothing closes a comment comes first
-abbrev pub opened : Ends → List ℕ → Step
-opened e s = cond (has_remarks e && begins_comment s) Remark (plain e s)
-
 -- What closes comes first, then a comment, then what is passed over or nests.
 unfoldable pub step : Ends → List ℕ → Step
 step e s = cond (nat_lt 0 (closer e s)) (Closes (closer e s))
     (cond (has_remarks e && begins_comment s) Remark (plain e s))
-
--- a length that is within so many bytes, and above 0
-abbrev pub Within : ℕ → Step → Type 0
-Within len (Closes n) = (0 < n) × (n ≤ len)
-Within len (Passes n) = (0 < n) × (n ≤ len)
-Within len Nests = 1 ≤ len
-Within len Remark = 2 ≤ len
-Within len Stuck = Unit {0}

@@ -4,8 +4,8 @@ use Rattle.std.specs.List.{AllByRecursion}
 use Rattle.mh_lex.specs.declared.kinds.Kind.{Kind}
 use Rattle.mh_lex.specs.declared.kinds.Kind.TheVariants as kinds
 use Rattle.mh_lex.specs.declared.kinds.Lexeme.{Lexeme}
-use Rattle.mh_lex.specs.Bytes.{is_word_start, is_word_byte, is_mark, is_decimal}
-use Rattle.mh_lex.specs.Keywords.{is_keyword}
+use Rattle.mh_lex_bytes.specs.Bytes.{is_word_start, is_word_byte, is_mark, is_decimal}
+use Rattle.mh_lex_bytes.specs.Keywords.{is_keyword}
 
 -- between the quotes of a string: no free quote, and no backslash at the end that would take the closing one
 abbrev pub is_content : Bool → List ℕ → Bool

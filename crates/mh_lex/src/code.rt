@@ -1,15 +1,48 @@
 //! Code, comments and types, up to what closes them.
 ghost use Rattle.std.specs.Prelude.{◌≡◌, ◌-◌, ◌<◌, ◌≤◌, ℕ, length, drop, List, IfSome, IfNone, IsTrue};
 ghost use Rattle.std.specs.Option.{unwrap_or};
-ghost use Rattle.mh_lex.specs.Bytes.{byte_at, is_word_start};
+ghost use Rattle.mh_lex_bytes.specs.Bytes.{byte_at, is_word_start};
 ghost use Rattle.mh_lex.specs.Spellings.{quoted_id, quoted_rest};
 ghost use Rattle.mh_lex.specs.Bodies.{Body};
-ghost use Rattle.mh_lex.specs.Steps.{begins_comment, passed, nests_in, innermost_of, single, item, plain, closer, opened, step, Within};
+ghost use Rattle.mh_lex.specs.Steps.{begins_comment, passed, nests_in, single, item, plain, closer, step};
+ghost use Rattle.mh_lex.specs.code.Finding.{innermost_of, opened, Within};
 
 use crate::items::{
-    literal_length, quoted_length, quoted_opening_length, starts_word, string_length, word_length,
+    literal_length, quoted_length, quoted_opening_length, string_length, word_length,
 };
-use mh_lex_bytes::{Ends, Step, has_byte, passes_arrow, reads_items, remark_in};
+use mh_lex_bytes::{has_byte, starts_arrow, starts_word};
+
+/// What closes a stretch of code, a comment or a type.
+#[derive(Clone, Copy, Drop)]
+pub enum Ends {
+    /// `*)`
+    Comment,
+    /// `}`
+    Brace,
+    /// `]`
+    Bracket,
+    /// `%}`
+    Header,
+    /// `>`
+    Angle,
+    /// `*/`
+    Slash,
+}
+
+/// What stands at the front inside of code, with its length.
+#[derive(Clone, Copy, Drop)]
+pub enum Step {
+    /// What closes this level of the code.
+    Closes(usize),
+    /// What is passed over whole.
+    Passes(usize),
+    /// One byte, behind which a level inside begins.
+    Nests,
+    /// The two bytes that open a comment.
+    Remark,
+    /// Nothing to go on with: the bytes end here, or a string begins that is not closed.
+    Stuck,
+}
 
 /// Whether a comment begins here.
 pub(crate) fn starts_comment(rest: &[u8]) -> bool
@@ -96,12 +129,14 @@ fn plain_step(ends: Ends, rest: &[u8]) -> Step
     ensures value { result ≡ plain ends rest.now }
     ensures within { Within (length rest.now) result }
 {
-    if reads_items(ends) {
-        item_at(ends, rest)
-    } else if passes_arrow(ends, rest) {
-        Step::Passes(2)
-    } else {
-        single_step(ends, rest)
+    match ends {
+        Ends::Comment | Ends::Brace | Ends::Bracket | Ends::Header => item_at(ends, rest),
+        Ends::Angle => if starts_arrow(rest) {
+            Step::Passes(2)
+        } else {
+            single_step(ends, rest)
+        },
+        Ends::Slash => single_step(ends, rest),
     }
 }
 
@@ -149,9 +184,10 @@ fn open_step(ends: Ends, rest: &[u8]) -> Step
     ensures value { result ≡ opened ends rest.now }
     ensures within { Within (length rest.now) result }
 {
-    match remark_in(ends, starts_comment(rest)) {
-        Some(remark) => remark,
-        None => plain_step(ends, rest),
+    if !matches!(ends, Ends::Slash) && starts_comment(rest) {
+        Step::Remark
+    } else {
+        plain_step(ends, rest)
     }
 }
 

@@ -1,13 +1,13 @@
 //! What begins a lexeme.
 ghost use Rattle.std.specs.Prelude.{◌≡◌, ◌+◌, ◌-◌, ◌<◌, ◌≤◌, length, drop};
-ghost use Rattle.mh_lex.specs.Bytes.{is_mark};
-ghost use Rattle.mh_lex.specs.Keywords.{is_keyword};
-ghost use Rattle.mh_lex.specs.Begins.{line_rest, keyword_of, percent, slash, front, Begins};
+ghost use Rattle.mh_lex_bytes.specs.Bytes.{is_mark};
+ghost use Rattle.mh_lex.specs.Begins.{line_rest, keyword_of, percent, slash, front};
+ghost use Rattle.mh_lex.specs.code.Finding.{Begins};
 
-use crate::code::starts_comment;
-use crate::items::{starts_word, string_length, word_length};
+use crate::code::{Ends, starts_comment};
+use crate::items::{string_length, word_length};
 use crate::kinds::{Front, Kind};
-use mh_lex_bytes::{Ends, has_byte, is_blank_byte, keyword_of as keyword_named};
+use mh_lex_bytes::{has_byte, is_blank_byte, keyword_of as keyword_named, starts_word};
 
 fn is_mark_byte(byte: u8) -> bool
     ensures { result ≡ is_mark byte }
@@ -39,13 +39,6 @@ fn line_length(rest: &[u8]) -> usize
     length
 }
 
-/// Whether this word may stand behind a percent sign.
-fn is_keyword_text(word: &[u8]) -> bool
-    ensures { result ≡ is_keyword word.now }
-{
-    keyword_named(word).is_some()
-}
-
 /// The keyword of which this is the word behind its percent sign.
 #[tactic(auto, unfolding(crate::specs::Begins::keyword_of))]
 fn keyword_at(behind: &[u8]) -> Front
@@ -53,7 +46,7 @@ fn keyword_at(behind: &[u8]) -> Front
     ensures within { Begins (length behind.now + 1) result }
 {
     let length = word_length(behind);
-    if is_keyword_text(&behind[..length]) {
+    if keyword_named(&behind[..length]).is_some() {
         Front::Short(Some(Kind::Keyword), length + 1)
     } else {
         Front::Fault

@@ -1,22 +1,10 @@
 //! Words, strings, quoted strings and character literals.
-ghost use Rattle.std.specs.Prelude.{◌≡◌, ◌+◌, ◌<◌, ◌≤◌, ◌==◌, ◌&&◌, false, length, drop, IfSome, IsTrue};
+ghost use Rattle.std.specs.Prelude.{◌≡◌, ◌+◌, ◌<◌, ◌≤◌, ◌==◌, ◌&&◌, false, not, length, drop, IfSome, IsTrue};
 ghost use Rattle.std.specs.Option.{unwrap_or};
-ghost use Rattle.mh_lex.specs.Bytes.{byte_at, is_word_start, is_word_byte, is_decimal, is_octal, is_hexadecimal, is_id_byte, is_escape};
+ghost use Rattle.mh_lex_bytes.specs.Bytes.{byte_at, is_decimal, is_octal, is_hexadecimal, is_id_byte, is_escape};
 ghost use Rattle.mh_lex.specs.Spellings.{word_rest, string_rest, id_rest, quoted_opening, closes_quoted, quoted_rest, escaped, literal};
 
-use mh_lex_bytes::{has_byte, is_free};
-
-pub(crate) fn starts_word(byte: u8) -> bool
-    ensures { result ≡ is_word_start byte }
-{
-    byte.is_ascii_alphabetic() || byte == b'_'
-}
-
-pub(crate) fn continues_word(byte: u8) -> bool
-    ensures { result ≡ is_word_byte byte }
-{
-    starts_word(byte) || byte.is_ascii_digit() || byte == b'\''
-}
+use mh_lex_bytes::{continues_word, has_byte};
 
 fn continues_id(byte: u8) -> bool
     ensures { result ≡ is_id_byte byte }
@@ -39,6 +27,13 @@ pub(crate) fn word_length(rest: &[u8]) -> usize
     length
 }
 
+/// Whether this is the wanted byte, and no backslash before it escapes it.
+fn is_unescaped(escaped: bool, byte: u8, wanted: u8) -> bool
+    ensures { result ≡ (not escaped && byte == wanted) }
+{
+    !escaped && byte == wanted
+}
+
 /// How many bytes there are up to and with a string's closing quote.
 #[tactic(auto, using(crate::proofs::Sums::plus_more))]
 pub(crate) fn string_length(rest: &[u8]) -> Option<usize>
@@ -47,10 +42,10 @@ pub(crate) fn string_length(rest: &[u8]) -> Option<usize>
 {
     let mut taken = false;
     for (place, byte) in rest.iter().enumerate() {
-        if is_free(taken, *byte, b'"') {
+        if is_unescaped(taken, *byte, b'"') {
             return Some(place + 1);
         }
-        taken = is_free(taken, *byte, b'\\');
+        taken = is_unescaped(taken, *byte, b'\\');
     }
     None
 }

@@ -2,7 +2,7 @@
 ghost use Rattle.std.specs.Prelude.{◌≡◌};
 ghost use Rattle.mh_lex.specs.declared.kinds.SyntaxFault.TheVariants.{Memory};
 
-use mh_lex_bytes::Ends;
+use crate::code::Ends;
 use std::alloc::AllocError;
 use thiserror::Error;
 

@@ -3,12 +3,13 @@ ghost use Rattle.std.specs.Prelude.{◌≡◌, ℕ, List, ◌-◌, ◌<◌, ◌�
 ghost use Rattle.std.specs.List.{All};
 ghost use Rattle.mh_lex.specs.declared.kinds.Lexeme.{Lexeme};
 ghost use Rattle.mh_lex.specs.Bodies.{Body};
-ghost use Rattle.mh_lex.specs.Lexing.{Lexes, Finds, Rises, IsWithin, left_after, piece, Refuses};
+ghost use Rattle.mh_lex.specs.Lexing.{Lexes, Rises, IsWithin, left_after, piece, Refuses};
+ghost use Rattle.mh_lex.specs.code.Finding.{Finds};
 
-use crate::code::code_length;
+use crate::code::{Ends, code_length};
 use crate::fronts::front_from;
 use crate::kinds::{Front, Kind, Lexeme, SyntaxFault, Taking};
-use mh_lex_bytes::{Ends, line_of};
+use mh_lex_bytes::line_of;
 use std::alloc::{AllocError, Global};
 
 /// How many bytes there are from a place up to what closes the code.

@@ -1,4 +1,4 @@
--- The rows of keywords.
+-- Words, and the rows of keywords.
 use Rattle.std.proofs.Common.{◌≡◌, ℕ, ◌==◌, ◌&&◌, ◌||◌, Bool, true, false, not, List, [], ◌∷◌, Option, Some, None, refl, sym, subst, ◌∙◌}
 use Rattle.std.specs.Prelude.{is_some, if◌then◌else◌}
 use Rattle.std.specs.List.{list_all}
@@ -10,7 +10,11 @@ use Rattle.mh_lex_bytes.specs.declared.keywords.Keyword.{Keyword}
 use Rattle.mh_lex_bytes.specs.declared.keywords.Keyword.TheVariants.{Token, Start, «Type», Left, Right, Nonassoc, OnErrorReduce, Parameter, Attribute, Public, Inline, Prec}
 use Rattle.mh_lex_bytes.specs.declared.keywords.Row.{Row}
 use Rattle.mh_lex_bytes.specs.Keywords.{keywords, keyword_among, keyword_named, is_keyword}
+use Rattle.mh_lex_bytes.specs.Bytes.{is_word_start, is_word_byte}
 use Rattle.mh_lex_bytes.specs.Words.{is_word}
+
+pub start_is_byte : (b : ℕ) → is_word_start b ≡ true → is_word_byte b ≡ true
+start_is_byte b h = rw h refl
 
 -- each is a word
 word_among : (rows : List (Row (List ℕ))) (w : List ℕ) → list_all (λ row. is_word row.word) rows ≡ true → is_some (keyword_among rows w) ≡ true → is_word w ≡ true

@@ -1,8 +1,8 @@
-//! Bytes at places.
-ghost use Rattle.std.specs.Prelude.{◌≡◌, ◌≤◌, ◌<◌, ◌==◌, ◌&&◌, not, length, IsTrue};
-ghost use Rattle.mh_lex_bytes.specs.Bytes.{has, begins_arrow, is_blank};
+//! The classes of bytes, and which byte is at a place.
+ghost use Rattle.std.specs.Prelude.{◌≡◌, ◌<◌, ◌≤◌, length, IsTrue};
+ghost use Rattle.mh_lex_bytes.specs.Bytes.{has, begins_arrow, is_blank, is_word_start, is_word_byte};
 
-/// Whether this byte stands at a place.
+/// Whether this byte is at a place.
 pub fn has_byte(rest: &[u8], place: usize, byte: u8) -> bool
     ensures value { result ≡ has rest.now place byte }
     ensures within { IsTrue result → place < length rest.now }
@@ -14,18 +14,11 @@ pub fn has_byte(rest: &[u8], place: usize, byte: u8) -> bool
 }
 
 /// Whether an arrow begins here.
-pub(crate) fn starts_arrow(rest: &[u8]) -> bool
+pub fn starts_arrow(rest: &[u8]) -> bool
     ensures value { result ≡ begins_arrow rest.now }
     ensures within { IsTrue result → 2 ≤ length rest.now }
 {
     has_byte(rest, 0, b'-') && has_byte(rest, 1, b'>')
-}
-
-/// Whether this is the wanted byte, not taken by a backslash.
-pub fn is_free(taken: bool, byte: u8, wanted: u8) -> bool
-    ensures { result ≡ (not taken && byte == wanted) }
-{
-    if taken { false } else { byte == wanted }
 }
 
 /// Whether a byte is a space, a tab, a line feed, a carriage return or a form feed.
@@ -33,4 +26,18 @@ pub fn is_blank_byte(byte: u8) -> bool
     ensures { result ≡ is_blank byte }
 {
     byte == b' ' || byte == b'\t' || byte == b'\n' || byte == b'\r' || byte == b'\x0c'
+}
+
+/// Whether a word may begin with this byte: a letter or `_`.
+pub fn starts_word(byte: u8) -> bool
+    ensures { result ≡ is_word_start byte }
+{
+    byte.is_ascii_alphabetic() || byte == b'_'
+}
+
+/// Whether a word may go on with this byte: a letter, a digit, `_` or `'`.
+pub fn continues_word(byte: u8) -> bool
+    ensures { result ≡ is_word_byte byte }
+{
+    starts_word(byte) || byte.is_ascii_digit() || byte == b'\''
 }

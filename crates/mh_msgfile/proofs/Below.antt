@@ -1,20 +1,19 @@
 -- A sentence that is read is one of the grammar: its start and its tokens are known.
 use Rattle.std.proofs.Common.{◌≡◌, ◌<◌, ◌+◌, ℕ, zero, suc, Bool, true, false, List, [], ◌∷◌, length, Option, None, Some, refl, sym, ◌∙◌, ap, ap₂, subst, if◌then◌else◌, arith, take, drop, nat_lt, Result, Ok, Err, append-nil, Bor}
-use Rattle.std.specs.Prelude.{is_ok}
 use Rattle.std.proofs.lemmas.List.{length-map}
 use Rattle.std.proofs.lemmas.Option.{none-some}
 use Rattle.std.proofs.lemmas.List.Elements.{recursion_from_All}
 use Rattle.std.specs.List.{list_all, position_from, All, AllByRecursion}
 use Rattle.std.specs.Str.{bytes_eq}
-use Rattle.mh_lex.specs.Words.{is_word}
+use Rattle.mh_lex_bytes.specs.Words.{is_word}
 use Rattle.mh_grammar.specs.declared.types.Sentence.{Sentence}
 use Rattle.mh_grammar.specs.declared.types.Grammar.{Grammar}
 use Rattle.mh_grammar.specs.Plain.{PlainGrammar, plain_of}
 use Rattle.mh_grammar.specs.Text.{Text}
-use Rattle.mh_msgfile.specs.Sentences.{Vocabulary, vocabulary_of, token_names, start_name, start_names, TokensFound, Tokens, Unknown, StartFound, StartIs, NoSuchStart, NoStart, IsSentence, IsUnreadable, put_token, number_of, only_one, tokens_of, start_or, only_or, start_by, with_start, sole, colon_place, pieces, sentence_from, sentence_behind, sentence_in, AreTokens, FindsStart, IsUnknownToken, NamesUnknown, PutsSentence, behind_unknown}
+use Rattle.mh_msgfile.specs.code.LineSteps.{FindsStart, AreTokens, IsUnknownToken, behind_unknown, PutsSentence}
+use Rattle.mh_msgfile.specs.Sentences.{Vocabulary, vocabulary_of, token_names, start_name, start_names, TokensFound, Tokens, Unknown, StartFound, StartIs, NoSuchStart, NoStart, IsSentence, IsUnreadable, put_token, number_of, only_one, tokens_of, start_or, only_or, start_by, with_start, sole, colon_place, pieces, sentence_from, sentence_behind, sentence_in, NamesUnknown}
 use Rattle.mh_msgfile.specs.declared.sentence.SentenceFault.{SentenceFault}
 use Rattle.mh_msgfile.specs.declared.sentence.SentenceFault.TheVariants as faults
-use Rattle.mh_msgfile.specs.First.{told_name}
 
 -- ---- its tokens are those of the grammar
 
@@ -149,15 +148,11 @@ tokens_by v line rest tokens (Some name) none names so_far = (names ∙ ap (list
 from_names : (v : Vocabulary) (start : Option Text) (line : Text) (starts : StartFound) (found : TokensFound) → list_all is_word (pieces line) ≡ true → start_by v start ≡ starts → tokens_of v (pieces line) ≡ found → sentence_from v start line ≡ with_start starts found
 from_names v start line starts found names at are = ap (λ (b : Bool). if b then with_start (start_by v start) (tokens_of v (pieces line)) else IsUnreadable) names ∙ ap₂ with_start at are
 
--- the number of the start of a line, or its first fault
-put_known : (v : Vocabulary) (start : Option Text) (line : Text) (tokens : List ℕ) (found : Result ℕ SentenceFault) → list_all is_word (pieces line) ≡ true → tokens_of v (pieces line) ≡ Tokens tokens → FindsStart (start_by v start) found
-    → PutsSentence (sentence_from v start line) tokens found
-put_known v start line tokens (Ok number) names are finds = from_names v start line (StartIs number) (Tokens tokens) names finds are
-put_known v start line tokens (Err (faults.UnknownStart name)) names are finds = from_names v start line (NoSuchStart name) (Tokens tokens) names finds are
-put_known v start line tokens (Err faults.MissingStart) names are finds = from_names v start line NoStart (Tokens tokens) names finds are
-put_known v start line tokens (Err faults.Memory) names are finds = tt
-put_known v start line tokens (Err faults.Unreadable) names are finds = absurd finds
-put_known v start line tokens (Err (faults.UnknownToken name)) names are finds = absurd finds
+-- the start of a line is found, and all its names are tokens
+pub sentence_found : (v : Vocabulary) (start : Option Text) (line : Text) (tokens : List ℕ) (unknown : Option (Bor Text)) (number : ℕ) → AreTokens v line tokens (Ok unknown) → unknown ≡ None → FindsStart (start_by v start) (Ok number)
+    → PutsSentence (sentence_from v start line) tokens (Ok number)
+sentence_found v start line tokens None number are is finds = from_names v start line (StartIs number) (Tokens tokens) are.0 finds are.1
+sentence_found v start line tokens (Some name) number are is finds = let no : Some name ≡ None = is in cc
 
 put_lacks : (v : Vocabulary) (start : Option Text) (line : Text) (tokens : List ℕ) (fault : SentenceFault) → list_all is_word (pieces line) ≡ true → FindsStart (start_by v start) (Err fault) → PutsSentence (sentence_from v start line) tokens (Err fault)
 put_lacks v start line tokens (faults.UnknownStart name) names finds = from_names v start line (NoSuchStart name) (tokens_of v (pieces line)) names finds refl
@@ -166,12 +161,11 @@ put_lacks v start line tokens faults.Memory names finds = tt
 put_lacks v start line tokens faults.Unreadable names finds = absurd finds
 put_lacks v start line tokens (faults.UnknownToken name) names finds = absurd finds
 
--- no name is told to be no token's
-pub put_none : (v : Vocabulary) (start : Option Text) (line : Text) (tokens : List ℕ) (unknown told : Option (Bor Text)) (found : Result ℕ SentenceFault) (has : Bool) → AreTokens v line tokens (Ok unknown) → FindsStart (start_by v start) found → has ≡ is_ok found
-    → told ≡ told_name has unknown → told ≡ None → PutsSentence (sentence_from v start line) tokens found
-put_none v start line tokens None told found has are finds at is none = put_known v start line tokens found are.0 are.1 finds
-put_none v start line tokens (Some name) told (Err fault) has are finds at is none = put_lacks v start line tokens fault are.0 finds
-put_none v start line tokens (Some name) told (Ok number) has are finds at is none = let no : Some name ≡ None = sym (is ∙ ap (λ (b : Bool). told_name b (Some name)) at) ∙ none in cc
+-- the start of a line is not found
+pub start_refused : (v : Vocabulary) (start : Option Text) (line : Text) (tokens : List ℕ) (unknown : Option (Bor Text)) (fault : SentenceFault) → AreTokens v line tokens (Ok unknown) → FindsStart (start_by v start) (Err fault)
+    → PutsSentence (sentence_from v start line) tokens (Err fault)
+start_refused v start line tokens None fault are finds = put_lacks v start line tokens fault are.0 finds
+start_refused v start line tokens (Some name) fault are finds = put_lacks v start line tokens fault are.0 finds
 
 unknown_told : (v : Vocabulary) (start : Option Text) (line name : Text) (tokens : List ℕ) (number : ℕ) (fault : SentenceFault) → list_all is_word (pieces line) ≡ true → tokens_of v (pieces line) ≡ Unknown name → start_by v start ≡ StartIs number
     → IsUnknownToken name fault → PutsSentence (sentence_from v start line) tokens (Err fault)
@@ -181,12 +175,11 @@ unknown_told v start line name tokens number faults.Unreadable names are finds i
 unknown_told v start line name tokens number (faults.UnknownStart other) names are finds is = absurd is
 unknown_told v start line name tokens number faults.MissingStart names are finds is = absurd is
 
--- this one is
-pub put_unknown : (v : Vocabulary) (start : Option Text) (line : Text) (tokens : List ℕ) (unknown told : Option (Bor Text)) (found : Result ℕ SentenceFault) (has : Bool) (name : Bor Text) (fault : SentenceFault) → AreTokens v line tokens (Ok unknown)
-    → FindsStart (start_by v start) found → has ≡ is_ok found → told ≡ told_name has unknown → told ≡ Some name → IsUnknownToken name.now fault → PutsSentence (sentence_from v start line) tokens (Err fault)
-put_unknown v start line tokens unknown told (Err other) has name fault are finds at is some unknown_is = let no : None ≡ Some name = sym (is ∙ ap (λ (b : Bool). told_name b unknown) at) ∙ some in cc
-put_unknown v start line tokens None told (Ok number) has name fault are finds at is some unknown_is = let no : None ≡ Some name = sym (is ∙ ap (λ (b : Bool). told_name b None) at) ∙ some in cc
-put_unknown v start line tokens (Some first) told (Ok number) has name fault are finds at is some unknown_is =
-    let same : Some first ≡ Some name = sym (is ∙ ap (λ (b : Bool). told_name b (Some first)) at) ∙ some in
+-- the start is found, and a name is that of no token
+pub token_refused : (v : Vocabulary) (start : Option Text) (line : Text) (tokens : List ℕ) (unknown : Option (Bor Text)) (name : Bor Text) (number : ℕ) (fault : SentenceFault) → AreTokens v line tokens (Ok unknown) → unknown ≡ Some name
+    → FindsStart (start_by v start) (Ok number) → IsUnknownToken name.now fault → PutsSentence (sentence_from v start line) tokens (Err fault)
+token_refused v start line tokens None name number fault are is finds unknown_is = let no : None ≡ Some name = is in cc
+token_refused v start line tokens (Some first) name number fault are is finds unknown_is =
+    let same : Some first ≡ Some name = is in
     let here : first ≡ name = cc in
     unknown_told v start line name.now tokens number fault are.0 (are.1 ∙ ap (λ (n : Bor Text). Unknown n.now) here) finds unknown_is

@@ -10,9 +10,9 @@ use Rattle.std.proofs.lemmas.List.Elements.{All-from_recursion}
 use Rattle.std.proofs.lemmas.Option.{slice_get-map, slice_get-get_or, slice_get_within, unwrap_or-slice_get}
 use Rattle.std.proofs.lemmas.Slice.Eq.{bytes_eq-Decides}
 use Rattle.std.proofs.Math.Seq.{take-append_seam}
-use Rattle.mh_lex.specs.Bytes.{is_word_start, is_word_byte}
-use Rattle.mh_lex.specs.Words.{is_word}
-use Rattle.mh_lex.proofs.LaidOut.{start_is_byte}
+use Rattle.mh_lex_bytes.specs.Bytes.{is_word_start, is_word_byte}
+use Rattle.mh_lex_bytes.specs.Words.{is_word}
+use Rattle.mh_lex_bytes.proofs.Rows.{start_is_byte}
 use Rattle.mh_grammar.specs.declared.types.Grammar.{Grammar}
 use Rattle.mh_grammar.specs.declared.types.TokenInfo.{TokenInfo}
 use Rattle.mh_grammar.specs.declared.types.NontermInfo.{NontermInfo}

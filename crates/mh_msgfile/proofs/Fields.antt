@@ -1,6 +1,7 @@
 -- The runs of a list between separators, one after another.
 use Rattle.std.proofs.Common.{◌≡◌, ◌+◌, ◌<◌, ◌≤◌, ℕ, Bool, true, false, List, [], ◌∷◌, length, take, drop, filter, refl, sym, ◌∙◌, ap, subst, if◌then◌else◌, arith, add-one, length-drop}
-use Rattle.mh_msgfile.specs.Sentences.{put_first, fields, has_items, runs, blank_count, piece_size}
+use Rattle.mh_msgfile.specs.code.LineSteps.{blank_count, piece_size}
+use Rattle.mh_msgfile.specs.Sentences.{put_first, fields, has_items, runs}
 
 module _ {A : Type 0} (separates : A → Bool) where
   -- the fields behind the first, where the rest begins with a separator

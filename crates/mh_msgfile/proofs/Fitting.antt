@@ -3,7 +3,7 @@ use Rattle.std.proofs.Common.{◌≡◌, ◌<◌, ◌≤◌, ◌+◌, ◌-◌, �
 use Rattle.std.specs.Prelude.{slice_index_or, Result, Ok, Err, IfOk}
 use Rattle.std.specs.List.{list_all, AllByRecursion}
 use Rattle.std.proofs.lemmas.List.{length-take-le}
-use Rattle.mh_lex.specs.Words.{is_word}
+use Rattle.mh_lex_bytes.specs.Words.{is_word}
 use Rattle.mh_grammar.proofs.Lists.{recursion-append}
 use Rattle.mh_grammar.specs.declared.types.Sentence.{Sentence}
 use Rattle.mh_grammar.specs.declared.types.Grammar.{Grammar}

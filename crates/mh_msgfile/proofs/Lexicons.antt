@@ -4,7 +4,8 @@ use Rattle.std.proofs.lemmas.List.{map-append, length-map, length-take-le, take_
 use Rattle.std.proofs.Math.Seq.{take-suc}
 use Rattle.mh_grammar.specs.declared.types.Grammar.{Grammar}
 use Rattle.mh_grammar.specs.declared.types.NontermInfo.{NontermInfo}
-use Rattle.mh_msgfile.specs.Sentences.{or_else, number_in, AreNumbers, PutsName, start_name}
+use Rattle.mh_msgfile.specs.code.LineSteps.{AreNumbers, or_else, PutsName}
+use Rattle.mh_msgfile.specs.Sentences.{number_in, start_name}
 use Rattle.std.specs.List.{position_from, All}
 use Rattle.std.specs.HashMap.{HashMap, UpdatesBy}
 use Rattle.std.specs.Map.{lookup, KeepsOthers}

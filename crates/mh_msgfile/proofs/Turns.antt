@@ -4,8 +4,8 @@ use Rattle.std.specs.Prelude.{Bool, true, false, Result, Ok, Err, OnOk, is_err}
 use Rattle.mh_grammar.specs.declared.types.Grammar.{Grammar}
 use Rattle.mh_grammar.specs.Text.{Text}
 use Rattle.mh_msgfile.specs.Sentences.{Vocabulary, vocabulary_of, sentence_in}
-use Rattle.mh_msgfile.specs.Messages.{AreLines, line_at, message_of, FaultFound, BadShape, fault_at, first_number, faults_of, sentences_of, faults_in, entries_in, blocks, MsgSpells, HasFault, Tells, Begins, ReadsBlock, ReadsEntries, TellsLine, TellsLast, given}
-use Rattle.mh_msgfile.specs.First.{first_fault}
+use Rattle.mh_msgfile.specs.code.FileSteps.{Begins, ReadsBlock, ReadsEntries, given, TellsLast, TellsLine}
+use Rattle.mh_msgfile.specs.Messages.{AreLines, line_at, message_of, FaultFound, BadShape, fault_at, first_number, faults_of, sentences_of, faults_in, entries_in, blocks, MsgSpells, HasFault, Tells}
 use Rattle.mh_msgfile.specs.declared.messages.Entry.{Entry}
 use Rattle.mh_msgfile.specs.declared.messages.MsgSentence.{MsgSentence}
 use Rattle.mh_msgfile.specs.declared.messages.MsgFault.{MsgFault}
@@ -40,11 +40,6 @@ module _ (v : Vocabulary) (lines : List Text) where
   last_other block fault told =
       tells fault (Begins (faults_of v lines block)) (Begins (faults_of v lines block ++ BadShape (first_number block) ∷ []))
       (λ f begins. (begins.0 ++ BadShape (first_number block) ∷ [], ap (λ (l : List FaultFound). l ++ BadShape (first_number block) ∷ []) begins.1)) told
-
-  pub last_told : (block : List ℕ) (read : Result (Unit {0}) MsgFault) (sentences : List MsgSentence) (line : ℕ) (fault : MsgFault) → ReadsBlock v lines block (given read sentences) → line ≡ first_number block
-      → fault ≡ first_fault read (faults.Shape line) → TellsLast v lines block fault
-  last_told block (Ok done) sentences line fault reads at is = subst (TellsLast v lines block) (sym is) (last_shape block line at reads.0)
-  last_told block (Err other) sentences line fault reads at is = subst (TellsLast v lines block) (sym is) (last_other block other reads)
 
   -- the turn of a block, behind which stand others
   module _ (bs rs behind : List (List ℕ)) (block : List ℕ) (first : rs ≡ block ∷ behind) (none : faults_in v lines rs ≡ faults_in v lines bs) where

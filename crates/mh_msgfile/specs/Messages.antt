@@ -104,38 +104,6 @@ abbrev pub ReadsMessages : Grammar → Text → Result MsgFile MsgFault → Type
 ReadsMessages g bytes (Ok file) = MsgSpells g bytes file
 ReadsMessages g bytes (Err fault) = Tells fault (HasFault g bytes)
 
--- a first fault, and more
-abbrev pub Begins : List FaultFound → FaultFound → Type 0
-Begins found fault = (later : List FaultFound) × (found ≡ fault ∷ later)
-
--- the sentences of a block, or its first fault
-abbrev pub ReadsBlock : Vocabulary → List Text → List ℕ → Result (List MsgSentence) MsgFault → Type 0
-ReadsBlock v lines block (Ok sentences) = (faults_of v lines block ≡ []) × (sentences ≡ sentences_of v lines block)
-ReadsBlock v lines block (Err fault) = Tells fault (Begins (faults_of v lines block))
-
--- the entries of some blocks, or their first fault
-abbrev pub ReadsEntries : Vocabulary → List Text → List (List ℕ) → Result (List Entry) MsgFault → Type 0
-ReadsEntries v lines bs (Ok entries) = (faults_in v lines bs ≡ []) × (entries ≡ entries_in v lines bs)
-ReadsEntries v lines bs (Err fault) = Tells fault (Begins (faults_in v lines bs))
-
--- what a call put in, or its fault
-abbrev pub given : {A : Type 0} → Result (Unit {0}) MsgFault → A → Result A MsgFault
-given (Ok _) put = Ok put
-given (Err fault) put = Err fault
-
--- the entry of a block and of the block behind it, or the first fault of its sentences
-abbrev pub ReadsEntry : Vocabulary → List Text → List ℕ → List ℕ → Result Entry MsgFault → Type 0
-ReadsEntry v lines block message (Ok entry) = (faults_of v lines block ≡ []) × (entry ≡ record { sentences = sentences_of v lines block; message = message_of lines message })
-ReadsEntry v lines block message (Err fault) = Tells fault (Begins (faults_of v lines block))
-
--- the first fault of a block that no message follows
-abbrev pub TellsLast : Vocabulary → List Text → List ℕ → MsgFault → Type 0
-TellsLast v lines block fault = Tells fault (Begins (faults_of v lines block ++ BadShape (first_number block) ∷ []))
-
--- the fault of a line that is no sentence
-abbrev pub TellsLine : ℕ → LineFound → MsgFault → Type 0
-TellsLine number found fault = Tells fault (λ f. fault_at number found ≡ f ∷ [])
-
 -- ---- the sentences of a grammar
 
 -- a sentence with so many starts and tokens to choose from

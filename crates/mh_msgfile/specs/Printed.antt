@@ -1,7 +1,7 @@
 -- The texts of sentences and of messages files. Source: the Menhir manual (messages files), and this project's profile.
 use Rattle.std.specs.Prelude.{◌≡◌, ◌<◌, ℕ, true, List, [], ◌∷◌, ◌++◌, length, map, flat_map}
 use Rattle.std.specs.List.{Contains}
-use Rattle.mh_lex.specs.Words.{is_word}
+use Rattle.mh_lex_bytes.specs.Words.{is_word}
 use Rattle.mh_grammar.specs.declared.types.Grammar.{Grammar}
 use Rattle.mh_grammar.specs.Names.{start_name, token_name}
 use Rattle.mh_grammar.specs.Text.{Text}

@@ -2,9 +2,9 @@
 ghost use Rattle.std.specs.Prelude.{◌≡◌, ◌≤◌, [], length, map, IfOk, OnOk};
 ghost use Rattle.mh_grammar.specs.Plain.{plain_of, IsInRange};
 ghost use Rattle.mh_grammar.specs.declared.types.TheConstants.{MAX_NUMBERED};
-ghost use Rattle.mh_msgfile.specs.Sentences.{AreNumbers, PutsName, start_names, only_one, vocabulary_of, vocabulary_in};
+ghost use Rattle.mh_msgfile.specs.code.LineSteps.{AreNumbers, PutsName};
+ghost use Rattle.mh_msgfile.specs.Sentences.{start_names, only_one, vocabulary_of, vocabulary_in};
 
-use crate::starts::only_start;
 use mh_grammar::{Grammar, Memory, Token, TokenInfo};
 use std::alloc::Global;
 use std::collections::HashMap;
@@ -66,6 +66,17 @@ fn number_starts(
         put_name(alloc, numbers, nonterminal.name.as_slice(), number as u16)?;
     }
     Ok(())
+}
+
+/// The number of a grammar's only start, where it has just one.
+fn only_start(grammar: &Grammar) -> Option<u16>
+    ensures { result ≡ only_one (start_names grammar.now) }
+{
+    if grammar.starts.len() == 1 {
+        Some(0)
+    } else {
+        None
+    }
 }
 
 impl Lexicon {

@@ -1,11 +1,7 @@
-//! What the lines of a messages file are: where they end, which are taken out and which are blank, the start of one that names
-//! none, and which of its faults is told.
-//!
 //! Sentence lines, as input lines and messages files have them, and messages files: read by the names of a grammar, and
 //! written.
 #![tactic(auto)]
 
-mod first;
 mod laws;
 mod lexicon;
 mod lines;
@@ -13,7 +9,6 @@ mod messages;
 mod pieces;
 mod printing;
 mod sentence;
-mod starts;
 
 pub use laws::{canonical_is_read, printed_again, spaced_is_read, spelled_once};
 pub use lexicon::Lexicon;

@@ -2,10 +2,11 @@
 ghost use Rattle.std.specs.Prelude.{◌≡◌, ◌<◌, ◌≤◌, ◌^◌, ◌∷◌, ◌++◌, [], length, filter, Err, IfOk, OnOk};
 ghost use Rattle.mh_grammar.specs.Plain.{plain_of, IsInRange};
 ghost use Rattle.mh_grammar.specs.declared.types.Grammar.{Grammar as Grammar'};
-ghost use Rattle.mh_msgfile.specs.Sentences.{vocabulary_in, vocabulary_of, LineFound, FirstPiece, blank_count, piece_size, runs, ReadsSentence};
-ghost use Rattle.mh_msgfile.specs.Messages.{is_kept as is_kept_number, kept_lines as kept, is_blank_line as is_blank_number, blocks, first_number, message_of as message_text, AreOf, given, ReadsMessages, ReadsBlock, ReadsEntry, TellsLast, ReadsEntries, TellsLine};
+ghost use Rattle.mh_msgfile.specs.code.LineSteps.{blank_count, piece_size};
+ghost use Rattle.mh_msgfile.specs.Sentences.{vocabulary_in, vocabulary_of, LineFound, FirstPiece, runs, ReadsSentence};
+ghost use Rattle.mh_msgfile.specs.code.FileSteps.{ReadsBlock, ReadsEntries, given, ReadsEntry, TellsLast, TellsLine};
+ghost use Rattle.mh_msgfile.specs.Messages.{is_kept as is_kept_number, kept_lines as kept, is_blank_line as is_blank_number, blocks, first_number, message_of as message_text, AreOf, ReadsMessages};
 
-use crate::first::first_fault;
 use crate::lexicon::Lexicon;
 use crate::lines::{is_blank_line, is_kept, line_at, put_lines};
 use crate::sentence::SentenceFault;
@@ -201,13 +202,17 @@ fn read_entry(
 }
 
 /// The fault of a last block of sentences, which has no message: that of its first line that is no sentence, or else its own.
+#[tactic(auto, using(crate::proofs::Turns::last_shape))]
 fn fault_of_last(alloc: Global, lexicon: &Lexicon, lines: &[Name], block: &[u32]) -> MsgFault
     ensures { TellsLast (vocabulary_in lexicon.now) lines.now block.now result }
 {
     let mut sentences = Sequence::new(alloc);
-    let read = put_sentences(alloc, lexicon, lines, block, &mut sentences);
-    let line = first_line(block);
-    first_fault(read, MsgFault::Shape { line })
+    if let Err(fault) = put_sentences(alloc, lexicon, lines, block, &mut sentences) {
+        return fault;
+    }
+    MsgFault::Shape {
+        line: first_line(block),
+    }
 }
 
 /// Puts in the entries of the blocks of these lines.

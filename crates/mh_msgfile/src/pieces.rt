@@ -1,6 +1,7 @@
 //! The pieces of a line: what stands between blanks.
 ghost use Rattle.std.specs.Prelude.{◌≡◌, ◌≤◌, length};
-ghost use Rattle.mh_msgfile.specs.Sentences.{is_blank as is_blank_byte, blank_count, piece_size, FirstPiece};
+ghost use Rattle.mh_msgfile.specs.code.LineSteps.{blank_count, piece_size};
+ghost use Rattle.mh_msgfile.specs.Sentences.{is_blank as is_blank_byte, FirstPiece};
 
 use crate::lines::is_blank;
 

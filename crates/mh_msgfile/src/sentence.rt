@@ -1,14 +1,14 @@
 //! Sentence lines: a start, which may be left out where there is one, and names of tokens.
 ghost use Rattle.std.specs.Prelude.{◌≡◌, ◌≤◌, [], length, IfOk, OnOk};
 ghost use Rattle.mh_grammar.specs.Plain.{plain_of, IsInRange};
-ghost use Rattle.mh_msgfile.specs.Sentences.{colon_place, IsSole, AreTokens, IsUnknownToken, FindsStart, name_of, start_by, vocabulary_of, vocabulary_in, sentence_in, sentence_from, PutsSentence, ReadsSentence};
+ghost use Rattle.mh_msgfile.specs.code.LineSteps.{IsSole, FindsStart, name_of, AreTokens, IsUnknownToken, PutsSentence};
+ghost use Rattle.mh_msgfile.specs.Sentences.{colon_place, start_by, vocabulary_of, vocabulary_in, sentence_in, sentence_from, ReadsSentence};
 ghost use Rattle.mh_msgfile.specs.declared.sentence.SentenceFault.TheVariants.{Memory as Memory'};
 
-use crate::first::{first_of, told_name};
 use crate::lexicon::Lexicon;
 use crate::pieces::first_piece;
 use mh_grammar::{Grammar, Memory, Name, Sentence, Sequence, Token, from_bytes};
-use mh_lex::is_word;
+use mh_lex_bytes::is_word;
 use std::alloc::{AllocError, AllocFailed, Global};
 
 /// Why a line is no sentence.
@@ -92,7 +92,7 @@ fn put_tokens<'a>(
                     return Err(SentenceFault::Memory);
                 }
             }
-            None => unknown = first_of(unknown, name),
+            None => unknown = unknown.or(Some(name)),
         }
         rest = behind;
     }
@@ -141,13 +141,13 @@ fn put_sentence(
     ensures few { OnOk result (length tokens.new.items ≤ length names.now) }
 {
     match put_tokens(tokens, lexicon, names) {
-        Ok(unknown) => {
-            let found = find_start(alloc, lexicon, start);
-            match told_name(found.is_ok(), unknown) {
+        Ok(unknown) => match find_start(alloc, lexicon, start) {
+            Ok(start) => match unknown {
                 Some(name) => Err(unknown_token(alloc, name)),
-                None => found,
-            }
-        }
+                None => Ok(start),
+            },
+            Err(fault) => Err(fault),
+        },
         Err(fault) => Err(fault),
     }
 }

@@ -4,13 +4,13 @@ use Rattle.std.proofs.lemmas.List.{at_drop_more}
 use Rattle.clap.specs.Words.{Row, Text}
 use Rattle.mh_opts.specs.declared.modes.Asked.{Asked}
 use Rattle.mh_opts.specs.declared.modes.Asked.TheVariants.{Nothing, One, Several}
-use Rattle.mh_opts.specs.Modes.{with_one, with_next, with_all}
+use Rattle.mh_opts.specs.code.Modes.{with_one, with_next, with_all}
 use Rattle.mh_opts.specs.declared.jobs.Mode.{Mode}
 use Rattle.mh_opts.specs.declared.jobs.Opt.{Opt}
 use Rattle.mh_opts.specs.declared.order.UsageFault.{UsageFault}
 use Rattle.mh_opts.specs.declared.order.UsageFault.TheVariants.{Parse, Number, NoMode, TwoModes, Misplaced, NoGrammar, Memory}
 use Rattle.mh_opts.specs.App.{plain, plain_rows}
-use Rattle.mh_opts.specs.Asking.{asked_in, only_of}
+use Rattle.mh_opts.specs.code.Asking.{asked_in, only_of}
 use Rattle.mh_opts.specs.Orders.{Answers, given, mode_at, mode_in, only}
 
 -- with some modes more

@@ -13,7 +13,7 @@ use Rattle.mh_opts.specs.declared.jobs.Opt.{Opt}
 use Rattle.mh_opts.specs.declared.jobs.TheConstants.{GRAMMARS}
 use Rattle.mh_opts.specs.Orders.{grammars_of}
 use Rattle.mh_opts.specs.Reading.{files_from, has_value}
-use Rattle.mh_opts.specs.Words.{is_end}
+use Rattle.mh_opts.specs.Twice.{is_end}
 use Rattle.mh_opts.proofs.Known.{behind, help, is_fit, known, of_files, of_option}
 use Rattle.mh_opts.proofs.Rows.{default_other, is_plain}
 use Rattle.mh_opts.proofs.Walking.{Goes, IsAwaited, back_empty, behind_end, end_goes, file_held, files_held, front_empty, is_used, one_more, option_goes, other_goes, shape_by, stands}

@@ -15,7 +15,7 @@ use Rattle.clap.proofs.WalkLemmas.{both}
 use Rattle.mh_opts.specs.declared.jobs.Opt.{Opt}
 use Rattle.mh_opts.specs.declared.jobs.TheConstants.{GRAMMARS}
 use Rattle.mh_opts.specs.Reading.{before_end, is_listed, is_use_of, times}
-use Rattle.mh_opts.specs.Words.{is_end}
+use Rattle.mh_opts.specs.Twice.{is_end}
 use Rattle.mh_opts.proofs.Known.{behind, found, is_fit, known, of_files, of_option}
 use Rattle.mh_opts.proofs.Rows.{is_plain, other_way}
 use Rattle.mh_opts.proofs.Files.{faults, walk_on}

@@ -20,7 +20,7 @@ use Rattle.mh_opts.specs.declared.twice.TheConstants.{AGAIN, ONCE, ONCE_WITH_VAL
 use Rattle.mh_opts.specs.App.{menhir_app, options}
 use Rattle.mh_opts.specs.Orders.{clashes, grammars_of, is_sample, lacks_number, misplaced_in, mode_in, needs, order_by, order_for, order_in, order_of, order_renamed, order_with, written}
 use Rattle.mh_opts.specs.Reading.{at_most, awaits, files_from, files_in, is_listed, is_option, is_use_of, times}
-use Rattle.mh_opts.specs.Words.{again, is_end, is_reserved, is_use, renamed, renamed_from, seen_after, word_with}
+use Rattle.mh_opts.specs.Twice.{again, is_end, is_reserved, is_use, renamed, renamed_from, seen_after, word_with}
 use Rattle.mh_opts.proofs.Files.{end_files, walk_files, walk_on}
 use Rattle.mh_opts.proofs.Known.{is_fit, known}
 use Rattle.mh_opts.proofs.Walking.{back_empty, front_empty, shape_by, stands}

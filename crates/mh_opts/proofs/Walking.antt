@@ -16,7 +16,7 @@ use Rattle.mh_opts.specs.declared.jobs.Opt.{Opt}
 use Rattle.mh_opts.specs.declared.jobs.TheConstants.{GRAMMARS}
 use Rattle.mh_opts.specs.Orders.{grammars_of}
 use Rattle.mh_opts.specs.Reading.{has_value, is_set}
-use Rattle.mh_opts.specs.Words.{is_end}
+use Rattle.mh_opts.specs.Twice.{is_end}
 use Rattle.mh_opts.proofs.Known.{by_id, found, found_short, help, is_fit, known, of_files, of_option}
 use Rattle.mh_opts.proofs.Rows.{is_plain, same_text, used_other, used_row, with_own, with_row}
 

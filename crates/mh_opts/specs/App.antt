@@ -3,7 +3,7 @@
 use Rattle.std.specs.Prelude.{Some, List, [], ◌∷◌, codes, map, true}
 use Rattle.clap.specs.Words.{App, Rule, Text, new_app, new_rule, with_rule}
 use Rattle.clap.specs.Simple.{on_top}
-use Rattle.mh_opts.specs.Files.{files_rule}
+use Rattle.clap.specs.declared.builder.action.ArgAction.TheVariants.{Append}
 use Rattle.mh_opts.specs.declared.jobs.Opt.{Opt}
 use Rattle.mh_opts.specs.declared.jobs.TheConstants.{GRAMMARS, OPTIONS}
 
@@ -20,9 +20,9 @@ options = plain_rows OPTIONS (λ name. name.now)
 abbrev pub option_rule : Opt Text → Rule
 option_rule option = record (new_rule option.name) { long = Some option.name; action = Some option.action }
 
--- the words that are no options
+-- the words that are no options: clap keeps all of them, in their order, under one name
 abbrev pub grammars_rule : Rule
-grammars_rule = files_rule GRAMMARS.now
+grammars_rule = record (new_rule GRAMMARS.now) { action = Some Append }
 
 -- the program's name is no word
 abbrev pub bare_app : App

@@ -1,10 +1,6 @@
-pub mod Files
-pub mod Modes
-pub mod Tables
 pub mod Twice
 pub mod App
-pub mod Asking
 pub mod Numbers
 pub mod Orders
 pub mod Reading
-pub mod Words
+pub mod code

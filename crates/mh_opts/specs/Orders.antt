@@ -4,7 +4,6 @@ use Rattle.std.specs.Prelude.{◌≡◌, ℕ, ◌++◌, is_none, Bool, true, fal
 use Rattle.clap.specs.Words.{Row, Text, all_of, first_of, fault_of, matches_of}
 use Rattle.clap.specs.Walk.{is_empty}
 use Rattle.clap.specs.Takes.{is_given}
-use Rattle.mh_opts.specs.Tables.{has_own_table}
 use Rattle.mh_opts.specs.declared.jobs.Mode.{Mode}
 use Rattle.mh_opts.specs.declared.jobs.Mode.TheVariants as mode
 use Rattle.mh_opts.specs.declared.jobs.Need.{Need}
@@ -17,7 +16,7 @@ use Rattle.mh_opts.specs.declared.order.UsageFault.{UsageFault}
 use Rattle.mh_opts.specs.declared.order.UsageFault.TheVariants.{Parse, Number, NoMode, TwoModes, Misplaced, NoGrammar, Memory}
 use Rattle.mh_opts.specs.App.{menhir_app, options}
 use Rattle.mh_opts.specs.Numbers.{number_in}
-use Rattle.mh_opts.specs.Words.{is_reserved, renamed}
+use Rattle.mh_opts.specs.Twice.{is_reserved, renamed}
 
 -- the mode of an option that stands among the words
 abbrev pub mode_at : List Row → Opt Text → Option Mode
@@ -108,9 +107,9 @@ abbrev pub is_sample : Mode → Bool
 is_sample mode.Sample = true
 is_sample mode = false
 
--- A table file is named beside the mode of a table that is to be built, or beside a sample.
+-- A table file has no meaning beside a canonical table, which is to be built, and beside a sample.
 abbrev pub clashes : List Row → Mode → Bool
-clashes rows mode = is_given TABLES.now rows && has_own_table (is_given CANONICAL.now rows) (is_sample mode)
+clashes rows mode = is_given TABLES.now rows && (is_given CANONICAL.now rows || is_sample mode)
 
 -- A sample has its own grammar; each other mode needs a grammar file.
 abbrev pub order_with : List Row → Mode → Option Text → Result Order UsageFault

@@ -11,7 +11,7 @@ use Rattle.clap.specs.declared.builder.action.ArgAction.{ArgAction}
 use Rattle.clap.specs.declared.builder.action.ArgAction.TheVariants.{Set}
 use Rattle.mh_opts.specs.declared.jobs.Opt.{Opt}
 use Rattle.mh_opts.specs.App.{options}
-use Rattle.mh_opts.specs.Words.{is_end}
+use Rattle.mh_opts.specs.Twice.{is_end}
 
 abbrev pub is_set : ArgAction → Bool
 is_set Set = true

@@ -20,12 +20,10 @@ is_use word = bytes_eq word ONCE.now || starts_with nat_eq word ONCE_WITH_VALUE.
 abbrev pub again : Text → Text
 again word = if starts_with nat_eq word ONCE.now then AGAIN.now ++ drop (length ONCE.now) word else word
 
-abbrev pub if_use : Text → Seen → Seen → Seen
-if_use word at_use else_seen = if is_end word then All else (if is_use word then at_use else else_seen)
-
+-- what the words hold of the option up to and with this one
 abbrev pub seen_after : Seen → Text → Seen
-seen_after Nothing word = if_use word One Nothing
-seen_after One word = if_use word All One
+seen_after Nothing word = if is_end word then All else (if is_use word then One else Nothing)
+seen_after One word = if is_end word then All else (if is_use word then All else One)
 seen_after All word = All
 
 abbrev pub word_with : Seen → Text → Text

@@ -3,9 +3,8 @@ ghost use Rattle.std.specs.Prelude.{◌≡◌, IfOk, false};
 ghost use Rattle.clap.specs.Words.{app_of, rule_of, with_rule};
 ghost use Rattle.mh_opts.specs.App.{bare_app, grammars_rule, menhir_app, option_rule, plain, plain_rows, with_options};
 
-use crate::alone::files;
 use crate::jobs::{GRAMMARS, Opt, options};
-use clap::{Arg, Command};
+use clap::{Arg, ArgAction, Command};
 use std::alloc::{AllocError, Global};
 
 /// The argument of an option.
@@ -32,13 +31,21 @@ fn with_all<'a>(
     Ok(command)
 }
 
+/// The argument of the words that are no options: all of them are kept, in their order.
+fn grammars<'a>(alloc: Global) -> Arg<'a>
+    ensures rule { rule_of result ≡ grammars_rule }
+    ensures local { result.global ≡ false }
+{
+    Arg::new(alloc, GRAMMARS).action(ArgAction::Append)
+}
+
 /// The command without options.
 fn bare_command<'a>(alloc: Global) -> Result<Command<'a>, AllocError>
     ensures { IfOk result (λ c. app_of c ≡ with_rule bare_app grammars_rule) }
 {
     Command::new(alloc, "menhir")
         .no_binary_name(true)
-        .arg(files(alloc, GRAMMARS))
+        .arg(grammars(alloc))
 }
 
 /// The command. Fails for want of memory alone.

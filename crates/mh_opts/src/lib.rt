@@ -1,9 +1,6 @@
-//! Which words may stand together: the option that may stand twice, how many modes, a table file beside a mode, and grammar files.
-//!
-//! The words of the command line.
+//! The words of the command line: the options and jobs, and the order that some words spell.
 #![tactic(auto)]
 
-mod alone;
 mod command;
 mod found;
 mod jobs;
@@ -11,7 +8,6 @@ mod laws;
 mod modes;
 mod numbers;
 mod order;
-mod tables;
 mod twice;
 mod words;
 

@@ -1,6 +1,6 @@
 //! How many modes the words hold.
 ghost use Rattle.std.specs.Prelude.{◌≡◌};
-ghost use Rattle.mh_opts.specs.Modes as modes;
+ghost use Rattle.mh_opts.specs.code.Modes as modes;
 
 /// The modes among some words: none, one, or several.
 pub enum Asked<M> {

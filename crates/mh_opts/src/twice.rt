@@ -43,26 +43,24 @@ fn is_use(word: &str) -> bool
     word == ONCE || begins_with(word, ONCE_WITH_VALUE)
 }
 
+/// What the words hold of the option up to and with this one.
 fn seen_after(seen: Seen, word: &str) -> Seen
     ensures { result ≡ twice.seen_after seen word.now }
 {
     match seen {
-        Seen::Nothing => if_use(word, Seen::One, seen),
-        Seen::One => if_use(word, Seen::All, seen),
-        Seen::All => seen,
-    }
-}
-
-/// The first at a use of the option, and the second at another word that does not end the options.
-fn if_use(word: &str, at_use: Seen, else_seen: Seen) -> Seen
-    ensures { result ≡ twice.if_use word.now at_use else_seen }
-{
-    if is_end(word) {
-        Seen::All
-    } else if is_use(word) {
-        at_use
-    } else {
-        else_seen
+        Seen::Nothing => if is_end(word) {
+            Seen::All
+        } else if is_use(word) {
+            Seen::One
+        } else {
+            Seen::Nothing
+        },
+        Seen::One => if is_end(word) || is_use(word) {
+            Seen::All
+        } else {
+            Seen::One
+        },
+        Seen::All => Seen::All,
     }
 }
 

@@ -3,7 +3,7 @@ ghost use Rattle.std.specs.Prelude.{◌≡◌, IfOk, Ok, not, option_map, map, s
 ghost use Rattle.clap.specs.Walk.{is_empty};
 ghost use Rattle.clap.specs.Words.{first_of, found_of, rows_of};
 ghost use Rattle.mh_opts.specs.Orders as orders;
-ghost use Rattle.mh_opts.specs.Asking.{asked_in, only_of};
+ghost use Rattle.mh_opts.specs.code.Asking.{asked_in, only_of};
 ghost use Rattle.mh_opts.specs.Orders.{Answers, grammars_of, lacks, misplaced_in, mode_at, mode_in, needs, order_in, order_of, order_renamed, plain_need, written};
 ghost use Rattle.mh_opts.specs.App.{options, plain};
 ghost use Rattle.mh_opts.specs.declared.jobs.TheConstants as constants;
@@ -16,7 +16,6 @@ use crate::jobs::{
 };
 use crate::modes::{Asked, with_next};
 use crate::order::{Order, UsageFault};
-use crate::tables::has_own_table;
 use crate::twice::{is_reserved, renamed};
 use clap::ArgMatches;
 use clap::error::ErrorKind;
@@ -170,11 +169,11 @@ fn is_sample(mode: Mode) -> bool
     matches!(mode, Mode::Sample)
 }
 
-/// Whether a table file is named where its table would not be used: it has a mode of its own, and is for a grammar that files spell.
+/// Whether a table file is named where its table would not be used: beside a canonical table, which is to be built, or a sample.
 fn clashes(matches: &ArgMatches<'_>, mode: Mode) -> bool
     ensures { result ≡ orders.clashes (rows_of (found_of matches.now)) mode }
 {
-    is_given(matches, TABLES) && has_own_table(is_given(matches, CANONICAL), is_sample(mode))
+    is_given(matches, TABLES) && (is_given(matches, CANONICAL) || is_sample(mode))
 }
 
 /// The order for a mode, where each option has a meaning and there is a grammar.

@@ -6,7 +6,8 @@ use Rattle.std.specs.declared.alloc.Global.{Global}
 use Rattle.std.proofs.lemmas.List.{nil_from_length}
 use Rattle.mh_outside.specs.declared.lines.LineFault.{LineFault}
 use Rattle.mh_outside.specs.declared.lines.LineFault.TheVariants.{Failed, TooBig, Memory}
-use Rattle.mh_outside.specs.Lines.{HasNoEnd, TakesLine, AddsByte, ReadsLine, LineCounts}
+use Rattle.mh_outside.specs.code.Bytes.{AddsByte}
+use Rattle.mh_outside.specs.Lines.{HasNoEnd, TakesLine, ReadsLine, LineCounts}
 use Rattle.mh_outside.proofs.Pieces.{Consumes-append, HasNoEnd-push, loses_byte}
 
 pub Consumes-push : (a b c : Option (List ℕ)) (line more : List ℕ) (byte : ℕ) → Consumes a b line → Consumes b c (byte ∷ []) → more ≡ line ++ byte ∷ [] → Consumes a c more

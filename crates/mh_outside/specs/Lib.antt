@@ -4,5 +4,5 @@ pub mod Shelf
 pub mod Lines
 pub mod Sink
 pub mod Fakes
-pub mod Written
 pub mod Adapters
+pub mod code

@@ -10,19 +10,6 @@ use Rattle.mh_outside.specs.Faults.{Rose}
 abbrev pub HasNoEnd : List ℕ → Type 0
 HasNoEnd = All (λ b. b ≢ 10)
 
--- what a call takes that reads a byte
-abbrev pub ReadsByte : {E : Type 0} → Option (List ℕ) → Option (List ℕ) → Result (Option ℕ) E → Type 0
-ReadsByte old new (Ok None) = IsAtEnd old × Keeps old new
-ReadsByte old new (Ok (Some b)) = Consumes old new (b ∷ [])
-ReadsByte old new (Err _) = Keeps old new
-
--- a byte was added to a line that was shorter than the limit
-abbrev pub AddsByte : {T : Type 0} → ℕ → List ℕ → List ℕ → ℕ → Result T LineFault → Type 0
-AddsByte limit old new byte (Ok _) = (new ≡ old ++ byte ∷ []) × (length old < limit)
-AddsByte limit old new byte (Err TooBig) = limit ≤ length old
-AddsByte limit old new byte (Err Memory) = length old < limit
-AddsByte limit old new byte (Err Failed) = ⊥
-
 -- a line was taken with its LF, or the last one without
 abbrev pub TakesLine : Option (List ℕ) → Option (List ℕ) → List ℕ → Type 0
 TakesLine old new line = Consumes old new (line ++ 10 ∷ []) ⊎ (Consumes old new line × IsAtEnd new × (0 < length line))

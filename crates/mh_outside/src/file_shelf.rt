@@ -2,7 +2,7 @@
 ghost use Rattle.std.specs.Prelude.{◌≡◌, ◌<◌, length, None, IfOk, vec_len, ⊤};
 ghost use Rattle.mh_outside.specs.Faults.{ShelfCounts};
 ghost use Rattle.mh_outside.specs.Shelf.{Reads};
-ghost use Rattle.mh_outside.specs.Written.{ReadsUpTo};
+ghost use Rattle.mh_outside.specs.code.Written.{ReadsUpTo};
 
 use crate::shelf::{Shelf, ShelfFault};
 use std::alloc::{AllocError, Global};

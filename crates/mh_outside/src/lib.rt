@@ -1,6 +1,5 @@
-//! The outside world: a shelf of files, a source of input and a sink of output, each with a count of its faults.
-//!
-//! The real files and streams as shelf, source and sink. They tell no content, and count each error.
+//! The outside world: a shelf of files, a source of input and a sink of output, each with a count of its faults. The fakes in
+//! memory give their content to a contract; the real files and streams give none, and count each error.
 #![tactic(auto)]
 
 mod fakes;

@@ -1,7 +1,9 @@
 //! Lines of a source, read a byte at a time.
 ghost use Rattle.std.specs.Prelude.{◌≡◌, ◌<◌, ◌^◌, List, ℕ, Option, MatchOption, length};
 ghost use Rattle.mh_outside.specs.declared.lines.LineFault.TheVariants.{Failed as Failed'};
-ghost use Rattle.mh_outside.specs.Lines.{AddsByte, ReadsByte, ReadsLine, FindsLine, LineCounts};
+ghost use Rattle.mh_outside.specs.code.Bytes.{ReadsByte};
+ghost use Rattle.mh_outside.specs.code.Bytes.{AddsByte};
+ghost use Rattle.mh_outside.specs.Lines.{ReadsLine, FindsLine, LineCounts};
 ghost use Rattle.mh_outside.specs.Faults.{Counts};
 
 use crate::source::{Failed, Source};

@@ -3,7 +3,7 @@ ghost use Rattle.std.specs.Prelude.{◌≡◌, ◌<◌, length, None, IfOk};
 ghost use Rattle.std.specs.Io.{WritesAtMost};
 ghost use Rattle.std.specs.Io.KnownBytes.{WriteAppends};
 ghost use Rattle.mh_outside.specs.Faults.{Counts};
-ghost use Rattle.mh_outside.specs.Written.{PassesOn};
+ghost use Rattle.mh_outside.specs.code.Written.{PassesOn};
 
 use crate::sink::Sink;
 use crate::source::Failed;

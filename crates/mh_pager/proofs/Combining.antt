@@ -4,9 +4,10 @@ use Rattle.std.proofs.lemmas.List.{length_push}
 use Rattle.mh_grammar.specs.Plain.{PlainGrammar}
 use Rattle.mh_items_kernels.specs.Shapes.{Kernel}
 use Rattle.mh_items_kernels.specs.Kernels.{Holds}
-use Rattle.mh_canon_states.specs.Weak.{IsJoin}
-use Rattle.mh_pager.specs.Worklist.{TakesIn, AppendsIn}
-use Rattle.mh_pager_steps.specs.Steps.{Work, Keeps, Takes, IsFirst, HasNone, Puts}
+use Rattle.mh_pager_steps.specs.Weak.{IsJoin}
+use Rattle.mh_pager.specs.code.Worklist.{TakesIn, AppendsIn}
+use Rattle.mh_pager_steps.specs.First.{IsFirst, HasNone}
+use Rattle.mh_pager_steps.specs.Steps.{Work, Keeps, Takes, Puts}
 
 pub if_ok : {A E : Type 0} {P Q : A → Type 0} (r : Result A E) → IfOk r P → ((a : A) → P a → Q a) → IfOk r Q
 if_ok (Ok a) h f = f a h

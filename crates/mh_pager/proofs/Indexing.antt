@@ -12,10 +12,11 @@ use Rattle.mh_grammar.specs.Plain.{PlainGrammar}
 use Rattle.mh_grammar.proofs.Lists.{get_left, get_last, get_cases, contains_here, contains_there, contains_cases, contains_none, contains_push, has_place, set_here, set_elsewhere, set_cases, rising-push}
 use Rattle.mh_items_kernels.specs.Shapes.{Kernel}
 use Rattle.mh_items_kernels.specs.Kernels.{Holds, IsItemList}
-use Rattle.mh_canon_states.specs.Weak.{OneCore, IsJoin}
+use Rattle.mh_pager_steps.specs.Weak.{OneCore, IsJoin}
 use Rattle.mh_pager_steps.proofs.Putting.{join_extends}
-use Rattle.mh_pager.specs.Indexed.{core_of, IsBefore, AreCandidates, Places, ArePlaced, IsGroup, IsIndexed}
-use Rattle.mh_canon_states.proofs.Choosing.{core_same}
+use Rattle.mh_pager_steps.specs.code.Cores.{core_of, IsBefore, AreCandidates}
+use Rattle.mh_pager.specs.code.Indexed.{Places, ArePlaced, IsGroup, IsIndexed}
+use Rattle.mh_pager_steps.proofs.Choosing.{core_same}
 
 -- a join has the core of what is joined
 pub joined_core : (g : PlainGrammar) (k move joined : Kernel) → IsItemList g k → IsItemList g joined → OneCore (Holds k) (Holds move) → IsJoin (Holds k) (Holds move) (Holds joined) → core_of joined ≡ core_of k

@@ -10,8 +10,9 @@ use Rattle.mh_grammar.specs.Plain.{PlainGrammar}
 use Rattle.mh_grammar.proofs.Lists.{contains_there, contains_one}
 use Rattle.mh_items_kernels.specs.Shapes.{Kernel}
 use Rattle.mh_items_kernels.specs.Kernels.{IsItemList}
-use Rattle.mh_canon_states.specs.Canonical.{targets_of}
-use Rattle.mh_pager_steps.specs.Steps.{Work, Queues, Puts, IsMoveOf, AllPut, symbols_of, IsStep, IsReady}
+use Rattle.mh_items_kernels.specs.Collection.{targets_of, edge_symbols}
+use Rattle.mh_pager_steps.specs.code.Lists.{IsReady}
+use Rattle.mh_pager_steps.specs.Steps.{Work, Queues, Puts, IsMoveOf, AllPut, IsStep}
 use Rattle.mh_pager_steps.proofs.Putting.{Came, stays, joins, fresh, came, put_length}
 
 module _ (g : PlainGrammar) (move : Kernel) (old new : Work) (n : ℕ) (valid : IsItemList g move) (ready : IsReady g old) where
@@ -62,6 +63,6 @@ taken_ready g kernels rows n queue r = record { valid = r.valid; len = r.len; qu
 pub step_ready : (g : PlainGrammar) (old new : Work) → IsStep g old new → IsReady g old → IsReady g new
 step_ready g old new s ready =
     let oldest : IsReady g (record { kernels = old.kernels; rows = old.rows; queue = s.state ∷ s.waiting }) = record { valid = ready.valid; len = ready.len; queued = λ n c. ready.queued n (rw s.oldest c) } in
-    let placed = all_put_ready g s.kernel (symbols_of s.row) (targets_of s.row) (record { kernels = old.kernels; rows = old.rows; queue = s.waiting }) s.placed s.put (taken_ready g old.kernels old.rows s.state s.waiting oldest) in
+    let placed = all_put_ready g s.kernel (edge_symbols s.row) (targets_of s.row) (record { kernels = old.kernels; rows = old.rows; queue = s.waiting }) s.placed s.put (taken_ready g old.kernels old.rows s.state s.waiting oldest) in
     let after : IsReady g (record { kernels = s.placed.kernels; rows = set s.placed.rows s.state s.row; queue = s.placed.queue }) = record { valid = placed.valid; len = length-set s.placed.rows s.state s.row ∙ placed.len; queued = placed.queued } in
     rw s.after after

@@ -10,11 +10,12 @@ use Rattle.mh_grammar.specs.ItemSets as items
 use Rattle.mh_grammar.specs.ItemSets.{AreSame, Close, Moved}
 use Rattle.mh_items_kernels.specs.Shapes.{Items, Kernel}
 use Rattle.mh_items_kernels.specs.Kernels.{Holds, IsItemList}
-use Rattle.mh_canon_states.specs.Canonical.{HasItem, targets_of}
-use Rattle.mh_items_kernels.specs.Collection.{IsBehindDot}
+use Rattle.mh_items_kernels.specs.Collection.{HasItem, targets_of}
+use Rattle.mh_items_kernels.specs.code.Moving.{IsBehindDot}
 use Rattle.mh_canon_states.proofs.Sets.{same_sym, same_trans, has_same, moved_same, place_holds}
-use Rattle.mh_pager.specs.Stepping.{RowIn, OverIn}
-use Rattle.mh_pager_steps.specs.Steps.{Work, Puts, IsMoveOf, AllPut, AreMoving, IsStep, Overruns, IsReady}
+use Rattle.mh_pager.specs.code.Stepping.{RowIn, OverIn}
+use Rattle.mh_pager_steps.specs.code.Lists.{IsReady}
+use Rattle.mh_pager_steps.specs.Steps.{Work, Puts, IsMoveOf, AllPut, AreMoving, IsStep, Overruns}
 use Rattle.mh_pager.proofs.Readying.{all_put_push, all_put_ready}
 use Rattle.mh_items_kernels.proofs.Dotted.{drop_from-slice_get}
 use Rattle.mh_canon_states.proofs.Edging.{behind_moved}

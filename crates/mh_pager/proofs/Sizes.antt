@@ -7,10 +7,9 @@ use Rattle.mh_grammar.specs.declared.types.Look.{Look}
 use Rattle.mh_grammar.specs.declared.types.Look.TheVariants.{Token, End}
 use Rattle.mh_grammar.specs.Plain.{PlainGrammar, production_count, rhs_of, IsLookBelow}
 use Rattle.mh_grammar.proofs.Lists.{contains_here, contains_there, contains_cases, contains_none, recursion_contains}
-use Rattle.mh_items_kernels.specs.Shapes.{KernelItem}
-use Rattle.mh_items_kernels.specs.Shapes.{Kernel}
+use Rattle.mh_items_kernels.specs.Shapes.{KernelItem, Kernel}
 use Rattle.mh_items_kernels.specs.Kernels.{Holds, IsKernelItem, IsItemList}
-use Rattle.mh_canon_states.specs.Weak.{Covers}
+use Rattle.mh_pager_steps.specs.Weak.{Covers}
 use Rattle.mh_pager.proofs.Sums.{sum_below, sum_le, sum_same, bit, bit_le, bit_back, bit_one}
 
 has_look : (looks : List Look) (a : Look) → Contains looks a ⊎ (Contains looks a → ⊥)

@@ -8,9 +8,10 @@ use Rattle.mh_grammar.specs.ItemSets.{Moved}
 use Rattle.mh_grammar.proofs.Lists.{all_at, contains_map}
 use Rattle.mh_items_kernels.specs.Shapes.{Items}
 use Rattle.mh_items_kernels.specs.Kernels.{Holds, IsItemList}
-use Rattle.mh_items_kernels.specs.Collection.{HasItem, IsMove}
-use Rattle.mh_items.specs.Moves.{Move, AreMoves}
-use Rattle.mh_pager.specs.Stepping.{RowIn, OverIn}
+use Rattle.mh_items_kernels.specs.code.Moving.{IsMove}
+use Rattle.mh_items_kernels.specs.Collection.{HasItem}
+use Rattle.mh_items.specs.code.Moves.{Move, AreMoves}
+use Rattle.mh_pager.specs.code.Stepping.{RowIn, OverIn}
 use Rattle.mh_pager_steps.specs.Steps.{Work, Puts}
 use Rattle.mh_pager.proofs.Rowing.{RowIn-none, RowIn-push, OverIn-push, behind_has}
 

@@ -8,10 +8,9 @@ use Rattle.mh_grammar.specs.Plain.{PlainGrammar, IsLookBelow, rhs_of}
 use Rattle.mh_grammar.specs.Edges.{IsRising}
 use Rattle.mh_grammar.proofs.Lists.{contains_at, at_contains, get_cases, recursion-from, recursion_at, recursion_contains, has_place}
 use Rattle.mh_items_kernels.specs.Shapes.{KernelItem, Kernel}
-use Rattle.mh_items_kernels.specs.Kernels.{Holds, IsItemList, IsKernelItem, IsItemBefore}
-use Rattle.mh_items_kernels.specs.Kernels.{IsJoined}
-use Rattle.mh_canon_states.specs.Kernels.{ArePaired}
-use Rattle.mh_canon_states.specs.Weak.{IsJoin}
+use Rattle.mh_items_kernels.specs.Kernels.{Holds, IsItemList, IsKernelItem, IsItemBefore, IsJoined}
+use Rattle.mh_pager_steps.specs.code.Kernels.{ArePaired}
+use Rattle.mh_pager_steps.specs.Weak.{IsJoin}
 
 pub record JoinedSoFar (xs ys zs : List KernelItem) (n : ℕ) : Type 0 where
   pub len : length zs ≡ n

@@ -7,8 +7,8 @@ use Rattle.mh_grammar.specs.declared.types.Symbol.{Symbol}
 use Rattle.mh_grammar.specs.declared.edges.Edge.{Edge}
 use Rattle.mh_grammar.specs.Plain.{PlainGrammar}
 use Rattle.mh_items_kernels.specs.Shapes.{Kernel}
-use Rattle.mh_canon_states.specs.Canonical.{targets_of}
-use Rattle.mh_pager_steps.specs.Steps.{Work, Queues, Joins, Appends, Puts, AllPut, symbols_of, IsStep}
+use Rattle.mh_items_kernels.specs.Collection.{targets_of, edge_symbols}
+use Rattle.mh_pager_steps.specs.Steps.{Work, Queues, Joins, Appends, Puts, AllPut, IsStep}
 use Rattle.mh_pager_steps.proofs.Only.{all_put_longer}
 use Rattle.mh_pager.proofs.Sizes.{size, full, size_full, size_covers}
 
@@ -90,7 +90,7 @@ module _ (g : PlainGrammar) (limit : ℕ) where
   pub step_weight : (old new : Work) → IsStep g old new → length new.kernels ≤ limit → weight g limit new < weight g limit old
   step_weight old new s few =
       let placed : length s.placed.kernels ≤ limit = rw s.after at few in
-      let put = all_put_weight s.kernel (symbols_of s.row) (targets_of s.row) (record { kernels = old.kernels; rows = old.rows; queue = s.waiting }) s.placed s.put placed in
+      let put = all_put_weight s.kernel (edge_symbols s.row) (targets_of s.row) (record { kernels = old.kernels; rows = old.rows; queue = s.waiting }) s.placed s.put placed in
       let taken = weight_taken old.kernels old.rows old.rows s.state s.waiting in
       let now : weight g limit new ≡ weight g limit s.placed = ap (weight g limit) s.after ∙ weight_rows s.placed.kernels (set s.placed.rows s.state s.row) s.placed.rows s.placed.queue in
       let before : weight g limit old ≡ weight g limit (record { kernels = old.kernels; rows = old.rows; queue = s.state ∷ s.waiting }) = ap (λ (q : List ℕ). weight g limit (record { kernels = old.kernels; rows = old.rows; queue = q })) s.oldest in

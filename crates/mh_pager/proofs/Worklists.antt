@@ -11,11 +11,12 @@ use Rattle.mh_grammar.proofs.Lists.{get_left, get_last, at_contains}
 use Rattle.mh_items_kernels.specs.Shapes.{Kernel}
 use Rattle.mh_items_kernels.specs.Automaton.{start_kernel}
 use Rattle.mh_canon_states.specs.declared.limits.TheConstants.{MAX_STATES}
-use Rattle.mh_pager_steps.specs.Steps.{Work, IsStep, Steps, none, more, IsBegun, AreBegun, IsList, IsReady, Overruns, IsSwollen, start_numbers}
+use Rattle.mh_pager_steps.specs.code.Lists.{IsReady, IsList, AreBegun}
+use Rattle.mh_pager_steps.specs.Steps.{Work, IsStep, Steps, none, more, IsBegun, Overruns, IsSwollen, start_numbers}
 use Rattle.mh_pager.proofs.Readying.{step_ready}
 use Rattle.mh_pager_steps.proofs.Sound.{begun_running, start_numbers_at}
 use Rattle.mh_pager.proofs.Weights.{weight, step_weight}
-use Rattle.mh_canon_states.proofs.Starting.{range_push}
+use Rattle.mh_pager_steps.proofs.Starting.{range_push}
 
 -- from so many start kernels to the first list
 pub begun_of : (g : PlainGrammar) (w : Work) → AreBegun (length g.starts) w → IsBegun g w

@@ -1,3 +1,1 @@
-pub mod Indexed
-pub mod Worklist
-pub mod Stepping
+pub mod code

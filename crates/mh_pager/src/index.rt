@@ -1,7 +1,8 @@
 //! The states of each core: those of other cores can neither keep nor take a move.
 ghost use Rattle.std.specs.Prelude.{◌≡◌, ◌≤◌, List, [], IfOk, OnOk};
 ghost use Rattle.mh_items_kernels.specs.Shapes.{Kernel as KernelOf};
-ghost use Rattle.mh_pager.specs.Indexed.{bare, core_of, ArePlaced, IsGroup, IsIndexed};
+ghost use Rattle.mh_pager_steps.specs.code.Cores.{bare, core_of};
+ghost use Rattle.mh_pager.specs.code.Indexed.{ArePlaced, IsGroup, IsIndexed};
 
 use mh_grammar::{Memory, Sequence};
 use mh_items_kernels::{ItemWith, Kernel, KernelItem};
@@ -9,13 +10,11 @@ use mh_sets::TokenSet;
 use std::alloc::Global;
 use std::collections::HashMap;
 
-/// A kernel without its looks.
-pub type Core = Kernel<0>;
-
-/// The states of each core that was met, rising, by the places that the cores were given.
+/// The states of each core that was met, rising, by the places that the cores were given. A core is a kernel without
+/// looks, so it has width 0.
 #[derive(Drop)]
 pub struct Index {
-    pub(crate) places: HashMap<Core, usize>,
+    pub(crate) places: HashMap<Kernel<0>, usize>,
     pub(crate) states: Vec<Sequence<u32>>,
 }
 
@@ -31,7 +30,7 @@ impl Index {
         }
     }
 
-    /// The place of a kernel's core. A new one is put behind the others, and no state has it yet.
+    /// The place of a kernel's core. A new core is put after the others, and no state has it yet.
     pub(crate) fn place<const W: usize>(
         &mut self,
         alloc: Global,
@@ -54,7 +53,7 @@ impl Index {
 }
 
 /// The core of a kernel.
-fn without_looks<const W: usize>(alloc: Global, kernel: &Kernel<W>) -> Result<Core, Memory>
+fn without_looks<const W: usize>(alloc: Global, kernel: &Kernel<W>) -> Result<Kernel<0>, Memory>
     requires { W ≤ 8 }
     ensures { IfOk result (λ core. core ≡ core_of kernel.now) }
 {

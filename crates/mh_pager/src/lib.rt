@@ -1,6 +1,5 @@
-//! The worklist of the merged automaton: its states while it grows, and where a move is put.
-//!
-//! Pager's merged automaton.
+//! Pager's merged automaton: the worklist holds its states while it grows, and where a move is put; then the states
+//! that the starts reach are numbered.
 #![tactic(auto)]
 
 mod index;
@@ -13,5 +12,4 @@ mod unions;
 mod worklist;
 
 pub use merging::merged;
-pub use mh_canon_states::weakly_compatible;
-pub use mh_pager_steps::{covers_canonical_paths, is_one_merged};
+pub use mh_pager_steps::{covers_canonical_paths, is_one_merged, weakly_compatible};

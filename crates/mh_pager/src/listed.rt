@@ -1,9 +1,10 @@
 //! The list that the steps make, from the start kernels until no state waits.
 ghost use Rattle.std.specs.Prelude.{◌≡◌, ◌<◌, ◌≤◌, ◌*◌, [], ℕ, length, Err, OnOk};
 ghost use Rattle.mh_grammar.specs.Plain.{plain_of, IsInRange};
-ghost use Rattle.mh_items.specs.Mover.{IsMover};
-ghost use Rattle.mh_pager.specs.Worklist.{work_of, IsKept};
-ghost use Rattle.mh_pager_steps.specs.Steps.{AreBegun, IsList, IsSwollen};
+ghost use Rattle.mh_items.specs.code.Mover.{IsMover};
+ghost use Rattle.mh_pager.specs.code.Worklist.{work_of, IsKept};
+ghost use Rattle.mh_pager_steps.specs.code.Lists.{IsList, AreBegun};
+ghost use Rattle.mh_pager_steps.specs.Steps.{IsSwollen};
 
 use crate::stepping::step;
 use crate::worklist::Worklist;

@@ -6,8 +6,9 @@ ghost use Rattle.mh_items_kernels.specs.Automaton.{IsAutomaton};
 ghost use Rattle.mh_canon_states.specs.Canonical.{IsCanonical};
 ghost use Rattle.mh_items_kernels.specs.Conflicts.{IsConflicting, IsFaulty};
 ghost use Rattle.mh_pager_steps.specs.Paths.{CoversPaths};
-ghost use Rattle.mh_pager.specs.Worklist.{work_of, IsKept};
-ghost use Rattle.mh_pager_steps.specs.Steps.{IsList, IsMerged, IsSwollen};
+ghost use Rattle.mh_pager.specs.code.Worklist.{work_of, IsKept};
+ghost use Rattle.mh_pager_steps.specs.code.Lists.{IsList};
+ghost use Rattle.mh_pager_steps.specs.Steps.{IsMerged, IsSwollen};
 
 use crate::listed::list_all;
 use crate::numbering::{pick, reach};
@@ -18,8 +19,8 @@ use mh_grammar::{Grammar, Memory, Sequence};
 use mh_items_kernels::{Automaton, StatesFault};
 use std::alloc::Global;
 
-/// Pager's merged automaton of a grammar (Pager 1977). `TooManyStates` comes exactly where the list of its steps comes to
-/// hold more than `MAX_STATES` states; `Memory` may come at any grammar.
+/// Pager's merged automaton of a grammar (Pager 1977). `TooManyStates` comes exactly where the list of its steps comes
+/// to hold more than `MAX_STATES` states; `Memory` may come at any grammar.
 pub fn merged<const W: usize>(alloc: Global, grammar: &Grammar) -> Result<Automaton<W>, StatesFault>
     requires small { W ≤ 8 }
     requires width { length grammar.now.tokens ≤ 64 * W }
@@ -103,7 +104,7 @@ fn fill<const W: usize>(
     let starts = grammar.starts.len();
     let rows = worklist.rows.as_slice();
     let kernels = worklist.kernels.as_slice();
-    let mut states = kept_first(alloc, starts, rows.len())?;
+    let mut states = kept_first(alloc, starts)?;
     reach(alloc, starts, rows, &mut states, &mut automaton.edges)?;
     pick(alloc, kernels, states.as_slice(), &mut automaton.kernels)
 }

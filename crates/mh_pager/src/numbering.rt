@@ -1,11 +1,8 @@
 //! The states that the starts reach, numbered breadth first.
 ghost use Rattle.std.specs.Prelude.{◌≡◌, ◌<◌, ◌≤◌, [], ℕ, Some, length, slice_get, IfOk, OnOk};
-ghost use Rattle.std.specs.List.{All, AllZip};
-ghost use Rattle.mh_grammar.specs.Placed.{Placed};
-ghost use Rattle.mh_canon_states.specs.Canonical.{targets_of};
-ghost use Rattle.mh_pager_steps.specs.Numbered.{AreBelow, IsRenamed, AreReached, AreClosed};
+ghost use Rattle.std.specs.List.{All, AllZip, range_with_len};
+ghost use Rattle.mh_pager_steps.specs.code.Numbered.{AreFew, IsRenamed, AreReached, AreClosed};
 ghost use Rattle.mh_pager_steps.specs.Steps.{start_numbers};
-ghost use Rattle.std.specs.List.{range_with_len};
 
 use crate::starts::place_state;
 use crate::unions::copied;
@@ -35,46 +32,31 @@ pub(crate) fn reach(
     let _starts = starts;
     'states: while edges.len() < states.len() {
         let state = states.as_slice()[edges.len()];
-        let row = renamed(alloc, rows[state as usize].as_slice(), states, rows.len())?;
+        let row = renamed(alloc, rows[state as usize].as_slice(), states)?;
         edges.push(row)?;
     }
     Ok(())
 }
 
-/// A row with its targets named anew.
+/// A row with its targets named anew; a target that has no number yet is put after the states.
 fn renamed(
     alloc: Global,
     row: &[Edge],
     states: &mut IndexSet<u32>,
-    count: usize,
 ) -> Result<Sequence<Edge>, Memory>
-    requires below { AreBelow count states.old.keys }
-    requires few { count ≤ MAX_STATES }
-    requires targets { All (λ t. t < count) (targets_of row.now) }
+    requires { AreFew states.old.keys row.now }
     ensures { IfOk result (λ new. IsRenamed row.now new states.old.keys states.new.keys) }
 {
     let mut new = Sequence::new(alloc);
     for edge in row {
-        let target = place(states, edge.target, count)?;
+        let at = place_state(states, edge.target)?;
+        let target = at as u32;
         new.push(Edge {
             symbol: edge.symbol,
             target,
         })?;
     }
     Ok(new)
-}
-
-/// The new number of a state; a new one is put behind the others.
-fn place(states: &mut IndexSet<u32>, state: u32, count: usize) -> Result<u32, Memory>
-    requires below { AreBelow count states.old.keys }
-    requires few { count ≤ MAX_STATES }
-    requires state { state < count }
-    ensures { IfOk result (Placed states.old.keys states.new.keys state) }
-{
-    // The clauses alone speak of it.
-    let _count = count;
-    let at = place_state(states, state)?;
-    Ok(at as u32)
 }
 
 /// Adds the kernels of states.

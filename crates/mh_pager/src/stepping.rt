@@ -3,11 +3,12 @@ ghost use Rattle.std.specs.Prelude.{◌≡◌, ◌<◌, ◌≤◌, ◌*◌, ◌�
 ghost use Rattle.mh_grammar.specs.Plain.{plain_of, IsInRange};
 ghost use Rattle.mh_items_kernels.specs.Shapes.{Kernel as KernelOf};
 ghost use Rattle.mh_items_kernels.specs.Kernels.{IsItemList};
-ghost use Rattle.mh_items.specs.Moves.{AreMoves};
-ghost use Rattle.mh_items.specs.Mover.{IsMover};
-ghost use Rattle.mh_pager.specs.Stepping.{with_first, PutsAll, OverrunsAll};
-ghost use Rattle.mh_pager.specs.Worklist.{work_of, IsKept};
-ghost use Rattle.mh_pager_steps.specs.Steps.{IsReady, IsStep, Overruns};
+ghost use Rattle.mh_items.specs.code.Moves.{AreMoves};
+ghost use Rattle.mh_items.specs.code.Mover.{IsMover};
+ghost use Rattle.mh_pager.specs.code.Stepping.{with_first, PutsAll, OverrunsAll};
+ghost use Rattle.mh_pager.specs.code.Worklist.{work_of, IsKept};
+ghost use Rattle.mh_pager_steps.specs.code.Lists.{IsReady};
+ghost use Rattle.mh_pager_steps.specs.Steps.{IsStep, Overruns};
 
 use crate::worklist::Worklist;
 use mh_canon_states::MAX_STATES;

@@ -3,15 +3,18 @@ ghost use Rattle.std.specs.Prelude.{◌≡◌, ◌<◌, ◌≤◌, ◌^◌, ◌+
 ghost use Rattle.mh_grammar.specs.Plain.{plain_of, IsInRange};
 ghost use Rattle.mh_items_kernels.specs.Kernels.{IsItemList};
 ghost use Rattle.mh_items_kernels.specs.Shapes.{Kernel as KernelOf};
-ghost use Rattle.mh_pager.specs.Worklist.{work_of, IsKept, IsGroupIn, TakesIn, AppendsIn, OneCoreAt};
-ghost use Rattle.mh_canon_states.specs.Fits.{HasFit};
-ghost use Rattle.mh_pager_steps.specs.Steps.{Work, Keeps, HasNone, IsFirst, Puts, IsReady};
+ghost use Rattle.mh_pager.specs.code.Worklist.{work_of, IsKept, IsGroupIn, TakesIn, AppendsIn, OneCoreAt};
+ghost use Rattle.mh_pager_steps.specs.code.Fits.{HasFit};
+ghost use Rattle.mh_pager_steps.specs.First.{IsFirst, HasNone};
+ghost use Rattle.mh_pager_steps.specs.code.Lists.{IsReady};
+ghost use Rattle.mh_pager_steps.specs.Steps.{Work, Keeps, Puts};
 
 use crate::index::Index;
 use crate::unions::joined;
-use mh_canon_states::{Fit, MAX_STATES, Queue, first_fitting, number};
+use mh_canon_states::{MAX_STATES, number};
 use mh_grammar::{Edge, Grammar, Memory, Sequence};
 use mh_items_kernels::{Kernel, StatesFault};
+use mh_pager_steps::{Fit, Queue, first_fitting};
 use std::alloc::Global;
 
 /// The states that there are while the steps are made, and those that wait for theirs.
@@ -41,8 +44,8 @@ impl<const W: usize> Worklist<W> {
         }
     }
 
-    /// Puts a move somewhere, and says where: to the first state that keeps it, else to the first that takes it, else at the
-    /// end. `TooManyStates` comes exactly where that would be one state more than `MAX_STATES`.
+    /// Puts a move somewhere, and says where: to the first state that keeps it, else to the first that takes it, else
+    /// at the end. `TooManyStates` comes exactly where that would be one state more than `MAX_STATES`.
     pub fn put(
         &mut self,
         alloc: Global,
@@ -97,7 +100,7 @@ impl<const W: usize> Worklist<W> {
         }
     }
 
-    /// The first state that fits a move, whose core stands at a place of the index.
+    /// The first state that fits a move, whose core is at a place of the index.
     fn fitting(&self, grammar: &Grammar, core: usize, kernel: &Kernel<W>, fit: Fit) -> Option<u32>
         requires small { W ≤ 8 }
         requires kernel { IsItemList (plain_of grammar.now) kernel.now }

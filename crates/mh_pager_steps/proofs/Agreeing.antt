@@ -5,11 +5,11 @@ use Rattle.mh_grammar.specs.Plain.{PlainGrammar}
 use Rattle.mh_grammar.specs.ItemSets.{ItemSet, Reach}
 use Rattle.mh_items_kernels.specs.Shapes.{Automaton}
 use Rattle.mh_items_kernels.specs.Automaton.{kernel_at, kernel_of}
-use Rattle.mh_canon_states.specs.Canonical.{HasItem, IsCanonical}
+use Rattle.mh_items_kernels.specs.Collection.{HasItem}
+use Rattle.mh_canon_states.specs.Canonical.{IsCanonical}
 use Rattle.mh_canon_states.proofs.Sets.{close_has}
-use Rattle.mh_items_kernels.specs.Conflicts.{HasConflict, shift_reduce, reduce_reduce, shift, reduce, HasEither}
+use Rattle.mh_items_kernels.specs.Conflicts.{HasConflict, shift_reduce, reduce_reduce, shift, reduce, HasEither, IsConflicting, IsFaulty}
 use Rattle.mh_pager_steps.specs.Steps.{IsMerged}
-use Rattle.mh_items_kernels.specs.Conflicts.{IsConflicting, IsFaulty}
 use Rattle.mh_pager_steps.specs.Paths.{CoversPaths}
 use Rattle.mh_pager_steps.proofs.Covering.{covers_paths}
 use Rattle.mh_pager_steps.proofs.Leaving.{old_number, IsAutomaton-merged}

@@ -5,7 +5,7 @@ use Rattle.mh_grammar.specs.ItemSets.{Close, Reach}
 use Rattle.mh_items_kernels.specs.Shapes.{Automaton}
 use Rattle.mh_items_kernels.specs.Automaton.{kernel_of, move_of, IsAutomaton}
 use Rattle.mh_canon_states.proofs.Sets.{moved_within, close_within, reach_has, start_holds}
-use Rattle.mh_canon_states.specs.Weak.{Covers}
+use Rattle.mh_pager_steps.specs.Weak.{Covers}
 use Rattle.mh_pager_steps.specs.Paths.{CoversPaths}
 
 module _ (g : PlainGrammar) (a : Automaton) (is : IsAutomaton g a) where

@@ -7,15 +7,16 @@ use Rattle.std.proofs.lemmas.Option.{slice_get_within}
 use Rattle.mh_grammar.specs.declared.types.Symbol.{Symbol}
 use Rattle.mh_grammar.specs.Plain.{PlainGrammar}
 use Rattle.mh_grammar.proofs.Lists.{contains_none, has_place, zip_length}
-use Rattle.mh_items_kernels.specs.Shapes.{Kernel}
-use Rattle.mh_items_kernels.specs.Shapes.{Automaton}
+use Rattle.mh_items_kernels.specs.Shapes.{Kernel, Automaton}
 use Rattle.mh_items_kernels.specs.Automaton.{start_kernel, IsAutomaton}
-use Rattle.mh_canon_states.specs.Canonical.{targets_of, IsCanonical}
+use Rattle.mh_items_kernels.specs.Collection.{targets_of, edge_symbols}
+use Rattle.mh_canon_states.specs.Canonical.{IsCanonical}
 use Rattle.mh_canon_states.specs.declared.limits.TheConstants.{MAX_STATES}
 use Rattle.mh_items_kernels.specs.Conflicts.{IsConflicting, IsFaulty}
 use Rattle.mh_pager_steps.specs.Paths.{CoversPaths}
-use Rattle.mh_pager_steps.specs.Numbered.{AreBelow, AreReached, AreClosed}
-use Rattle.mh_pager_steps.specs.Steps.{Work, symbols_of, IsList, IsMerged, IsSwollen}
+use Rattle.mh_pager_steps.specs.code.Numbered.{AreBelow, AreReached, AreClosed}
+use Rattle.mh_pager_steps.specs.code.Lists.{IsList}
+use Rattle.mh_pager_steps.specs.Steps.{Work, IsMerged, IsSwollen}
 use Rattle.mh_pager_steps.proofs.Agreeing.{clashes_agree, faults_agree}
 use Rattle.mh_pager_steps.proofs.Covering.{covers_paths}
 use Rattle.mh_pager_steps.proofs.Leaving.{IsAutomaton-merged}
@@ -50,7 +51,7 @@ module _ (g : PlainGrammar) (w : Work) (l : IsList g w) (done : w.queue ≡ []) 
           | inr s ↦ (
               let one : Some s.0 ≡ Some row = sym s.1 ∙ at in
               let same : s.0 ≡ row = cc in
-              let all = targets_within g w.kernels k.0 (symbols_of s.0) (targets_of s.0) s.2.leads in
+              let all = targets_within g w.kernels k.0 (edge_symbols s.0) (targets_of s.0) s.2.leads in
               rw (run.len, ← same) (All-from_recursion (λ t. t < length w.kernels) (targets_of s.0) all))
         ];
   }

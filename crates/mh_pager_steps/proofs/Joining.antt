@@ -6,7 +6,7 @@ use Rattle.mh_grammar.specs.declared.types.Look.{Look}
 use Rattle.mh_grammar.specs.declared.types.Look.TheVariants.{Token, End}
 use Rattle.mh_grammar.specs.Plain.{PlainGrammar, rhs_of}
 use Rattle.mh_grammar.specs.ItemSets.{ItemSet, Close}
-use Rattle.mh_canon_states.specs.Weak.{HasPair, OneCore, Meet, AreCompatible, IsJoin}
+use Rattle.mh_pager_steps.specs.Weak.{HasPair, OneCore, Meet, AreCompatible, IsJoin}
 use Rattle.mh_items_kernels.specs.Collection.{After}
 use Rattle.mh_items_kernels.specs.Conflicts.{ShiftsOn, ReducesOn, HasConflict, shift_reduce, reduce_reduce, HasStreamConflict, shift, reduce, HasEither}
 use Rattle.mh_pager_steps.proofs.Origins.{Origin, generated, inherited, from_both, after_closed}

@@ -11,15 +11,14 @@ use Rattle.mh_grammar.specs.Plain.{PlainGrammar}
 use Rattle.mh_grammar.specs.Numbering.{Names}
 use Rattle.mh_grammar.proofs.Lists.{contains_none, zip_left, zip_right, zip_length}
 use Rattle.mh_grammar.proofs.OneNumbering.{take_place}
-use Rattle.mh_items_kernels.specs.Shapes.{Kernel}
-use Rattle.mh_items_kernels.specs.Shapes.{Automaton}
+use Rattle.mh_items_kernels.specs.Shapes.{Kernel, Automaton}
 use Rattle.mh_items_kernels.specs.Kernels.{HasPlace}
 use Rattle.mh_items_kernels.specs.Automaton.{kernel_at, edges_at, leads_to, start_kernel, Moves, IsTarget, IsAutomaton}
-use Rattle.mh_canon_states.specs.Canonical.{targets_of}
+use Rattle.mh_items_kernels.specs.Collection.{targets_of, edge_symbols}
 use Rattle.mh_canon_states.proofs.Edging.{rising_edges, found_edge}
 use Rattle.mh_canon_states.proofs.Finished.{kernel_get, kernel_got, edges_get, items_within, edges_within}
 use Rattle.mh_canon_states.proofs.Sets.{place_holds}
-use Rattle.mh_pager_steps.specs.Steps.{symbols_of, IsMerged, IsOnSymbolsOf, start_numbers}
+use Rattle.mh_pager_steps.specs.Steps.{IsMerged, IsOnSymbolsOf, start_numbers}
 use Rattle.mh_pager_steps.proofs.Renaming.{renamed_to, renamed_from}
 use Rattle.mh_pager_steps.proofs.Settling.{IsRowFor, IsSettled, found_target}
 use Rattle.mh_pager_steps.proofs.Sound.{IsSound, IsRunning, running, start_numbers_at}
@@ -57,7 +56,7 @@ module _ (g : PlainGrammar) (a : Automaton) (m : IsMerged g a) where
   record HasRow (s : ℕ) : Type 0 where
     row : List Edge
     for : IsRowFor g m.last.kernels (kernel_at a s) row
-    symbols : symbols_of (edges_at a s) ≡ symbols_of row
+    symbols : edge_symbols (edges_at a s) ≡ edge_symbols row
     names : Names m.states (targets_of (edges_at a s)) (targets_of row)
 
   has_row : (s : ℕ) → s < length a.kernels → HasRow s
@@ -76,7 +75,7 @@ module _ (g : PlainGrammar) (a : Automaton) (m : IsMerged g a) where
       record {
         row = set.0;
         for = set.2;
-        symbols = ap symbols_of (sym edges) ∙ on.same ∙ ap symbols_of same;
+        symbols = ap edge_symbols (sym edges) ∙ on.same ∙ ap edge_symbols same;
         names = rw (sym next.are ∙ ap targets_of other) at to.names;
       }
 

@@ -14,3 +14,9 @@ pub mod Renaming
 pub mod Settling
 pub mod Sound
 pub mod Troubles
+pub mod Candidates
+pub mod Choosing
+pub mod Lists
+pub mod Paired
+pub mod Queueing
+pub mod Starting

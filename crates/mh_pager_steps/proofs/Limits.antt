@@ -8,10 +8,10 @@ use Rattle.std.proofs.lemmas.Option.{slice_get_within}
 use Rattle.mh_grammar.proofs.Lists.{zip_length}
 use Rattle.mh_grammar.specs.Plain.{PlainGrammar, IsInRange}
 use Rattle.mh_items_kernels.specs.Shapes.{Kernel, Automaton}
-use Rattle.mh_items_kernels.specs.Collection.{targets_of}
+use Rattle.mh_items_kernels.specs.Collection.{targets_of, edge_symbols}
 use Rattle.mh_canon_states.specs.declared.limits.TheConstants.{MAX_STATES}
-use Rattle.mh_pager_steps.specs.Numbered.{AreBelow}
-use Rattle.mh_pager_steps.specs.Steps.{Work, Steps, none, more, symbols_of, IsBegun, IsMerged, IsSwollen}
+use Rattle.mh_pager_steps.specs.code.Numbered.{AreBelow}
+use Rattle.mh_pager_steps.specs.Steps.{Work, Steps, none, more, IsBegun, IsMerged, IsSwollen}
 use Rattle.mh_pager_steps.proofs.Reaching.{below_few}
 
 -- the step that makes the list too long overruns
@@ -30,9 +30,9 @@ steps_few g limit first last b few (more {old} s step) over = elim (cases_lt lim
       oldest = step.oldest;
       kernel = step.kernel;
       at = step.at;
-      symbols = symbols_of step.row;
+      symbols = edge_symbols step.row;
       rest = [];
-      moving = rw (append-nil (symbols_of step.row)) step.moving;
+      moving = rw (append-nil (edge_symbols step.row)) step.moving;
       targets = targets_of step.row;
       placed = step.placed;
       put = step.put;

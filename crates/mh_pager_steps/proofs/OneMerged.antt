@@ -7,8 +7,8 @@ use Rattle.mh_grammar.specs.Numbering.{IsNumbering}
 use Rattle.mh_grammar.proofs.Lists.{same_at, zip_one}
 use Rattle.mh_grammar.proofs.OneNumbering.{one_numbering}
 use Rattle.mh_items_kernels.specs.Shapes.{Automaton}
-use Rattle.mh_canon_states.specs.Canonical.{targets_of}
-use Rattle.mh_pager_steps.specs.Steps.{Work, symbols_of, Steps, Leads, IsOnSymbolsOf, IsMerged, start_numbers}
+use Rattle.mh_items_kernels.specs.Collection.{targets_of, edge_symbols}
+use Rattle.mh_pager_steps.specs.Steps.{Work, Steps, Leads, IsOnSymbolsOf, IsMerged, start_numbers}
 use Rattle.mh_canon_states.proofs.Only.{edges_same}
 use Rattle.mh_pager_steps.proofs.Only.{begun_one, end_one}
 
@@ -29,7 +29,7 @@ rows_one rows (n ∷ states) (x ∷ xs) (y ∷ ys) a b t =
     let same : a.0.row ≡ b.0.row = cc in
     let here : targets_of x ≡ targets_of y = cc in
     let others : map targets_of xs ≡ map targets_of ys = cc in
-    let first = edges_same x y (a.0.same ∙ ap symbols_of same ∙ sym b.0.same) here in
+    let first = edges_same x y (a.0.same ∙ ap edge_symbols same ∙ sym b.0.same) here in
     let rest = rows_one rows states xs ys a.1 b.1 others in
     λ i. first i ∷ rest i
 

@@ -13,10 +13,11 @@ use Rattle.mh_items_kernels.specs.Shapes.{Kernel}
 use Rattle.mh_items_kernels.specs.Kernels.{Holds, IsItemList}
 use Rattle.mh_items_kernels.proofs.OneList.{kernel_same}
 use Rattle.mh_canon_states.proofs.Only.{edges_same}
-use Rattle.mh_canon_states.specs.Canonical.{targets_of}
+use Rattle.mh_items_kernels.specs.Collection.{targets_of, edge_symbols}
 use Rattle.mh_canon_states.proofs.Sets.{same_sym, same_trans}
-use Rattle.mh_canon_states.specs.Weak.{IsJoin}
-use Rattle.mh_pager_steps.specs.Steps.{Work, Keeps, Takes, IsFirst, Queues, Puts, IsMoveOf, AllPut, AreMoving, symbols_of, IsStep, Steps, none, more, IsBegun, Overruns, IsSwollen}
+use Rattle.mh_pager_steps.specs.Weak.{IsJoin}
+use Rattle.mh_pager_steps.specs.First.{IsFirst}
+use Rattle.mh_pager_steps.specs.Steps.{Work, Keeps, Takes, Queues, Puts, IsMoveOf, AllPut, AreMoving, IsStep, Steps, none, more, IsBegun, Overruns, IsSwollen}
 use Rattle.mh_grammar.proofs.EdgeOrder.{symbol_never}
 
 -- two works with the same parts are one
@@ -103,7 +104,7 @@ module _ (g : PlainGrammar) where
   all_put_longer k (X ∷ symbols) (n ∷ targets) old new p = omega (arith, put_longer p.0 old p.1 n p.3, all_put_longer k symbols targets p.1 new p.4)
 
   pub step_longer : (old new : Work) → IsStep g old new → length old.kernels ≤ length new.kernels
-  step_longer old new s = rw s.after (all_put_longer s.kernel (symbols_of s.row) (targets_of s.row) (record { kernels = old.kernels; rows = old.rows; queue = s.waiting }) s.placed s.put)
+  step_longer old new s = rw s.after (all_put_longer s.kernel (edge_symbols s.row) (targets_of s.row) (record { kernels = old.kernels; rows = old.rows; queue = s.waiting }) s.placed s.put)
 
   pub steps_longer : (first last : Work) → Steps g first last → length first.kernels ≤ length last.kernels
   steps_longer first last none = omega arith
@@ -130,10 +131,10 @@ module _ (g : PlainGrammar) where
   step_one : (old v w : Work) → IsStep g old v → IsStep g old w → v ≡ w
   step_one old v w a b =
       let t = turn_one g old a.state b.state a.waiting b.waiting a.kernel b.kernel a.oldest a.at b.oldest b.at in
-      let moving : AreMoving g a.kernel (symbols_of b.row) = rw (← t.2) at b.moving in
-      let symbols : symbols_of a.row ≡ symbols_of b.row = symbols_one g a.kernel (symbols_of a.row) (symbols_of b.row) a.moving moving in
-      let put : AllPut g a.kernel (symbols_of a.row) (targets_of b.row) (with_queue old a.waiting) b.placed = rw (t.2, t.1, symbols) b.put in
-      let one = all_put_one g a.kernel (symbols_of a.row) (targets_of a.row) (targets_of b.row) (with_queue old a.waiting) a.placed b.placed a.put put in
+      let moving : AreMoving g a.kernel (edge_symbols b.row) = rw (← t.2) at b.moving in
+      let symbols : edge_symbols a.row ≡ edge_symbols b.row = symbols_one g a.kernel (edge_symbols a.row) (edge_symbols b.row) a.moving moving in
+      let put : AllPut g a.kernel (edge_symbols a.row) (targets_of b.row) (with_queue old a.waiting) b.placed = rw (t.2, t.1, symbols) b.put in
+      let one = all_put_one g a.kernel (edge_symbols a.row) (targets_of a.row) (targets_of b.row) (with_queue old a.waiting) a.placed b.placed a.put put in
       let row = edges_same a.row b.row symbols one.1 in
       a.after ∙ (λ i. record { kernels = (one.0 i).kernels; rows = set (one.0 i).rows (t.0 i) (row i); queue = (one.0 i).queue }) ∙ sym b.after
 
@@ -179,8 +180,8 @@ module _ (g : PlainGrammar) where
       on_the_way : (old next : Work) → Overruns g limit old → IsStep g old next → length next.kernels ≤ limit → ⊥
       on_the_way old next x step within =
           let t = turn_one g old x.state step.state x.waiting step.waiting x.kernel step.kernel x.oldest x.at step.oldest step.at in
-          let moving : AreMoving g x.kernel (symbols_of step.row) = rw (← t.2) at step.moving in
-          let symbols : x.symbols ++ x.rest ≡ symbols_of step.row = symbols_one g x.kernel (x.symbols ++ x.rest) (symbols_of step.row) x.moving moving in
+          let moving : AreMoving g x.kernel (edge_symbols step.row) = rw (← t.2) at step.moving in
+          let symbols : x.symbols ++ x.rest ≡ edge_symbols step.row = symbols_one g x.kernel (x.symbols ++ x.rest) (edge_symbols step.row) x.moving moving in
           let put : AllPut g x.kernel (x.symbols ++ x.rest) (targets_of step.row) (with_queue old x.waiting) step.placed = rw (t.2, t.1, symbols) step.put in
           let parts = all_put_split g x.kernel x.symbols x.rest (targets_of step.row) (with_queue old x.waiting) step.placed put in
           let one = all_put_one g x.kernel x.symbols x.targets parts.1 (with_queue old x.waiting) x.placed parts.0 x.put parts.3 in

@@ -7,7 +7,7 @@ use Rattle.mh_grammar.specs.declared.types.Look.TheVariants.{Token, End}
 use Rattle.mh_grammar.specs.Plain.{PlainGrammar, rhs_of, IsProductionFor}
 use Rattle.mh_grammar.specs.ItemSets as items
 use Rattle.mh_grammar.specs.ItemSets.{ItemSet, MayBegin, Close, Moved}
-use Rattle.mh_canon_states.specs.Weak.{HasPair}
+use Rattle.mh_pager_steps.specs.Weak.{HasPair}
 use Rattle.mh_items_kernels.specs.Collection.{After}
 
 -- the end of the stream is generated nowhere

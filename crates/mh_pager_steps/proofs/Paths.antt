@@ -4,7 +4,7 @@ use Rattle.mh_grammar.specs.declared.types.Symbol.{Symbol}
 use Rattle.mh_grammar.specs.Plain.{PlainGrammar}
 use Rattle.mh_grammar.specs.ItemSets.{ItemSet, Close, Moved, StartItems, Reach}
 use Rattle.mh_canon_states.proofs.Sets.{moved_within, close_within}
-use Rattle.mh_canon_states.specs.Weak.{Covers}
+use Rattle.mh_pager_steps.specs.Weak.{Covers}
 use Rattle.mh_items_kernels.specs.Collection.{After}
 use Rattle.mh_items_kernels.specs.Conflicts.{ShiftsOn, HasConflict, shift_reduce, reduce_reduce, HasStreamConflict, shift, reduce, HasEither, LeadsTo}
 

@@ -11,7 +11,7 @@ use Rattle.mh_grammar.specs.ItemSets.{ItemSet, AreSame}
 use Rattle.mh_grammar.proofs.Lists.{get_left, get_last, get_cases, contains_here, set_here, set_elsewhere, set_cases}
 use Rattle.mh_items_kernels.specs.Shapes.{Kernel}
 use Rattle.mh_items_kernels.specs.Kernels.{Holds, IsItemList}
-use Rattle.mh_canon_states.specs.Weak.{OneCore, Covers, IsJoin}
+use Rattle.mh_pager_steps.specs.Weak.{OneCore, Covers, IsJoin}
 use Rattle.mh_pager_steps.specs.Steps.{Work, Takes, Queues, Joins, Appends, Puts}
 
 -- the second set has the first one's pairs, and its looks

@@ -16,10 +16,10 @@ use Rattle.mh_grammar.proofs.Pigeon.{length-distinct_in}
 use Rattle.mh_items_kernels.specs.Shapes.{Kernel}
 use Rattle.mh_items_kernels.specs.Kernels.{Holds, IsItemList}
 use Rattle.mh_items_kernels.proofs.OneList.{kernel_same}
-use Rattle.mh_canon_states.specs.Canonical.{targets_of}
-use Rattle.mh_pager_steps.specs.Numbered.{AreBelow, IsRenamed, AreReached}
-use Rattle.mh_pager_steps.specs.Steps.{symbols_of, Leads, IsOnSymbolsOf}
-use Rattle.mh_canon_states.proofs.Starting.{range_at, range_from}
+use Rattle.mh_items_kernels.specs.Collection.{targets_of, edge_symbols}
+use Rattle.mh_pager_steps.specs.code.Numbered.{AreBelow, IsRenamed, AreReached}
+use Rattle.mh_pager_steps.specs.Steps.{Leads, IsOnSymbolsOf}
+use Rattle.mh_pager_steps.proofs.Starting.{range_at, range_from}
 
 -- different numbers below a bound are no more than it
 pub below_few : (count : ℕ) (states : List ℕ) → AreBelow count states → length states ≤ count
@@ -85,7 +85,7 @@ module _ (starts : ℕ) (rows : List (List Edge)) (states : List ℕ) (edges : L
               let kept = AllPlaced-kept states new (targets_of row) (targets_of made) is.placed (length edges) n at in
               let one : Some n ≡ Some m = sym kept ∙ ap (slice_get new) (sym last.0) ∙ a in
               let same : n ≡ m = cc in
-              record { row = row; at = rw (← same) here; same = ap symbols_of last.1 ∙ is.on })
+              record { row = row; at = rw (← same) here; same = ap edge_symbols last.1 ∙ is.on })
         ];
       }
 

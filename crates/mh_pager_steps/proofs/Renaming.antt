@@ -5,18 +5,17 @@ use Rattle.mh_grammar.specs.declared.types.Symbol.{Symbol}
 use Rattle.mh_grammar.specs.declared.edges.Edge.{Edge}
 use Rattle.mh_grammar.specs.Edges.{same_symbol, find_edge}
 use Rattle.mh_grammar.specs.Numbering.{Names}
-use Rattle.mh_canon_states.specs.Canonical.{targets_of}
-use Rattle.mh_pager_steps.specs.Steps.{symbols_of}
+use Rattle.mh_items_kernels.specs.Collection.{targets_of, edge_symbols}
 
 module _ (states : List ℕ) (X : Symbol) where
   -- the edge on a symbol, by its new name
-  pub renamed_to : (edges row : List Edge) → symbols_of edges ≡ symbols_of row → Names states (targets_of edges) (targets_of row) → (n : ℕ) → find_edge row X ≡ Some n → (u : ℕ) × (find_edge edges X ≡ Some u) × (slice_get states u ≡ Some n)
+  pub renamed_to : (edges row : List Edge) → edge_symbols edges ≡ edge_symbols row → Names states (targets_of edges) (targets_of row) → (n : ℕ) → find_edge row X ≡ Some n → (u : ℕ) × (find_edge edges X ≡ Some u) × (slice_get states u ≡ Some n)
   renamed_to [] [] h z n e = cc
   renamed_to [] (f ∷ row) h z n e = absurd z
   renamed_to (d ∷ edges) [] h z n e = absurd z
   renamed_to (d ∷ edges) (f ∷ row) h z n e =
       let first : d.symbol ≡ f.symbol = cc in
-      let others : symbols_of edges ≡ symbols_of row = cc in
+      let others : edge_symbols edges ≡ edge_symbols row = cc in
       go (same_symbol f.symbol X) refl (ap (λ (s : Symbol). same_symbol s X) first) e (renamed_to edges row others z.1 n)
     where
       go : (b : Bool) → same_symbol f.symbol X ≡ b → same_symbol d.symbol X ≡ same_symbol f.symbol X → (if b then Some f.target else find_edge row X) ≡ Some n → (find_edge row X ≡ Some n → (u : ℕ) × (find_edge edges X ≡ Some u) × (slice_get states u ≡ Some n)) → (u : ℕ) × (find_edge (d ∷ edges) X ≡ Some u) × (slice_get states u ≡ Some n)
@@ -24,13 +23,13 @@ module _ (states : List ℕ) (X : Symbol) where
       go false s t w rest = let r = rest w in (r.0, rw (t ∙ s) r.1, r.2)
 
   -- and by its old one
-  pub renamed_from : (edges row : List Edge) → symbols_of edges ≡ symbols_of row → Names states (targets_of edges) (targets_of row) → (u : ℕ) → find_edge edges X ≡ Some u → (n : ℕ) × (find_edge row X ≡ Some n) × (slice_get states u ≡ Some n)
+  pub renamed_from : (edges row : List Edge) → edge_symbols edges ≡ edge_symbols row → Names states (targets_of edges) (targets_of row) → (u : ℕ) → find_edge edges X ≡ Some u → (n : ℕ) × (find_edge row X ≡ Some n) × (slice_get states u ≡ Some n)
   renamed_from [] [] h z u e = cc
   renamed_from [] (f ∷ row) h z u e = absurd z
   renamed_from (d ∷ edges) [] h z u e = absurd z
   renamed_from (d ∷ edges) (f ∷ row) h z u e =
       let first : d.symbol ≡ f.symbol = cc in
-      let others : symbols_of edges ≡ symbols_of row = cc in
+      let others : edge_symbols edges ≡ edge_symbols row = cc in
       go (same_symbol d.symbol X) refl (ap (λ (s : Symbol). same_symbol s X) (sym first)) e (renamed_from edges row others z.1 u)
     where
       go : (b : Bool) → same_symbol d.symbol X ≡ b → same_symbol f.symbol X ≡ same_symbol d.symbol X → (if b then Some d.target else find_edge edges X) ≡ Some u → (find_edge edges X ≡ Some u → (n : ℕ) × (find_edge row X ≡ Some n) × (slice_get states u ≡ Some n)) → (n : ℕ) × (find_edge (f ∷ row) X ≡ Some n) × (slice_get states u ≡ Some n)

@@ -12,9 +12,9 @@ use Rattle.mh_grammar.specs.ItemSets.{AreSame, Close, Moved}
 use Rattle.mh_grammar.proofs.Lists.{contains_cases, contains_here, contains_there, has_place, set_here, set_elsewhere}
 use Rattle.mh_items_kernels.specs.Shapes.{Kernel}
 use Rattle.mh_items_kernels.specs.Kernels.{Holds}
-use Rattle.mh_canon_states.specs.Canonical.{HasItem, targets_of}
+use Rattle.mh_items_kernels.specs.Collection.{HasItem, targets_of, edge_symbols}
 use Rattle.mh_canon_states.proofs.Sets.{same_sym}
-use Rattle.mh_pager_steps.specs.Steps.{Work, Puts, AllPut, symbols_of, IsStep}
+use Rattle.mh_pager_steps.specs.Steps.{Work, Puts, AllPut, IsStep}
 use Rattle.mh_pager_steps.proofs.Putting.{Extends, extends_self, extends_same, extends_trans, Grows, grows_trans, Came, stays, joins, fresh, came, put_grows, put_target, put_queue, put_rows, put_length}
 use Rattle.mh_grammar.proofs.EdgeOrder.{same_is}
 
@@ -24,9 +24,9 @@ IsTargetOf g kernels k X n = (m : Kernel) × (slice_get kernels n ≡ Some m) ×
 
 -- the edges of a state: they rise, there is one where an item moves and no other, and each leads to a state that extends the move
 pub record IsRowFor (g : PlainGrammar) (kernels : List Kernel) (k : Kernel) (row : List Edge) : Type 0 where
-  pub rising : IsRising IsSymbolBefore (symbols_of row)
-  pub moves : (X : Symbol) → Contains (symbols_of row) X ↔ HasItem (Moved g (Close g (Holds k)) X)
-  pub leads : AllZip (IsTargetOf g kernels k) (symbols_of row) (targets_of row)
+  pub rising : IsRising IsSymbolBefore (edge_symbols row)
+  pub moves : (X : Symbol) → Contains (edge_symbols row) X ↔ HasItem (Moved g (Close g (Holds k)) X)
+  pub leads : AllZip (IsTargetOf g kernels k) (edge_symbols row) (targets_of row)
 
 target_grows : (g : PlainGrammar) (k : Kernel) (old new : List Kernel) → Grows old new → (X : Symbol) (n : ℕ) → IsTargetOf g old k X n → IsTargetOf g new k X n
 target_grows g k old new grows X n t =
@@ -40,19 +40,19 @@ targets_grow g k old new grows (X ∷ symbols) [] z = absurd z
 targets_grow g k old new grows (X ∷ symbols) (n ∷ targets) z = (target_grows g k old new grows X n z.0, targets_grow g k old new grows symbols targets z.1)
 
 row_grows : (g : PlainGrammar) (k : Kernel) (old new : List Kernel) → Grows old new → (row : List Edge) → IsRowFor g old k row → IsRowFor g new k row
-row_grows g k old new grows row r = record { rising = r.rising; moves = r.moves; leads = targets_grow g k old new grows (symbols_of row) (targets_of row) r.leads }
+row_grows g k old new grows row r = record { rising = r.rising; moves = r.moves; leads = targets_grow g k old new grows (edge_symbols row) (targets_of row) r.leads }
 
 -- an edge that is found leads so
-pub found_target : (g : PlainGrammar) (kernels : List Kernel) (k : Kernel) (row : List Edge) → AllZip (IsTargetOf g kernels k) (symbols_of row) (targets_of row) → (X : Symbol) (u : ℕ) → find_edge row X ≡ Some u → IsTargetOf g kernels k X u × Contains (symbols_of row) X
+pub found_target : (g : PlainGrammar) (kernels : List Kernel) (k : Kernel) (row : List Edge) → AllZip (IsTargetOf g kernels k) (edge_symbols row) (targets_of row) → (X : Symbol) (u : ℕ) → find_edge row X ≡ Some u → IsTargetOf g kernels k X u × Contains (edge_symbols row) X
 found_target g kernels k [] z X u e = cc
 found_target g kernels k (f ∷ row) z X u e = go (same_symbol f.symbol X) refl e (found_target g kernels k row z.1 X u)
   where
-    go : (b : Bool) → same_symbol f.symbol X ≡ b → (if b then Some f.target else find_edge row X) ≡ Some u → (find_edge row X ≡ Some u → IsTargetOf g kernels k X u × Contains (symbols_of row) X) → IsTargetOf g kernels k X u × Contains (symbols_of (f ∷ row)) X
+    go : (b : Bool) → same_symbol f.symbol X ≡ b → (if b then Some f.target else find_edge row X) ≡ Some u → (find_edge row X ≡ Some u → IsTargetOf g kernels k X u × Contains (edge_symbols row) X) → IsTargetOf g kernels k X u × Contains (edge_symbols (f ∷ row)) X
     go true s t rest =
         let to : f.target ≡ u = cc in
         let on = same_is f.symbol X s in
-        (rw (← to, ← on) z.0, rw (← on) (contains_here f.symbol (symbols_of row)))
-    go false s t rest = let r = rest t in (r.0, contains_there f.symbol (symbols_of row) X r.1)
+        (rw (← to, ← on) z.0, rw (← on) (contains_here f.symbol (edge_symbols row)))
+    go false s t rest = let r = rest t in (r.0, contains_there f.symbol (edge_symbols row) X r.1)
 
 -- a state with its edges
 abbrev pub IsSettled : PlainGrammar → Work → ℕ → Kernel → Type 0
@@ -140,13 +140,13 @@ module _ (g : PlainGrammar) where
     after = record { kernels = s.placed.kernels; rows = set s.placed.rows s.state s.row; queue = s.placed.queue }
 
     placed_length : length s.placed.rows ≡ length s.placed.kernels
-    placed_length = all_put_length s.kernel (symbols_of s.row) (targets_of s.row) begin s.placed s.put len
+    placed_length = all_put_length s.kernel (edge_symbols s.row) (targets_of s.row) begin s.placed s.put len
 
     pub step_length : length new.rows ≡ length new.kernels
     step_length = rw (s.after, length-set s.placed.rows s.state s.row) placed_length
 
     new_row : IsRowFor g s.placed.kernels s.kernel s.row
-    new_row = record { rising = s.moving.rising; moves = s.moving.exact; leads = all_put_targets s.kernel (symbols_of s.row) (targets_of s.row) begin s.placed s.put }
+    new_row = record { rising = s.moving.rising; moves = s.moving.exact; leads = all_put_targets s.kernel (edge_symbols s.row) (targets_of s.row) begin s.placed s.put }
 
     but : AreSettled g old → AreSettledBut g s.state begin
     but before n k at = elim (before n k at) [
@@ -170,8 +170,8 @@ module _ (g : PlainGrammar) where
 
     step_after : AreSettled g old → AreSettled g after
     step_after before n k at = elim (cases_eq n s.state) [
-      | inl e ↦ rw e (here k (rw e at at) (all_put_source s.kernel s.state (symbols_of s.row) (targets_of s.row) begin s.placed s.put (inl s.at)))
-      | inr other ↦ elsewhere n k other (all_put_settled s.kernel s.state (symbols_of s.row) (targets_of s.row) begin s.placed s.put (but before) n k at)
+      | inl e ↦ rw e (here k (rw e at at) (all_put_source s.kernel s.state (edge_symbols s.row) (targets_of s.row) begin s.placed s.put (inl s.at)))
+      | inr other ↦ elsewhere n k other (all_put_settled s.kernel s.state (edge_symbols s.row) (targets_of s.row) begin s.placed s.put (but before) n k at)
     ]
 
     pub step_settled : AreSettled g old → AreSettled g new

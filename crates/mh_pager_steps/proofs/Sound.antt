@@ -15,11 +15,11 @@ use Rattle.mh_grammar.proofs.Lists.{contains_at}
 use Rattle.mh_items_kernels.specs.Shapes.{Kernel}
 use Rattle.mh_items_kernels.specs.Kernels.{Holds, IsItemList}
 use Rattle.mh_items_kernels.specs.Automaton.{start_kernel}
-use Rattle.mh_canon_states.specs.Canonical.{HasItem, targets_of}
+use Rattle.mh_items_kernels.specs.Collection.{HasItem, targets_of, edge_symbols}
 use Rattle.mh_canon_states.proofs.Building.{IsItemList-start}
 use Rattle.mh_canon_states.proofs.Sets.{start_holds, moved_dot}
-use Rattle.mh_canon_states.specs.Weak.{HasPair, IsJoin}
-use Rattle.mh_pager_steps.specs.Steps.{Work, Takes, Puts, IsMoveOf, AllPut, symbols_of, IsStep, Steps, none, more, IsBegun, start_numbers}
+use Rattle.mh_pager_steps.specs.Weak.{HasPair, IsJoin}
+use Rattle.mh_pager_steps.specs.Steps.{Work, Takes, Puts, IsMoveOf, AllPut, IsStep, Steps, none, more, IsBegun, start_numbers}
 use Rattle.mh_pager_steps.proofs.Putting.{Came, stays, joins, fresh, came, put_grows, join_extends}
 use Rattle.mh_pager_steps.proofs.Settling.{AreSettled, step_length, step_settled}
 
@@ -114,7 +114,7 @@ module _ (g : PlainGrammar) where
 
   step_sound : (old new : Work) → IsStep g old new → AreSound g old.kernels → AreSound g new.kernels
   step_sound old new s before =
-      let after : AreSound g s.placed.kernels = all_put_sound s.kernel (before.each s.state s.kernel s.at) (symbols_of s.row) (targets_of s.row) (record { kernels = old.kernels; rows = old.rows; queue = s.waiting }) s.placed s.put before in
+      let after : AreSound g s.placed.kernels = all_put_sound s.kernel (before.each s.state s.kernel s.at) (edge_symbols s.row) (targets_of s.row) (record { kernels = old.kernels; rows = old.rows; queue = s.waiting }) s.placed s.put before in
       rw s.after after
 
 -- what the steps keep

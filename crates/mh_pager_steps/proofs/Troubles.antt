@@ -8,12 +8,11 @@ use Rattle.mh_grammar.specs.ItemSets.{ItemSet, Close, Moved, StartItems}
 use Rattle.mh_items_kernels.specs.Shapes.{Kernel}
 use Rattle.mh_items_kernels.specs.Kernels.{Holds}
 use Rattle.mh_items_kernels.specs.Automaton.{start_kernel}
-use Rattle.mh_canon_states.specs.Canonical.{targets_of}
+use Rattle.mh_items_kernels.specs.Collection.{targets_of, After, edge_symbols}
 use Rattle.mh_canon_states.proofs.Sets.{start_holds}
-use Rattle.mh_canon_states.specs.Weak.{OneCore, Covers, AreCompatible, IsJoin}
-use Rattle.mh_items_kernels.specs.Collection.{After}
+use Rattle.mh_pager_steps.specs.Weak.{OneCore, Covers, AreCompatible, IsJoin}
 use Rattle.mh_items_kernels.specs.Conflicts.{HasConflict, HasEither, LeadsTo}
-use Rattle.mh_pager_steps.specs.Steps.{Work, Puts, IsMoveOf, AllPut, symbols_of, IsStep, Steps, none, more, IsBegun}
+use Rattle.mh_pager_steps.specs.Steps.{Work, Puts, IsMoveOf, AllPut, IsStep, Steps, none, more, IsBegun}
 use Rattle.mh_pager_steps.proofs.Joining.{clash_joined, fault_joined}
 use Rattle.mh_pager_steps.proofs.Paths.{after_covers, more_clashes, more_faults, move_troubled}
 use Rattle.mh_pager_steps.proofs.Putting.{Came, stays, joins, fresh, came}
@@ -64,7 +63,7 @@ module _ (g : PlainGrammar) (Bad : ItemSet → Type 0) (t : IsTrouble g Bad) whe
 
   step_quiet : (old new : Work) → IsStep g old new → AreQuiet old.kernels → AreQuiet new.kernels
   step_quiet old new s before =
-      let after : AreQuiet s.placed.kernels = all_put_quiet s.kernel (before s.state s.kernel s.at) (symbols_of s.row) (targets_of s.row) (record { kernels = old.kernels; rows = old.rows; queue = s.waiting }) s.placed s.put before in
+      let after : AreQuiet s.placed.kernels = all_put_quiet s.kernel (before s.state s.kernel s.at) (edge_symbols s.row) (targets_of s.row) (record { kernels = old.kernels; rows = old.rows; queue = s.waiting }) s.placed s.put before in
       rw s.after after
 
   steps_quiet : (first last : Work) → Steps g first last → AreQuiet first.kernels → AreQuiet last.kernels

@@ -1,3 +1,5 @@
-pub mod Numbered
+pub mod First
 pub mod Paths
 pub mod Steps
+pub mod Weak
+pub mod code

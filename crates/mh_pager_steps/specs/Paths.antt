@@ -6,7 +6,7 @@ use Rattle.mh_grammar.specs.ItemSets.{Reach}
 use Rattle.mh_items_kernels.specs.Shapes.{Automaton}
 use Rattle.mh_items_kernels.specs.Automaton.{kernel_of}
 use Rattle.mh_items_kernels.specs.Collection.{HasItem, LeadsBy}
-use Rattle.mh_canon_states.specs.Weak.{Covers}
+use Rattle.mh_pager_steps.specs.Weak.{Covers}
 
 -- each path of the canonical collection is one of the automaton, and its states contain the collection's looks
 abbrev pub CoversPaths : PlainGrammar → Automaton → Type 0

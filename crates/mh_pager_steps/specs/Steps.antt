@@ -1,4 +1,5 @@
--- The steps that make the merged automaton (Pager 1977; which state is tried first is this project's own), and what they leave.
+-- The steps that make the merged automaton (Pager 1977; which state is tried first is this project's own), and what
+-- they leave.
 use Rattle.std.specs.Prelude.{◌≡◌, ◌⊎◌, ◌↔◌, ◌<◌, ℕ, List, [], ◌∷◌, ◌++◌, Some, length, map, set, replicate, slice_get}
 use Rattle.std.specs.List.{AllZip, Contains, range_with_len}
 use Rattle.mh_grammar.specs.declared.types.Symbol.{Symbol}
@@ -7,14 +8,11 @@ use Rattle.mh_grammar.specs.Plain.{PlainGrammar}
 use Rattle.mh_grammar.specs.Edges.{IsRising, IsSymbolBefore}
 use Rattle.mh_grammar.specs.ItemSets.{AreSame, Close, Moved}
 use Rattle.mh_grammar.specs.Numbering.{IsNumbering}
-use Rattle.mh_items_kernels.specs.Shapes.{Kernel}
-use Rattle.mh_items_kernels.specs.Shapes.{Automaton}
+use Rattle.mh_items_kernels.specs.Shapes.{Kernel, Automaton}
 use Rattle.mh_items_kernels.specs.Kernels.{Holds, IsItemList}
-use Rattle.mh_canon_states.specs.Canonical.{HasItem, targets_of}
-use Rattle.mh_canon_states.specs.Found.{AreStarts}
-use Rattle.mh_canon_states.specs.Weak.{OneCore, Covers, AreCompatible, IsJoin}
-pub use Rattle.mh_canon_states.specs.First.{IsFirst, HasNone}
-pub use Rattle.mh_canon_states.specs.Queued.{Queues}
+use Rattle.mh_items_kernels.specs.Collection.{AreStarts, HasItem, edge_symbols, targets_of}
+use Rattle.mh_pager_steps.specs.Weak.{OneCore, Covers, AreCompatible, IsJoin}
+use Rattle.mh_pager_steps.specs.First.{IsFirst, HasNone}
 
 -- the list of states, the edges that each was given last, and the states that wait, the oldest first
 pub record Work : Type 0 where
@@ -29,6 +27,10 @@ Keeps move k = OneCore (Holds k) (Holds move) × Covers (Holds k) (Holds move)
 -- a state has the move's core and is weakly compatible with it
 abbrev pub Takes : Kernel → Kernel → Type 0
 Takes move k = OneCore (Holds k) (Holds move) × AreCompatible (Holds k) (Holds move)
+
+-- a state is queued unless it is in the queue
+abbrev pub Queues : List ℕ → ℕ → List ℕ → Type 0
+Queues old n new = (Contains old n × (new ≡ old)) ⊎ ((Contains old n → ⊥) × (new ≡ old ++ n ∷ []))
 
 -- 1. a state that keeps the move is found
 pub record Finds (move : Kernel) (old new : Work) (n : ℕ) : Type 0 where
@@ -79,9 +81,6 @@ pub record AreMoving (g : PlainGrammar) (k : Kernel) (symbols : List Symbol) : T
   pub rising : IsRising IsSymbolBefore symbols
   pub exact : (X : Symbol) → Contains symbols X ↔ HasItem (Moved g (Close g (Holds k)) X)
 
-abbrev pub symbols_of : List Edge → List Symbol
-symbols_of row = map (λ (e : Edge). e.symbol) row
-
 -- one step: the oldest state that waits gets its edges
 pub record IsStep (g : PlainGrammar) (old new : Work) : Type 0 where
   pub state : ℕ
@@ -90,9 +89,9 @@ pub record IsStep (g : PlainGrammar) (old new : Work) : Type 0 where
   pub kernel : Kernel
   pub at : slice_get old.kernels state ≡ Some kernel
   pub row : List Edge
-  pub moving : AreMoving g kernel (symbols_of row)
+  pub moving : AreMoving g kernel (edge_symbols row)
   pub placed : Work
-  pub put : AllPut g kernel (symbols_of row) (targets_of row) (record { kernels = old.kernels; rows = old.rows; queue = waiting }) placed
+  pub put : AllPut g kernel (edge_symbols row) (targets_of row) (record { kernels = old.kernels; rows = old.rows; queue = waiting }) placed
   pub after : new ≡ record { kernels = placed.kernels; rows = set placed.rows state row; queue = placed.queue }
 
 pub data Steps (g : PlainGrammar) (first : Work) : Work → Type 0 where
@@ -118,7 +117,7 @@ pub record Leads (rows : List (List Edge)) (n : ℕ) (targets : List ℕ) : Type
 pub record IsOnSymbolsOf (rows : List (List Edge)) (n : ℕ) (edges : List Edge) : Type 0 where
   pub row : List Edge
   pub at : slice_get rows n ≡ Some row
-  pub same : symbols_of edges ≡ symbols_of row
+  pub same : edge_symbols edges ≡ edge_symbols row
 
 -- the automaton that the steps leave: the states that the starts reach, numbered breadth first
 pub record IsMerged (g : PlainGrammar) (a : Automaton) : Type 0 where
@@ -154,21 +153,3 @@ pub record IsSwollen (g : PlainGrammar) (limit : ℕ) : Type 0 where
   pub begun : IsBegun g first
   pub steps : Steps g first old
   pub overruns : Overruns g limit old
-
--- the kernels of the list are kernels, each has a row, and those that wait are there
-pub record IsReady (g : PlainGrammar) (w : Work) : Type 0 where
-  pub valid : (n : ℕ) (k : Kernel) → slice_get w.kernels n ≡ Some k → IsItemList g k
-  pub len : length w.rows ≡ length w.kernels
-  pub queued : (n : ℕ) → Contains w.queue n → n < length w.kernels
-
--- a list that the steps make from the start kernels
-pub record IsList (g : PlainGrammar) (w : Work) : Type 0 where
-  pub first : Work
-  pub begun : IsBegun g first
-  pub steps : Steps g first w
-
--- the first so many start kernels, all queued
-pub record AreBegun (count : ℕ) (w : Work) : Type 0 where
-  pub kernels : AreStarts count w.kernels
-  pub rows : w.rows ≡ replicate count []
-  pub queue : w.queue ≡ range_with_len 0 count

@@ -10,9 +10,9 @@ use Rattle.mh_tables_core.specs.Failing.{Fails, cost_by, cost_of_word}
 use Rattle.mh_tables_core.specs.Run.{Refuses, move_of}
 use Rattle.mh_facts.specs.declared.store.FactKey.{FactKey}
 use Rattle.mh_facts.specs.Stored.{Facts as Stored}
-use Rattle.mh_facts.specs.Least.{Label, longer, Holds, HoldsAt, ClosedAt}
-use Rattle.mh_facts.specs.Orders.{cap}
-use Rattle.mh_facts.specs.Orders as orders
+use Rattle.mh_facts.specs.code.Least.{Label, longer, Holds, HoldsAt, ClosedAt}
+use Rattle.mh_facts.specs.Costs.{cap}
+use Rattle.mh_facts.specs.code.Orders as orders
 use Rattle.mh_facts.proofs.Least.{fails_candidate, closed_reached, candidate_fails}
 use Rattle.mh_facts.proofs.Best.{closes_all_at}
 use Rattle.mh_grammar.proofs.Lists.{get_cases, below_next}
@@ -23,12 +23,13 @@ use Rattle.mh_reach_found.proofs.Telling.{all_numbered}
 use Rattle.mh_reach_found.specs.declared.arrivals.Spot.{Spot}
 use Rattle.mh_reach_found.specs.declared.arrivals.Arrival.{Arrival}
 use Rattle.mh_reach.specs.declared.sentences.Best.{Best}
-use Rattle.mh_facts.specs.Classes.{rep_of}
-use Rattle.mh_facts.specs.Tales.{NoLater, capped, weigh}
-use Rattle.mh_reach_found.specs.Found.{WaysIn}
-use Rattle.mh_reach_found.specs.Spots.{NoLaterAt, Spots, LabelBy, HasArrived, arrival_at, labels_at, ArrivedIn}
-use Rattle.mh_reach_found.specs.Comparing.{IsTold, numbers_of}
-use Rattle.mh_reach.specs.Reaching.{AreCheap, InOrderOr, Leads, IsFirstOf, IsFirstOfBoth, BestOn, BestBelow, best_for, step_of, spot_of, BestOk, BestAt, AreBest, IsReach, LeastCost}
+use Rattle.mh_facts.specs.code.Classes.{rep_of}
+use Rattle.mh_facts.specs.code.Tales.{NoLater, capped, weigh}
+use Rattle.mh_reach_found.specs.code.Found.{WaysIn}
+use Rattle.mh_reach_found.specs.code.Spots.{NoLaterAt, Spots, LabelBy, HasArrived, arrival_at, labels_at, ArrivedIn}
+use Rattle.mh_reach_found.specs.code.Comparing.{IsTold, numbers_of}
+use Rattle.mh_reach.specs.Reaching.{LeastCost}
+use Rattle.mh_reach.specs.code.Best.{AreCheap, InOrderOr, Leads, IsFirstOf, IsFirstOfBoth, BestOn, BestBelow, best_for, step_of, spot_of, BestOk, BestAt, AreBest, IsReach}
 use Rattle.mh_facts.proofs.Wording.{capped_one, weigh_word, order_laws, min_cap, some_is}
 use Rattle.mh_reach_found.proofs.Labelling.{label_laws, by_numbers, cheaper_at, both_over}
 use Rattle.mh_reach_found.proofs.Spots.{label_one}

@@ -4,11 +4,11 @@ use Rattle.std.specs.Prelude.{slice_get}
 use Rattle.mh_tables_core.specs.Table.{TableData}
 use Rattle.mh_tables_core.specs.Failing.{Fails, FailsFirst, FailsCheaply, IsInOrder, cost_of_word, dearest}
 use Rattle.mh_facts.specs.declared.store.FactKey.{FactKey}
-use Rattle.mh_facts.specs.Least.{Label}
-use Rattle.mh_facts.specs.Orders.{cap}
+use Rattle.mh_facts.specs.code.Least.{Label}
+use Rattle.mh_facts.specs.Costs.{cap}
 use Rattle.mh_reach_found.specs.declared.arrivals.Spot.{Spot}
 use Rattle.mh_reach.specs.declared.sentences.Best.{Best}
-use Rattle.mh_reach.specs.Reaching.{InOrderOr, BestOk}
+use Rattle.mh_reach.specs.code.Best.{InOrderOr, BestOk}
 
 pub index_at : {X : Type 0} (xs : List X) (n : ℕ) (x : X) → n < length xs → x ≡ slice_index_or xs n x → slice_get xs n ≡ Some x
 index_at [] n x lt e = absurd (omega arith)

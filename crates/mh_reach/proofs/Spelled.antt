@@ -10,8 +10,8 @@ use Rattle.mh_facts.specs.declared.store.FactKey.{FactKey}
 use Rattle.mh_facts.specs.declared.store.Back.{Back}
 use Rattle.mh_facts.specs.declared.store.Back.TheVariants as backs
 use Rattle.mh_facts.specs.Stored.{Facts}
-use Rattle.mh_facts.specs.Tales.{Tale, WordBy, before_dot, token_of, size_by, sizes_of}
-use Rattle.mh_reach.specs.Spelling.{WordsOf, SpellsOne, SpellsNext}
+use Rattle.mh_facts.specs.code.Tales.{Tale, WordBy, before_dot, token_of, size_by, sizes_of}
+use Rattle.mh_reach.specs.code.Spelling.{WordsOf, SpellsOne, SpellsNext}
 use Rattle.mh_facts.proofs.Wording.{some_is, fact_of_word, size_some}
 
 pub words_push : (words : FactKey → Option (List ℕ)) (ks : List FactKey) (k : FactKey) (a v : List ℕ) → WordsOf words ks a → words k ≡ Some v → WordsOf words (ks ++ k ∷ []) (a ++ v)

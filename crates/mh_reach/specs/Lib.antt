@@ -1,2 +1,2 @@
 pub mod Reaching
-pub mod Spelling
+pub mod code

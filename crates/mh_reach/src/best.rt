@@ -1,20 +1,18 @@
 //! The best way to fail in each state, by what both searches found.
 ghost use Rattle.std.specs.Prelude.{◌≡◌, ◌<◌, IfOk, IfSome, length};
-ghost use Rattle.mh_facts.specs.Classes.{IsClasses};
-ghost use Rattle.mh_reach_found.specs.Spots.{ArrivedIn, HasArrived, arrival_at};
-ghost use Rattle.mh_reach_found.specs.Comparing.{ComesLater, IsTold};
-ghost use Rattle.mh_reach.specs.Reaching.{AreCheap, BestOn, BestBelow, AreBest, IsFirstOf, IsFirstOfBoth, cost_in, step_of};
+ghost use Rattle.mh_facts.specs.code.Classes.{IsClasses};
+ghost use Rattle.mh_reach_found.specs.code.Spots.{ArrivedIn, HasArrived};
+ghost use Rattle.mh_reach_found.specs.code.Comparing.{ComesLater, IsTold};
+ghost use Rattle.mh_reach.specs.code.Best.{AreCheap, BestOn, BestBelow, AreBest, IsFirstOf, IsFirstOfBoth, step_of};
 
 use crate::sentences::{Best, Reach};
-use mh_facts::{
-    Cheaper, Classes, FactStore, Rivals, cheaper_of, class_of, failing_cost, rivals_of, sooner,
-};
+use mh_facts::{Classes, FactStore, add_token, class_of};
 use mh_grammar::{Memory, Token};
 use mh_reach_found::{Arrivals, Found, Spot, Step, arrival_of, comes_later};
 use mh_tables_core::{Choice, Halting, Table, choose};
 use std::alloc::Global;
 
-/// The step behind which a state refuses the token.
+/// The step to the token that a state refuses.
 fn step_of(best: Best) -> Step
     ensures { result ≡ step_of best }
 {
@@ -24,17 +22,7 @@ fn step_of(best: Best) -> Step
     }
 }
 
-/// The cost at which a spot is reached, where it is.
-fn cost_at(arrivals: &Arrivals, spot: Spot) -> Option<u32>
-    ensures { result ≡ cost_in (arrival_at arrivals.now.spots spot) }
-{
-    match arrival_of(arrivals, spot) {
-        None => None,
-        Some(arrival) => Some(arrival.cost),
-    }
-}
-
-/// How a state refuses a token, where it does behind some sentence.
+/// How a state refuses a token, where it does so after some sentence.
 fn best_on(
     table: &Table,
     classes: &Classes,
@@ -55,17 +43,21 @@ fn best_on(
                 state,
                 next: class_of(table, classes, state, token).representative,
             };
-            match failing_cost(table, cost_at(arrivals, spot), token) {
+            match arrival_of(arrivals, spot) {
                 None => None,
-                Some(cost) => Some(Best { cost, spot, token }),
+                Some(arrival) => Some(Best {
+                    cost: add_token(table, arrival.cost, token),
+                    spot,
+                    token,
+                }),
             }
         }
         _ => None,
     }
 }
 
-/// Whether the sentence of the left one comes later, of two of one cost.
-fn is_behind(
+/// Whether the sentence of the left one comes later than that of the right one; both have one cost.
+fn is_later(
     alloc: Global,
     table: &Table,
     found: &Found,
@@ -97,13 +89,16 @@ fn sooner_of(
     requires right { HasArrived arrivals.now.spots right.spot }
     ensures { IfOk result (IsFirstOf table.now found.now.store arrivals.now.spots left right) }
 {
-    match cheaper_of(left.cost, right.cost) {
-        Cheaper::Left => Ok(left),
-        Cheaper::Right => Ok(right),
-        Cheaper::Neither => {
-            let behind = is_behind(alloc, table, found, arrivals, left, right)?;
-            Ok(sooner(behind, left, right))
-        }
+    if left.cost < right.cost {
+        return Ok(left);
+    }
+    if right.cost < left.cost {
+        return Ok(right);
+    }
+    if is_later(alloc, table, found, arrivals, left, right)? {
+        Ok(right)
+    } else {
+        Ok(left)
     }
 }
 
@@ -121,11 +116,13 @@ fn first_of(
     requires more { IfSome more (λ b. HasArrived arrivals.now.spots b.spot) }
     ensures { IfOk result (IsFirstOfBoth table.now found.now.store arrivals.now.spots best more) }
 {
-    match rivals_of(best, more) {
-        Rivals::One(one) => Ok(one),
-        Rivals::Both(left, right) => Ok(Some(sooner_of(
-            alloc, table, found, arrivals, left, right,
-        )?)),
+    match (best, more) {
+        (None, more) => Ok(more),
+        (Some(best), None) => Ok(Some(best)),
+        (Some(left), Some(right)) => {
+            let first = sooner_of(alloc, table, found, arrivals, left, right)?;
+            Ok(Some(first))
+        }
     }
 }
 

@@ -1,6 +1,6 @@
 //! Both searches of a table.
 ghost use Rattle.std.specs.Prelude.{◌≡◌, IfOk};
-ghost use Rattle.mh_facts.specs.Classes.{IsClasses};
+ghost use Rattle.mh_facts.specs.code.Classes.{IsClasses};
 
 use crate::best::reach_by;
 use crate::sentences::Reach;

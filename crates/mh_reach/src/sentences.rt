@@ -1,7 +1,7 @@
 //! The least cost of a sentence that fails in a state, and the first of these sentences.
 ghost use Rattle.std.specs.Prelude.{◌≡◌, ◌<◌, IfOk, length};
 ghost use Rattle.mh_tables_core.specs.Failing.{FailsFirst, FailsCheaply};
-ghost use Rattle.mh_reach.specs.Spelling.{HasLabel, Walks};
+ghost use Rattle.mh_reach.specs.code.Spelling.{HasLabel, Walks};
 ghost use Rattle.mh_reach.specs.Reaching.{LeastCost};
 
 use crate::spell::spell;
@@ -12,7 +12,7 @@ use mh_tables_core::{Halting, Table};
 use std::alloc::Global;
 use std::marker::Model;
 
-/// The best way to fail in a state: the token is refused behind the spot.
+/// The best way to fail in a state: the spot at which the token is refused.
 #[derive(Clone, Copy, Drop)]
 pub struct Best {
     pub cost: u32,
@@ -31,7 +31,7 @@ pub struct Reach<'t> {
 
 impl<'t> Model for Reach<'t> {
     ghost use Rattle.mh_tables_core.specs.Table.{TableData};
-    ghost use Rattle.mh_reach.specs.Reaching.{IsReach};
+    ghost use Rattle.mh_reach.specs.code.Best.{IsReach};
 
     ghost Value = { TableData };
 

@@ -1,6 +1,6 @@
 //! Words and sentences, by what facts and arrivals came from.
 ghost use Rattle.std.specs.Prelude.{◌≡◌, OnOk};
-ghost use Rattle.mh_reach.specs.Spelling.{HasWord, Spells, SpellsOne, SpellsNext};
+ghost use Rattle.mh_reach.specs.code.Spelling.{HasWord, Spells, SpellsOne, SpellsNext};
 
 use mh_facts::{Back, FactKey, FactStore};
 use mh_grammar::{Memory, Token};

@@ -11,8 +11,8 @@ use Rattle.mh_tables_core.specs.Facts.{Facts}
 use Rattle.mh_tables_core.specs.Run.{Shifts, move_of}
 use Rattle.mh_tables_core.proofs.Reductions.{shifts_from_move}
 use Rattle.mh_facts.specs.declared.store.FactKey.{FactKey}
-use Rattle.mh_facts.specs.Least.{Label, longer, HoldsAt, LabelLaws, SoundReach, SoundWay}
-use Rattle.mh_facts.specs.Orders.{cap}
+use Rattle.mh_facts.specs.code.Least.{Label, longer, HoldsAt, LabelLaws, SoundReach, SoundWay}
+use Rattle.mh_facts.specs.Costs.{cap}
 use Rattle.mh_facts.proofs.Sound.{shift_known}
 use Rattle.mh_facts.proofs.Least.{reach_begins, reach_shifts, reach_goes}
 use Rattle.mh_facts.specs.declared.work.Whole.{Whole}
@@ -24,13 +24,13 @@ use Rattle.mh_reach_found.specs.declared.arrivals.Step.TheVariants as steps
 use Rattle.mh_reach_found.specs.declared.arrivals.Arrival.{Arrival}
 use Rattle.mh_reach_arrivals.specs.declared.comings.Coming.{Coming}
 use Rattle.mh_facts.specs.code.Rows.{Waits, Gains, Among}
-use Rattle.mh_facts.specs.Classes.{IsClasses, rep_of, place_of}
-use Rattle.mh_facts.specs.Rules.{wholes_at}
-use Rattle.mh_facts.specs.Tales.{NoLater, capped}
-use Rattle.mh_reach_found.specs.Found.{WaysIn, WholeOk}
-use Rattle.mh_reach_found.specs.Spots.{NoLaterAt, Spots, spot, Journey, LabelBy, HasArrived, Arrived, labels_at}
-use Rattle.mh_reach_arrivals.specs.Arriving.{NoLaterBy, StepsAlong, StepsShift, StepsWay, GoesOn, Starts, ComingOk, Waiting, PendingAt, GoodAt, InOrderAt, ComesNext}
-use Rattle.mh_reach_words.specs.Rising.{Rises}
+use Rattle.mh_facts.specs.code.Classes.{IsClasses, rep_of, place_of}
+use Rattle.mh_facts.specs.code.Rules.{wholes_at}
+use Rattle.mh_facts.specs.code.Tales.{NoLater, capped}
+use Rattle.mh_reach_found.specs.code.Found.{WaysIn, WholeOk}
+use Rattle.mh_reach_found.specs.code.Spots.{NoLaterAt, Spots, spot, Journey, LabelBy, HasArrived, Arrived, labels_at}
+use Rattle.mh_reach_arrivals.specs.code.Arriving.{NoLaterBy, StepsAlong, StepsShift, StepsWay, GoesOn, Starts, ComingOk, Waiting, PendingAt, GoodAt, InOrderAt, ComesNext}
+use Rattle.mh_reach_words.specs.code.Rising.{Rises}
 use Rattle.mh_facts.proofs.Rowing.{row_past}
 use Rattle.mh_facts.proofs.Wording.{some_is, capped_one, capped_both, min_cap, no_lower}
 use Rattle.mh_facts.proofs.Keyed.{at_cases}

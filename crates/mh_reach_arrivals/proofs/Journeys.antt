@@ -3,13 +3,13 @@ use Rattle.std.proofs.Common.{◌≡◌, ℕ, ◌+◌, ◌⊎◌, inl, inr, List
 use Rattle.std.proofs.lemmas.List.Sums.{fold_push}
 use Rattle.mh_tables_core.specs.Table.{TableData}
 use Rattle.mh_facts.specs.declared.store.FactKey.{FactKey}
-use Rattle.mh_facts.specs.Least.{Label}
+use Rattle.mh_facts.specs.code.Least.{Label}
 use Rattle.mh_reach_found.specs.declared.arrivals.Spot.{Spot}
 use Rattle.mh_reach_found.specs.declared.arrivals.Step.{Step}
 use Rattle.mh_reach_found.specs.declared.arrivals.Step.TheVariants as steps
 use Rattle.mh_reach_found.specs.declared.arrivals.Arrival.{Arrival}
-use Rattle.mh_facts.specs.Tales.{capped}
-use Rattle.mh_reach_found.specs.Spots.{Spots, arrival_at, put_at, height_by, with_height, heights_of, LabelBy, Reached, Journey}
+use Rattle.mh_facts.specs.code.Tales.{capped}
+use Rattle.mh_reach_found.specs.code.Spots.{Spots, arrival_at, put_at, height_by, with_height, heights_of, LabelBy, Reached, Journey}
 use Rattle.mh_facts.proofs.Keyed.{put_here, put_cases, put_other, each_more, none_more}
 use Rattle.mh_facts.proofs.Wording.{some_is}
 use Rattle.mh_reach_found.proofs.Spots.{spot_keys}

@@ -6,28 +6,28 @@ use Rattle.mh_tables_core.specs.Table.{TableData}
 use Rattle.mh_tables_core.specs.Facts.{Facts}
 use Rattle.mh_facts.specs.declared.store.FactKey.{FactKey}
 use Rattle.mh_facts.specs.Stored.{Facts as Stored}
-use Rattle.mh_facts.specs.Least.{Label}
-use Rattle.mh_facts.specs.Orders.{cap}
+use Rattle.mh_facts.specs.code.Least.{Label}
+use Rattle.mh_facts.specs.Costs.{cap}
 use Rattle.mh_facts.specs.declared.work.Whole.{Whole}
 use Rattle.mh_facts.specs.declared.work.Work.{Work}
 use Rattle.mh_facts.specs.declared.classes.Classes.{Classes}
 use Rattle.mh_reach_found.specs.declared.found.Found.{Found}
 use Rattle.mh_facts.specs.code.Rows.{Gains, IsOne}
-use Rattle.mh_facts.specs.Classes.{IsClasses, rep_of}
-use Rattle.mh_facts.specs.Rules.{wholes_at}
-use Rattle.mh_facts.specs.Tales.{Tale, capped}
-use Rattle.mh_reach_found.specs.Found.{WholeOk}
+use Rattle.mh_facts.specs.code.Classes.{IsClasses, rep_of}
+use Rattle.mh_facts.specs.code.Rules.{wholes_at}
+use Rattle.mh_facts.specs.code.Tales.{Tale, capped}
+use Rattle.mh_reach_found.specs.code.Found.{WholeOk}
 use Rattle.mh_facts.proofs.Wording.{fact_of_word}
 use Rattle.mh_reach_found.proofs.Telling.{all_numbered}
 use Rattle.mh_reach_found.specs.declared.arrivals.Spot.{Spot}
 use Rattle.mh_reach_found.specs.declared.arrivals.Step.{Step}
 use Rattle.mh_reach_found.specs.declared.arrivals.Step.TheVariants as steps
 use Rattle.mh_reach_arrivals.specs.declared.comings.Coming.{Coming}
-use Rattle.mh_reach_found.specs.Spots.{Spots, Journey, LabelBy}
-use Rattle.mh_reach_arrivals.specs.Arriving.{NoLaterBy, Waiting, GoodAt, InOrderAt, ReadyAt, IsDone, NoneComes, TakesAll, GoodIn}
-use Rattle.mh_reach_found.specs.Comparing.{PrecedesBy, IsKnown, IsTold}
-use Rattle.mh_reach_arrivals.specs.Ordering.{AreKnown, InTurn}
-use Rattle.mh_reach_words.specs.Rising.{Rises, Same}
+use Rattle.mh_reach_found.specs.code.Spots.{Spots, Journey, LabelBy}
+use Rattle.mh_reach_arrivals.specs.code.Arriving.{NoLaterBy, Waiting, GoodAt, InOrderAt, ReadyAt, IsDone, NoneComes, TakesAll, GoodIn}
+use Rattle.mh_reach_found.specs.code.Comparing.{PrecedesBy, IsKnown, IsTold}
+use Rattle.mh_reach_arrivals.specs.code.Ordering.{AreKnown, InTurn}
+use Rattle.mh_reach_words.specs.code.Rising.{Rises, Same}
 use Rattle.mh_reach_found.proofs.Queueing.{moves_taken, moves_sorted, moves_pushed, moves_drained, moves_higher, above}
 use Rattle.mh_reach_arrivals.proofs.Arriving.{Comings, good_moves}
 use Rattle.mh_reach_found.proofs.Labelling.{label_laws, both_over, cheaper_at, by_numbers}

@@ -2,13 +2,13 @@
 use Rattle.std.proofs.Common.{◌≡◌, Bool, true, false, subst, sym}
 use Rattle.mh_tables_core.specs.Table.{TableData}
 use Rattle.mh_facts.specs.Stored.{Facts as Stored}
-use Rattle.mh_reach_words.specs.Rising.{IsLater, IsTransitive, StandAlike}
+use Rattle.mh_reach_words.specs.code.Rising.{IsLater, IsTransitive, StandAlike}
 use Rattle.mh_reach_found.specs.declared.arrivals.Step.{Step}
-use Rattle.mh_reach_found.specs.Spots.{Spots}
-use Rattle.mh_reach_found.specs.Comparing.{IsKnown, Precedes, ComesLater}
+use Rattle.mh_reach_found.specs.code.Spots.{Spots}
+use Rattle.mh_reach_found.specs.code.Comparing.{IsKnown, Precedes, ComesLater}
 use Rattle.mh_reach_found.proofs.Tracing.{precedes_after}
 use Rattle.mh_reach_arrivals.specs.declared.comings.Coming.{Coming}
-use Rattle.mh_reach_arrivals.specs.Ordering.{InTurn}
+use Rattle.mh_reach_arrivals.specs.code.Ordering.{InTurn}
 
 -- arrivals come as their steps do
 pub in_turn_later : (t : TableData) (facts : Stored) (spots : Spots) (x y : Coming) (later : Bool) → ComesLater t facts spots x.step y.step later → IsLater (InTurn t facts spots) x y later

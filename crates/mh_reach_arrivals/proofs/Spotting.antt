@@ -3,7 +3,7 @@ use Rattle.std.proofs.Common.{◌≡◌, ℕ, ◌<◌, [], ◌∷◌, ◌++◌, 
 use Rattle.std.specs.Prelude.{◌^◌}
 use Rattle.mh_reach_found.specs.declared.arrivals.Spot.{Spot}
 use Rattle.mh_reach_found.specs.declared.arrivals.Arrival.{Arrival}
-use Rattle.mh_reach_found.specs.Spots.{Spots, arrival_at, spot}
+use Rattle.mh_reach_found.specs.code.Spots.{Spots, arrival_at, spot}
 use Rattle.mh_facts.proofs.Counting.{total, total_le, total_less, bit, bit_le, bit_less, wide, narrow}
 use Rattle.mh_reach_found.proofs.Spots.{spot_keys}
 

@@ -7,15 +7,15 @@ use Rattle.mh_tables_core.specs.Table.{TableData, cost_of_token, state_at}
 use Rattle.mh_tables_core.specs.Facts.{Facts}
 use Rattle.mh_tables_core.specs.Run.{Shifts, move_of}
 use Rattle.mh_grammar.specs.declared.types.Symbol.TheVariants.{T}
-use Rattle.mh_facts.specs.Orders.{cap}
+use Rattle.mh_facts.specs.Costs.{cap}
 use Rattle.mh_reach_found.specs.declared.arrivals.Spot.{Spot}
 use Rattle.mh_reach_found.specs.declared.arrivals.Step.TheVariants as steps
 use Rattle.mh_reach_found.specs.declared.arrivals.Arrival.{Arrival}
 use Rattle.mh_reach_arrivals.specs.declared.comings.Coming.{Coming}
 use Rattle.mh_facts.specs.declared.classes.Classes.{Classes}
 use Rattle.mh_facts.specs.code.Rows.{Gains, Among}
-use Rattle.mh_facts.specs.Classes.{rep_of, list_at}
-use Rattle.mh_reach_arrivals.specs.Arriving.{StepsOn, StepsAlong, StepsEdge, StepsShift}
+use Rattle.mh_facts.specs.code.Classes.{rep_of, list_at}
+use Rattle.mh_reach_arrivals.specs.code.Arriving.{StepsOn, StepsAlong, StepsEdge, StepsShift}
 use Rattle.mh_facts.proofs.Gaining.{gains_by}
 use Rattle.mh_facts.proofs.Edging.{one_shift, shift_target}
 use Rattle.mh_facts.proofs.Edging.{edge_there}

@@ -1,2 +1,1 @@
-pub mod Arriving
-pub mod Ordering
+pub mod code

@@ -3,16 +3,16 @@ ghost use Rattle.std.specs.Prelude.{◌≡◌, ◌≤◌, ◌<◌, ◌+◌, ◌�
 ghost use Rattle.std.specs.List.{Contains};
 ghost use Rattle.mh_tables_core.specs.Table.{edge_of};
 ghost use Rattle.mh_facts.specs.declared.work.Whole.{Whole};
-ghost use Rattle.mh_facts.specs.Orders.{cap};
+ghost use Rattle.mh_facts.specs.Costs.{cap};
 ghost use Rattle.mh_facts.specs.code.Rows.{Gains, Among, row_of};
-ghost use Rattle.mh_facts.specs.Classes.{IsClasses, place_of};
-ghost use Rattle.mh_facts.specs.Rules.{OnlyAt};
-ghost use Rattle.mh_reach_found.specs.Found.{IsFound};
-ghost use Rattle.mh_reach_found.specs.Spots.{ArrivedIn};
-ghost use Rattle.mh_reach_arrivals.specs.Arriving.{NextComing, StepsOn, StepsAlong, StepsEdge, StepsShift, StepsWay, Starts, KeepsComing, TakesAll, GoodIn, ReadyIn};
-ghost use Rattle.mh_reach_found.specs.Comparing.{IsTold};
-ghost use Rattle.mh_reach_arrivals.specs.Ordering.{AreKnown, InTurn};
-ghost use Rattle.mh_reach_words.specs.Rising.{Rises, Same};
+ghost use Rattle.mh_facts.specs.code.Classes.{IsClasses, place_of};
+ghost use Rattle.mh_facts.specs.code.Rules.{OnlyAt};
+ghost use Rattle.mh_reach_found.specs.code.Found.{IsFound};
+ghost use Rattle.mh_reach_found.specs.code.Spots.{ArrivedIn};
+ghost use Rattle.mh_reach_arrivals.specs.code.Arriving.{NextComing, StepsOn, StepsAlong, StepsEdge, StepsShift, StepsWay, Starts, KeepsComing, TakesAll, GoodIn, ReadyIn};
+ghost use Rattle.mh_reach_found.specs.code.Comparing.{IsTold};
+ghost use Rattle.mh_reach_arrivals.specs.code.Ordering.{AreKnown, InTurn};
+ghost use Rattle.mh_reach_words.specs.code.Rising.{Rises, Same};
 
 use crate::comings::Coming;
 use crate::sorting::BySentence;
@@ -236,7 +236,7 @@ fn next_coming(queue: &mut Queue<Coming>, arrivals: &Arrivals, cost: u32) -> Opt
     }
 }
 
-/// Puts an arrival behind others, where its spot is not reached.
+/// Adds an arrival to others, unless its spot is reached.
 fn keep_coming(all: &mut Vec<Coming>, arrivals: &Arrivals, coming: Coming) -> Result<(), Memory>
     ensures { OnOk result (KeepsComing arrivals.now.spots coming all.old.items all.new.items) }
 {
@@ -264,7 +264,7 @@ fn take_all(
     }
 }
 
-/// Arrivals of a cost in the order of their sentences; those that are too dear stand in any order.
+/// Arrivals of a cost in the order of their sentences; those that are too dear come in any order.
 fn ordered(
     alloc: Global,
     table: &Table,

@@ -1,7 +1,7 @@
 //! Arrivals of one cost in the order of their sentences.
 ghost use Rattle.std.specs.Prelude.{◌≡◌, IfOk, IsTrue};
-ghost use Rattle.mh_reach_found.specs.Comparing.{IsKnown, IsTold};
-ghost use Rattle.mh_reach_arrivals.specs.Ordering.{InTurn};
+ghost use Rattle.mh_reach_found.specs.code.Comparing.{IsKnown, IsTold};
+ghost use Rattle.mh_reach_arrivals.specs.code.Ordering.{InTurn};
 
 use crate::comings::Coming;
 use mh_grammar::Memory;

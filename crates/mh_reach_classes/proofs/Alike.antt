@@ -13,14 +13,14 @@ use Rattle.mh_tables_core.proofs.Known.{edge_source}
 use Rattle.mh_tables_core.proofs.Reductions.{reduces_from_move}
 use Rattle.mh_grammar.specs.declared.types.Symbol.TheVariants.{N}
 use Rattle.mh_grammar.specs.Plain.{lhs_of}
-use Rattle.mh_facts.specs.Least.{GoesLike}
+use Rattle.mh_facts.specs.code.Least.{GoesLike}
 use Rattle.mh_reach_classes.specs.declared.past.Reduction.{Reduction}
 use Rattle.mh_facts.specs.declared.classes.Class.{Class}
 use Rattle.mh_facts.specs.declared.classes.Classes.{Classes}
 use Rattle.mh_facts.specs.code.Rows.{row_of}
-use Rattle.mh_facts.specs.Classes.{rep_of}
-use Rattle.mh_reach_classes.specs.Past.{IsPast}
-use Rattle.mh_reach_classes.specs.Classing.{IsRow, IsPartition, IsAlike, AreAlike, agrees}
+use Rattle.mh_facts.specs.code.Classes.{rep_of}
+use Rattle.mh_reach_classes.specs.code.Past.{IsPast}
+use Rattle.mh_reach_classes.specs.code.Classing.{IsRow, IsPartition, IsAlike, AreAlike, agrees}
 use Rattle.mh_reach_classes.proofs.Parting.{NumberedTo}
 use Rattle.mh_reach_classes.proofs.Rowed.{row_higher}
 

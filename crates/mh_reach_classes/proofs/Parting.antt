@@ -5,12 +5,12 @@ use Rattle.std.specs.Global.{Vec}
 use Rattle.std.proofs.lemmas.Bool.{cases_lt}
 use Rattle.mh_grammar.proofs.Lists.{has_place, contains_none}
 use Rattle.mh_tables_core.specs.Table.{TableData}
-use Rattle.mh_facts.specs.Least.{GoesLike}
+use Rattle.mh_facts.specs.code.Least.{GoesLike}
 use Rattle.mh_facts.specs.declared.classes.Class.{Class}
 use Rattle.mh_facts.specs.declared.classes.Classes.{Classes}
 use Rattle.mh_facts.specs.code.Rows.{row_of}
-use Rattle.mh_facts.specs.Classes.{class_in, rep_of, place_of, list_at, IsClasses}
-use Rattle.mh_reach_classes.specs.Classing.{IsRow, IsPartition, AreTokens}
+use Rattle.mh_facts.specs.code.Classes.{class_in, rep_of, place_of, list_at, IsClasses}
+use Rattle.mh_reach_classes.specs.code.Classing.{IsRow, IsPartition, AreTokens}
 use Rattle.mh_facts.proofs.Rowing.{row_past}
 
 -- the rows of the states below n

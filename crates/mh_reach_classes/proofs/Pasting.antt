@@ -11,11 +11,11 @@ use Rattle.mh_grammar.specs.Edges.{find_edge}
 use Rattle.mh_grammar.specs.Plain.{production_count, rhs_of, lhs_of}
 use Rattle.mh_tables_core.specs.Table.{TableData, state_at, edge_of}
 use Rattle.mh_tables_core.specs.Facts.{Facts}
-use Rattle.mh_facts.specs.Least.{IsEnd}
+use Rattle.mh_facts.specs.code.Least.{IsEnd}
 use Rattle.mh_facts.proofs.Bound.{one_end, end_known}
 use Rattle.mh_reach_classes.specs.declared.past.Reduction.{Reduction}
 use Rattle.mh_facts.specs.code.Rows.{Collects}
-use Rattle.mh_reach_classes.specs.Past.{PastIn, IsPast}
+use Rattle.mh_reach_classes.specs.code.Past.{PastIn, IsPast}
 use Rattle.mh_facts.proofs.Edging.{edge_there, edge_leads}
 
 pub edge_is : (t : TableData) (s : ℕ) (x : Symbol) (es : List Edge) (o : Option ℕ) → es ≡ (state_at t s).edges → o ≡ find_edge es x → edge_of t s x ≡ o

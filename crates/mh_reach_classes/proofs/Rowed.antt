@@ -4,7 +4,7 @@ use Rattle.std.specs.Prelude.{slice_get}
 use Rattle.std.proofs.lemmas.List.Elements.{Contains-append_left}
 use Rattle.mh_grammar.proofs.Lists.{get_left, get_last, get_cases, contains_last, contains_push}
 use Rattle.mh_facts.specs.declared.classes.Class.{Class}
-use Rattle.mh_reach_classes.specs.Classing.{ClassOk, Stands, IsClassFor, IsRow}
+use Rattle.mh_reach_classes.specs.code.Classing.{ClassOk, Stands, IsClassFor, IsRow}
 
 pub row_begins : (given : List ℕ) (count : ℕ) → IsRow 0 given [] [] count
 row_begins given count = record {

@@ -1,2 +1,1 @@
-pub mod Classing
-pub mod Past
+pub mod code

@@ -1,10 +1,10 @@
 //! How classes of tokens are found, and the test that they are alike.
 ghost use Rattle.std.specs.Prelude.{◌≡◌, ◌<◌, ◌≤◌, ◌↔◌, ◌+◌, ◌∷◌, [], IsTrue, None, OnOk, IfOk, IfSome, length};
 ghost use Rattle.mh_tables_core.specs.Run.{Reduces, move_of};
-ghost use Rattle.mh_facts.specs.Least.{GoesLike};
-ghost use Rattle.mh_reach_classes.specs.Past.{IsPast};
-ghost use Rattle.mh_facts.specs.Classes.{IsClasses, rep_of};
-ghost use Rattle.mh_reach_classes.specs.Classing.{Stands, IsRow, IsClassFor, AddsRow, IsPartition, IsAlike, AreAlike, AreTokens, agrees};
+ghost use Rattle.mh_facts.specs.code.Least.{GoesLike};
+ghost use Rattle.mh_reach_classes.specs.code.Past.{IsPast};
+ghost use Rattle.mh_facts.specs.code.Classes.{IsClasses, rep_of};
+ghost use Rattle.mh_reach_classes.specs.code.Classing.{Stands, IsRow, IsClassFor, AddsRow, IsPartition, IsAlike, AreAlike, AreTokens, agrees};
 
 use crate::past::{Reduction, past_of};
 use indexmap::IndexSet;
@@ -94,7 +94,7 @@ fn next_place(count: &mut u32) -> u32
     *count - 1
 }
 
-/// The class of the token that is given for the one behind a row, where that is a lower token that stands for itself.
+/// The class of the token that is given for the one after a row, where that is a lower token that represents itself.
 fn followed(row: &[Class], given: &[Token], token: Token) -> Option<Class>
     requires { length row.now ≡ token }
     ensures stands { IfSome result (Stands row.now) }
@@ -192,7 +192,7 @@ fn add_row(
     Ok(())
 }
 
-/// The classes of all states, by the representatives that are given; where none are, each token stands for itself.
+/// The classes of all states, by the representatives that are given; where none are, each token represents itself.
 fn number(alloc: Global, table: &Table, given: &[Vec<Token>]) -> Result<Classes, Memory>
     ensures partition { IfOk result (IsPartition table.now) }
     ensures each { given.now ≡ [] → IfOk result (λ classes. AreTokens table.now classes) }
@@ -242,7 +242,7 @@ fn mark(table: &Table, rows: &[Vec<Token>], reduction: Reduction, marks: &mut Ve
     }
 }
 
-/// Where the pair of a representative and a mark stands.
+/// The place of the pair of a representative and a mark.
 fn slot_of(row: &[Token], marks: &[usize], token: usize) -> usize {
     let mark = marks.get(token).copied().unwrap_or(0);
     (token_at(row, token) as usize)

@@ -3,9 +3,9 @@ ghost use Rattle.std.specs.Prelude.{◌≡◌, ◌<◌, ℕ, OnOk, IfOk, length,
 ghost use Rattle.std.specs.List.{Contains};
 ghost use Rattle.mh_grammar.specs.Plain.{production_count};
 ghost use Rattle.mh_tables_core.specs.Table.{edge_of};
-ghost use Rattle.mh_facts.specs.Left.{IsByLeft};
+ghost use Rattle.mh_facts.specs.code.Left.{IsByLeft};
 ghost use Rattle.mh_facts.specs.code.Rows.{Collects};
-ghost use Rattle.mh_reach_classes.specs.Past.{EndOf, PastOne, PastOn, PastBehind, PastIn, IsPast};
+ghost use Rattle.mh_reach_classes.specs.code.Past.{EndOf, PastOne, PastOn, PastBehind, PastIn, IsPast};
 
 use indexmap::IndexSet;
 use mh_facts::{ByLeft, productions_of};
@@ -91,7 +91,7 @@ fn note_each(
     Ok(())
 }
 
-/// The reductions behind an edge.
+/// The reductions over an edge.
 fn note_behind(
     table: &Table,
     past: &mut IndexSet<Reduction>,
@@ -115,7 +115,7 @@ fn note_behind(
     }
 }
 
-/// The reductions behind the edges of a state.
+/// The reductions over the edges of a state.
 fn note_in(
     table: &Table,
     past: &mut IndexSet<Reduction>,

@@ -20,14 +20,14 @@ use Rattle.mh_grammar.specs.WordOrder.{LexLe}
 use Rattle.mh_reach_found.specs.declared.tails.Part.{Part}
 use Rattle.mh_reach_found.specs.declared.tails.Part.TheVariants as parts
 use Rattle.mh_reach_found.specs.declared.tails.Rests.{Rests}
-use Rattle.mh_facts.specs.Tales.{WordBy, Tale, token_of, sizes_of, size_by}
-use Rattle.mh_facts.specs.Orders.{cap}
-use Rattle.mh_reach_words.specs.Words.{Words, IsBook, Before, letters_of}
+use Rattle.mh_facts.specs.code.Tales.{WordBy, Tale, token_of, sizes_of, size_by}
+use Rattle.mh_facts.specs.Costs.{cap}
+use Rattle.mh_reach_words.specs.code.Words.{Words, IsBook, Before, letters_of}
 use Rattle.mh_reach_found.specs.declared.numbers.Numbering.{Numbering}
 use Rattle.mh_reach_found.specs.declared.tails.Told.{Told}
 use Rattle.mh_reach_found.specs.declared.tails.Told.TheVariants as tolds
-use Rattle.mh_reach_found.specs.Numbers.{StandsFor, IsPlaced}
-use Rattle.mh_reach_found.specs.Tails.{IsTurn, IsToldOf, IsToldBy, Tells, IsWordOf, AreWordOf, tokens_of, parts_of, weight, Opens, Goes, Turns, AreShared, AreComparable, IsLater}
+use Rattle.mh_reach_found.specs.code.Numbers.{StandsFor, IsPlaced}
+use Rattle.mh_reach_found.specs.code.Tails.{IsTurn, IsToldOf, IsToldBy, Tells, IsWordOf, AreWordOf, tokens_of, parts_of, weight, Opens, Goes, Turns, AreShared, AreComparable, IsLater}
 use Rattle.mh_facts.proofs.Wording.{some_is, fact_of_word}
 use Rattle.mh_grammar.proofs.Lists.{option_map_some}
 

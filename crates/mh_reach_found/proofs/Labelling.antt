@@ -6,14 +6,14 @@ use Rattle.std.proofs.lemmas.List.{append-nil}
 use Rattle.mh_tables_core.specs.Table.{TableData}
 use Rattle.mh_grammar.specs.WordOrder.{LexLe}
 use Rattle.mh_tables_core.specs.Failing.{cost_by}
-use Rattle.mh_facts.specs.Least.{Label, longer, LabelLaws}
-use Rattle.mh_facts.specs.Orders.{cap}
-use Rattle.mh_facts.specs.Orders as orders
+use Rattle.mh_facts.specs.code.Least.{Label, longer, LabelLaws}
+use Rattle.mh_facts.specs.Costs.{cap}
+use Rattle.mh_facts.specs.code.Orders as orders
 use Rattle.mh_facts.proofs.Orders.{cost_append, sentence_laws}
-use Rattle.mh_facts.specs.Tales.{NoLater, weigh, capped}
+use Rattle.mh_facts.specs.code.Tales.{NoLater, weigh, capped}
 use Rattle.mh_facts.proofs.Wording.{weigh_some, free_part, free_word}
-use Rattle.mh_reach_found.specs.Spots.{NoLaterAt}
-use Rattle.mh_reach_found.specs.Comparing.{numbers_of}
+use Rattle.mh_reach_found.specs.code.Spots.{NoLaterAt}
+use Rattle.mh_reach_found.specs.code.Comparing.{numbers_of}
 
 pub label_laws : (t : TableData) → LabelLaws (NoLater t) (NoLaterAt t)
 label_laws t = sentence_laws (weigh t) (weigh_some t)

@@ -4,8 +4,8 @@ use Rattle.std.specs.Global.{Vec}
 use Rattle.std.proofs.lemmas.Bool.{cases_lt}
 use Rattle.std.proofs.lemmas.List.Elements.{Contains-append_left, Contains-append_right}
 use Rattle.mh_facts.specs.code.Rows.{Waits, Beside, Gains, IsOne, Taken, NoneTaken}
-use Rattle.mh_reach_found.specs.Drawn.{DrawsOne, DrawsNone, Keeps, DrawsSome, DrawsAll}
-use Rattle.mh_reach_words.specs.Rising.{Same}
+use Rattle.mh_reach_found.specs.code.Drawn.{DrawsOne, DrawsNone, Keeps, DrawsSome, DrawsAll}
+use Rattle.mh_reach_words.specs.code.Rising.{Same}
 use Rattle.mh_grammar.proofs.Lists.{contains_here, contains_there, contains_cases, contains_none, contains_push}
 
 module _ {X : Type 0} (Done : X → Type 0) where

@@ -3,11 +3,11 @@ use Rattle.std.proofs.Common.{◌≡◌, ℕ, List, [], ◌∷◌, Option, true,
 use Rattle.std.proofs.lemmas.Grind.{common_steps}
 use Rattle.std.proofs.lemmas.Bool.{and_parts}
 use Rattle.mh_facts.specs.declared.store.FactKey.{FactKey}
-use Rattle.mh_facts.specs.Least.{Label, longer}
+use Rattle.mh_facts.specs.code.Least.{Label, longer}
 use Rattle.mh_reach_found.specs.declared.arrivals.Spot.{Spot}
 use Rattle.mh_reach_found.specs.declared.arrivals.Step.{Step}
 use Rattle.mh_reach_found.specs.declared.arrivals.Step.TheVariants as steps
-use Rattle.mh_reach_found.specs.Spots.{same_spot, spot, LabelBy}
+use Rattle.mh_reach_found.specs.code.Spots.{same_spot, spot, LabelBy}
 use Rattle.mh_facts.proofs.Keyed.{AreKeys}
 use Rattle.mh_facts.proofs.Wording.{some_is}
 

@@ -5,10 +5,10 @@ use Rattle.std.proofs.lemmas.Option.{same_Some}
 use Rattle.mh_tables_core.specs.Table.{TableData}
 use Rattle.mh_facts.specs.declared.store.FactKey.{FactKey}
 use Rattle.mh_facts.specs.Stored.{Facts as Stored}
-use Rattle.mh_facts.specs.Least.{Label, longer}
+use Rattle.mh_facts.specs.code.Least.{Label, longer}
 use Rattle.mh_reach_found.specs.declared.tails.Part.{Part}
-use Rattle.mh_reach_found.specs.Tails.{IsWordOf, AreWordOf, IsLater, AreComparable}
-use Rattle.mh_facts.specs.Tales.{Tale}
+use Rattle.mh_reach_found.specs.code.Tails.{IsWordOf, AreWordOf, IsLater, AreComparable}
+use Rattle.mh_facts.specs.code.Tales.{Tale}
 use Rattle.mh_reach_found.specs.declared.found.Found.{Found}
 use Rattle.mh_grammar.proofs.WordOrder.{lex_after}
 use Rattle.mh_reach_found.proofs.Compared.{parts_append}
@@ -17,8 +17,8 @@ use Rattle.mh_reach_found.specs.declared.arrivals.Spot.{Spot}
 use Rattle.mh_reach_found.specs.declared.arrivals.Step.{Step}
 use Rattle.mh_reach_found.specs.declared.arrivals.Step.TheVariants as steps
 use Rattle.mh_reach_found.specs.declared.arrivals.Arrival.{Arrival}
-use Rattle.mh_reach_found.specs.Spots.{Spots, arrival_at, Journey, LabelBy, heights_of, height_by}
-use Rattle.mh_reach_found.specs.Comparing.{part_of, from_of, numbers_of, ArePartsOf, HasSentence, IsKnown, IsTold, Precedes, ComesLater}
+use Rattle.mh_reach_found.specs.code.Spots.{Spots, arrival_at, Journey, LabelBy, heights_of, height_by}
+use Rattle.mh_reach_found.specs.code.Comparing.{part_of, from_of, numbers_of, ArePartsOf, HasSentence, IsKnown, IsTold, Precedes, ComesLater}
 use Rattle.mh_reach_found.proofs.Walking.{arrived_at, lower}
 
 -- a sentence is that of a step and the word of some parts behind it

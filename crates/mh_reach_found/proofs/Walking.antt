@@ -4,11 +4,11 @@ use Rattle.std.specs.Prelude.{reverse}
 use Rattle.std.proofs.lemmas.List.{reverse-append}
 use Rattle.mh_tables_core.specs.Table.{TableData}
 use Rattle.mh_facts.specs.declared.store.FactKey.{FactKey}
-use Rattle.mh_facts.specs.Least.{Label, longer}
+use Rattle.mh_facts.specs.code.Least.{Label, longer}
 use Rattle.mh_reach_found.specs.declared.arrivals.Spot.{Spot}
 use Rattle.mh_reach_found.specs.declared.arrivals.Step.TheVariants as steps
 use Rattle.mh_reach_found.specs.declared.arrivals.Arrival.{Arrival}
-use Rattle.mh_reach_found.specs.Spots.{Spots, arrival_at, Journey, heights_of, height_by, LabelBy}
+use Rattle.mh_reach_found.specs.code.Spots.{Spots, arrival_at, Journey, heights_of, height_by, LabelBy}
 use Rattle.mh_facts.proofs.Wording.{some_is}
 
 -- what is said of a spot and what is spelled

@@ -1,6 +1,1 @@
-pub mod Drawn
-pub mod Found
-pub mod Numbers
-pub mod Tails
-pub mod Comparing
-pub mod Spots
+pub mod code

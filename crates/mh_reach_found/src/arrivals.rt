@@ -1,6 +1,6 @@
 //! How states are reached, each with a token to come.
 ghost use Rattle.std.specs.Prelude.{◌≡◌, None, [], ◌∷◌, ◌++◌, OnOk};
-ghost use Rattle.mh_reach_found.specs.Spots.{arrival_at};
+ghost use Rattle.mh_reach_found.specs.code.Spots.{arrival_at};
 
 use mh_facts::{FactKey, OrderedMap};
 use mh_grammar::{Memory, Token};

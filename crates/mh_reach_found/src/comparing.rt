@@ -1,7 +1,6 @@
 //! Sentences of arrivals, compared by their starts and then by the numbers of their tokens: no sentence is written out.
 ghost use Rattle.std.specs.Prelude.{◌≡◌, [], IfOk, OnOk, Some};
-ghost use Rattle.mh_reach_found.specs.Spots.{HasArrived, arrival_at};
-ghost use Rattle.mh_reach_found.specs.Comparing.{ArePartsOf, ComesLater, HasSentence, IsKnown, IsTold, from_of, part_of};
+ghost use Rattle.mh_reach_found.specs.code.Comparing.{ArePartsOf, ComesLater, HasSentence, IsKnown, IsTold, from_of, part_of};
 
 use crate::arrivals::{Arrivals, Spot, Step, arrival_of};
 use crate::found::Found;
@@ -10,7 +9,7 @@ use mh_grammar::Memory;
 use mh_tables_core::Table;
 use std::alloc::Global;
 
-/// What a step adds to a sentence. The number of the start stands in front of all tokens, so that starts are compared
+/// What a step adds to a sentence. The number of the start comes before all tokens, so that starts are compared
 /// first.
 fn part_of(step: Step) -> Part
     ensures { result ≡ part_of step }

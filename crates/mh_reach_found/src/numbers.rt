@@ -1,7 +1,7 @@
 //! The numbers of the words of settled facts.
 ghost use Rattle.std.specs.Prelude.{◌≡◌};
-ghost use Rattle.mh_reach_found.specs.Numbers.{IsPlaced};
-ghost use Rattle.mh_facts.specs.Tales.{before_dot, listed};
+ghost use Rattle.mh_reach_found.specs.code.Numbers.{IsPlaced};
+ghost use Rattle.mh_facts.specs.code.Tales.{before_dot, listed};
 
 use mh_facts::{FactKey, FactStore};
 use mh_grammar::{Symbol, Token};

@@ -1,7 +1,7 @@
 //! Words of settled facts, compared from their fronts through what the facts came from: no word is written out.
 ghost use Rattle.std.specs.Prelude.{◌≡◌, ◌++◌, IfOk, OnOk};
-ghost use Rattle.mh_reach_found.specs.Numbers.{AllNumbered};
-ghost use Rattle.mh_reach_found.specs.Tails.{Opens, TakesTops, Turns, AreComparable, IsLater, IsTurn, Tells, parts_of};
+ghost use Rattle.mh_reach_found.specs.code.Numbers.{AllNumbered};
+ghost use Rattle.mh_reach_found.specs.code.Tails.{Opens, TakesTops, Turns, AreComparable, IsLater, IsTurn, Tells, parts_of};
 ghost use Rattle.mh_reach_found.specs.declared.tails.Part.TheVariants as TheParts;
 
 use crate::numbers::{Numbering, number_of, token_before};
@@ -52,7 +52,7 @@ fn open(table: &Table, store: &FactStore, parts: &mut Vec<Part>, key: FactKey) -
     }
 }
 
-/// What the numbers and the costs of two words tell.
+/// What the numbers and the costs of two words say of their order.
 #[derive(Clone, Copy, Drop)]
 pub enum Told {
     Equal,
@@ -77,7 +77,7 @@ fn by_numbers(left: usize, right: usize) -> Told
     Told::Earlier
 }
 
-/// What is told of the words of two settled facts. Words of one cost stand in the order of their numbers, but for those that are
+/// What is known of the words of two settled facts. Words of one cost are in the order of their numbers, but for those that are
 /// too dear. Of two costs the lower is told, so that the dearer fact is opened and what two words share comes to stand on top of
 /// both.
 fn tell(store: &FactStore, numbering: &Numbering, one: FactKey, two: FactKey) -> Told
@@ -137,7 +137,7 @@ fn open_left(
     Ok(None)
 }
 
-/// What two facts tell of the order.
+/// What two facts say of the order.
 fn turn_facts(
     table: &Table,
     store: &FactStore,
@@ -158,7 +158,7 @@ fn turn_facts(
     }
 }
 
-/// What the first parts tell of the order.
+/// What the first parts say of the order.
 fn turn(
     table: &Table,
     store: &FactStore,

@@ -9,12 +9,12 @@ use Rattle.mh_facts.specs.declared.work.Item.{Item}
 use Rattle.mh_facts.specs.declared.classes.Classes.{Classes}
 use Rattle.mh_facts.specs.declared.left.ByLeft.{ByLeft}
 use Rattle.mh_facts.specs.code.Rows.{Gains, Among}
-use Rattle.mh_facts.specs.Classes.{list_at}
-use Rattle.mh_facts.specs.Left.{IsByLeft}
-use Rattle.mh_facts.specs.Rules.{IsEmptyItem}
+use Rattle.mh_facts.specs.code.Classes.{list_at}
+use Rattle.mh_facts.specs.code.Left.{IsByLeft}
+use Rattle.mh_facts.specs.code.Rules.{IsEmptyItem}
 use Rattle.mh_facts.proofs.Gaining.{gains_by}
 use Rattle.mh_facts.proofs.Edging.{edge_leads, edge_there}
-use Rattle.mh_reach_paths.specs.Begins.{BeginsBehind}
+use Rattle.mh_reach_paths.specs.code.Begins.{BeginsBehind}
 
 module _ (t : TableData) (f : Facts t) (c : Classes) (left : ByLeft) (l : IsByLeft t left) (from : ℕ) where
   pub begin_gains : (old new : List (Vec Item)) → Gains (Among (BeginsBehind from (list_at c from) left) (state_at t from).edges) old new → Gains (IsEmptyItem t c from) old new

@@ -9,18 +9,18 @@ use Rattle.mh_tables_core.specs.Table.{TableData, edge_of, cost_of_token}
 use Rattle.mh_tables_core.specs.Facts.{Facts}
 use Rattle.mh_tables_core.proofs.Reductions.{shifts_from_move}
 use Rattle.mh_facts.specs.declared.store.FactKey.{FactKey}
-use Rattle.mh_facts.specs.Least.{key, IsEnd, Congruent, SoundAt, SoundWay}
+use Rattle.mh_facts.specs.code.Least.{key, IsEnd, Congruent, SoundAt, SoundWay}
 use Rattle.mh_facts.proofs.Bound.{sound_shifts, sound_joins, way_sound, goes_congruent}
 use Rattle.mh_facts.proofs.Sound.{shift_known}
 use Rattle.mh_facts.specs.declared.work.Item.{Item}
 use Rattle.mh_facts.specs.declared.work.Path.{Path}
 use Rattle.mh_facts.specs.declared.work.Whole.{Whole}
 use Rattle.mh_facts.specs.declared.classes.Classes.{Classes}
-use Rattle.mh_facts.specs.Classes.{IsClasses, rep_of}
-use Rattle.mh_facts.specs.Rules.{further, FollowsShift, FollowsWay, whole_of, IsWayOf}
-use Rattle.mh_facts.specs.Tales.{before_dot}
-use Rattle.mh_reach_found.specs.Found.{WholeOk}
-use Rattle.mh_reach_paths.specs.Good.{ItemOk, PathOk}
+use Rattle.mh_facts.specs.code.Classes.{IsClasses, rep_of}
+use Rattle.mh_facts.specs.code.Rules.{further, FollowsShift, FollowsWay, whole_of, IsWayOf}
+use Rattle.mh_facts.specs.code.Tales.{before_dot}
+use Rattle.mh_reach_found.specs.code.Found.{WholeOk}
+use Rattle.mh_reach_paths.specs.code.Good.{ItemOk, PathOk}
 use Rattle.mh_facts.proofs.Wording.{capped_one, capped_both, min_cap, token_costs, not_free, both_free}
 
 end_more : (t : TableData) (r p d b s : ℕ) (x : Symbol) → IsEnd t r p d b → slice_get (rhs_of t.grammar p) d ≡ Some x → edge_of t b x ≡ Some s → IsEnd t r p (d + 1) s

@@ -8,16 +8,16 @@ use Rattle.mh_tables_core.specs.Table.{TableData}
 use Rattle.mh_tables_core.specs.Facts.{Facts}
 use Rattle.mh_facts.specs.declared.store.FactKey.{FactKey}
 use Rattle.mh_facts.specs.Stored.{Facts as Stored}
-use Rattle.mh_facts.specs.Least.{Pending}
-use Rattle.mh_facts.specs.Orders.{cap}
+use Rattle.mh_facts.specs.code.Least.{Pending}
+use Rattle.mh_facts.specs.Costs.{cap}
 use Rattle.mh_facts.specs.declared.work.Item.{Item}
 use Rattle.mh_facts.specs.declared.work.Work.{Work}
 use Rattle.mh_facts.specs.declared.classes.Classes.{Classes}
 use Rattle.mh_facts.specs.code.Rows.{Waits, Gains, IsOne}
-use Rattle.mh_facts.specs.Classes.{IsClasses, rep_of}
-use Rattle.mh_facts.specs.Rules.{queue_of}
-use Rattle.mh_facts.specs.Tales.{NoLater, WordBy}
-use Rattle.mh_reach_paths.specs.Good.{IsDone, NoneIsNext, InQueue, Waiting, ItemOk, Good, IsRising, InOrder, LevelReady, AllTaken}
+use Rattle.mh_facts.specs.code.Classes.{IsClasses, rep_of}
+use Rattle.mh_facts.specs.code.Rules.{queue_of}
+use Rattle.mh_facts.specs.code.Tales.{NoLater, WordBy}
+use Rattle.mh_reach_paths.specs.code.Good.{IsDone, NoneIsNext, InQueue, Waiting, ItemOk, Good, IsRising, InOrder, LevelReady, AllTaken}
 use Rattle.mh_reach_found.proofs.Queueing.{moves_taken, moves_sorted, moves_pushed, moves_drained, moves_higher, above}
 use Rattle.mh_facts.proofs.Wording.{word_one, order_laws, cheaper, over}
 use Rattle.mh_reach_paths.proofs.Turns.{SameBeside, good_moves}

@@ -15,10 +15,10 @@ use Rattle.mh_facts.specs.declared.work.Way.{Way}
 use Rattle.mh_facts.specs.declared.work.Work.{Work}
 use Rattle.mh_facts.specs.declared.classes.Classes.{Classes}
 use Rattle.mh_facts.specs.code.Rows.{Gains, Among, Files}
-use Rattle.mh_facts.specs.Classes.{rep_of, place_of, list_at}
-use Rattle.mh_facts.specs.Rules.{FollowsShift, FollowsWay, Goes, whole_of, way_of, IsWayOf, queue_of, paths_at, wholes_at, Knows, Follows, Expanded}
-use Rattle.mh_facts.specs.Rules as rules
-use Rattle.mh_reach_paths.specs.Adding.{Adds, MeetsOn, paths_before}
+use Rattle.mh_facts.specs.code.Classes.{rep_of, place_of, list_at}
+use Rattle.mh_facts.specs.code.Rules.{FollowsShift, FollowsWay, Goes, whole_of, way_of, IsWayOf, queue_of, paths_at, wholes_at, Knows, Follows, Expanded}
+use Rattle.mh_facts.specs.code.Rules as rules
+use Rattle.mh_reach_paths.specs.code.Adding.{Adds, MeetsOn, paths_before}
 use Rattle.mh_facts.specs.code.Rows.{Collects}
 
 none_some : {X : Type 0} (o : Option X) (x : X) → o ≡ None → o ≡ Some x → ⊥

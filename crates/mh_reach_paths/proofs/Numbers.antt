@@ -14,20 +14,20 @@ use Rattle.mh_facts.specs.declared.store.FactKey.{FactKey}
 use Rattle.mh_facts.specs.declared.store.Fact.{Fact}
 use Rattle.mh_facts.specs.declared.store.Back.TheVariants as backs
 use Rattle.mh_facts.specs.Stored.{Facts, fact_at, same_fact}
-use Rattle.mh_facts.specs.Orders.{cap}
-use Rattle.mh_facts.specs.Orders as orders
+use Rattle.mh_facts.specs.Costs.{cap}
+use Rattle.mh_facts.specs.code.Orders as orders
 use Rattle.mh_facts.proofs.Orders.{cost_append}
 use Rattle.mh_reach_words.specs.declared.made.Made.{Made}
 use Rattle.mh_reach_words.specs.declared.made.Last.{Last}
 use Rattle.mh_reach_words.specs.declared.made.Last.TheVariants as lasts
-use Rattle.mh_reach_words.specs.Words.{Word, Words, empty_word, IsBook, Before, IsFront, letters_in, group_in, letters_of, group_of}
+use Rattle.mh_reach_words.specs.code.Words.{Word, Words, empty_word, IsBook, Before, IsFront, letters_in, group_in, letters_of, group_of}
 use Rattle.mh_reach_words.proofs.Ordered.{before_no_later}
-use Rattle.mh_reach_words.specs.Numbered.{AreBelowGroup, AreEven, AreKnown, Numbers}
+use Rattle.mh_reach_words.specs.code.Numbered.{AreBelowGroup, AreEven, AreKnown, Numbers}
 use Rattle.mh_facts.specs.declared.work.Item.{Item}
 use Rattle.mh_reach_found.specs.declared.numbers.Numbering.{Numbering}
-use Rattle.mh_facts.specs.Tales.{NoLater, capped, weigh, WordBy, Tale, before_dot}
-use Rattle.mh_reach_found.specs.Numbers.{StandsFor, IsNumbered, IsPlaced}
-use Rattle.mh_reach_paths.specs.Numbering.{IsLast, Spells, IsMade, AreMade, AreEmpty, AreToNumber, AreNumbered}
+use Rattle.mh_facts.specs.code.Tales.{NoLater, capped, weigh, WordBy, Tale, before_dot}
+use Rattle.mh_reach_found.specs.code.Numbers.{StandsFor, IsNumbered, IsPlaced}
+use Rattle.mh_reach_paths.specs.code.Numbering.{IsLast, Spells, IsMade, AreMade, AreEmpty, AreToNumber, AreNumbered}
 use Rattle.mh_facts.proofs.Putting.{fact_same}
 use Rattle.mh_facts.proofs.Wording.{some_is, order_laws, free_part, free_word, fact_of_word}
 

@@ -10,7 +10,7 @@ use Rattle.mh_tables_core.specs.Facts.{Facts}
 use Rattle.mh_facts.specs.Stored.{Facts as Stored, fact_at}
 use Rattle.mh_facts.specs.declared.store.Fact.{Fact}
 use Rattle.mh_facts.specs.declared.work.Path.{Path}
-use Rattle.mh_facts.specs.Rules.{InRange}
+use Rattle.mh_facts.specs.code.Rules.{InRange}
 use Rattle.mh_facts.proofs.Counting.{unsettled, unsettled_less}
 
 get_is : {X : Type 0} (xs : List X) (k : ℕ) (q : X) → slice_get xs k ≡ Some q → (k < length xs) × (get_or xs k q ≡ q)

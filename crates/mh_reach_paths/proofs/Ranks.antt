@@ -13,8 +13,8 @@ use Rattle.mh_grammar.proofs.Lists.{get_cases, same_at, has_place, at_contains, 
 use Rattle.mh_tables_core.specs.Table.{TableData}
 use Rattle.mh_tables_core.specs.Facts.{Facts}
 use Rattle.mh_facts.specs.declared.store.FactKey.{FactKey}
-use Rattle.mh_facts.specs.Orders.{cap}
-use Rattle.mh_reach_words.specs.Words.{Words, IsBook, empty_word}
+use Rattle.mh_facts.specs.Costs.{cap}
+use Rattle.mh_reach_words.specs.code.Words.{Words, IsBook, empty_word}
 use Rattle.mh_facts.specs.declared.work.Item.{Item}
 use Rattle.mh_facts.specs.declared.work.Work.{Work}
 use Rattle.mh_facts.specs.declared.classes.Classes.{Classes}
@@ -22,14 +22,14 @@ use Rattle.mh_reach_found.specs.declared.numbers.Numbering.{Numbering}
 use Rattle.mh_reach_paths.specs.declared.ranking.Ranked.{Ranked}
 use Rattle.mh_reach_found.specs.declared.found.Found.{Found}
 use Rattle.mh_facts.specs.code.Rows.{Waits, Gains, IsOne}
-use Rattle.mh_facts.specs.Classes.{IsClasses, rep_of}
-use Rattle.mh_reach_paths.specs.Begins.{IsBegun}
-use Rattle.mh_facts.specs.Rules.{path_of, queue_of, Expanded}
-use Rattle.mh_facts.specs.Tales.{WordBy}
-use Rattle.mh_reach_paths.specs.Good.{NextIs, NoneIsNext, ItemOk, Good, IsRising, AllTaken}
-use Rattle.mh_reach_found.specs.Numbers.{StandsFor, IsNumbered}
-use Rattle.mh_reach_paths.specs.Numbering.{AreToNumber, AreNumbered}
-use Rattle.mh_reach_paths.specs.Ranking.{ArePaired, unranked, IsRanked, AreRanked, BeforeLevel, InLevel, InTurn}
+use Rattle.mh_facts.specs.code.Classes.{IsClasses, rep_of}
+use Rattle.mh_reach_paths.specs.code.Begins.{IsBegun}
+use Rattle.mh_facts.specs.code.Rules.{path_of, queue_of, Expanded}
+use Rattle.mh_facts.specs.code.Tales.{WordBy}
+use Rattle.mh_reach_paths.specs.code.Good.{NextIs, NoneIsNext, ItemOk, Good, IsRising, AllTaken}
+use Rattle.mh_reach_found.specs.code.Numbers.{StandsFor, IsNumbered}
+use Rattle.mh_reach_paths.specs.code.Numbering.{AreToNumber, AreNumbered}
+use Rattle.mh_reach_paths.specs.code.Ranking.{ArePaired, unranked, IsRanked, AreRanked, BeforeLevel, InLevel, InTurn}
 use Rattle.mh_facts.proofs.Wording.{word_one, word_kept, words_kept, words_here, words_only}
 use Rattle.mh_reach_paths.proofs.Turns.{SameBeside, good_moves, fact_of, later, turn_good, turn_settles, follow_same, search_begins}
 use Rattle.mh_reach_paths.proofs.Levels.{level_taken, level_sorted, level_pushed, level_drained, level_done, rises_over}

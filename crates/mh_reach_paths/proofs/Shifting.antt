@@ -9,14 +9,14 @@ use Rattle.mh_tables_core.specs.Table.{TableData, cost_of_token}
 use Rattle.mh_tables_core.specs.Facts.{Facts}
 use Rattle.mh_tables_core.specs.Run.{Shifts, move_of}
 use Rattle.mh_facts.specs.declared.store.Back.TheVariants as backs
-use Rattle.mh_facts.specs.Orders.{cap}
+use Rattle.mh_facts.specs.Costs.{cap}
 use Rattle.mh_facts.specs.declared.work.Item.{Item}
 use Rattle.mh_facts.specs.declared.work.Path.{Path}
 use Rattle.mh_facts.specs.declared.classes.Classes.{Classes}
 use Rattle.mh_facts.specs.code.Rows.{Gains, Among}
-use Rattle.mh_facts.specs.Classes.{IsClasses, rep_of, list_at}
-use Rattle.mh_facts.specs.Rules.{FollowsShift, further}
-use Rattle.mh_reach_paths.specs.Adding.{WithNext, with_next}
+use Rattle.mh_facts.specs.code.Classes.{IsClasses, rep_of, list_at}
+use Rattle.mh_facts.specs.code.Rules.{FollowsShift, further}
+use Rattle.mh_reach_paths.specs.code.Adding.{WithNext, with_next}
 use Rattle.mh_facts.proofs.Edging.{one_shift, shift_target}
 use Rattle.mh_facts.proofs.Gaining.{gains_by}
 

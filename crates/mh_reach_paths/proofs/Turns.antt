@@ -14,9 +14,9 @@ use Rattle.mh_facts.specs.declared.store.Fact.{Fact}
 use Rattle.mh_facts.specs.declared.store.Back.TheVariants as backs
 use Rattle.mh_facts.specs.Stored.{Facts as Stored, last_of}
 use Rattle.mh_facts.proofs.Storing.{last_push}
-use Rattle.mh_facts.specs.Least.{key, IsEnd, Laws, SoundAt, Frontier, Turn, Pending}
-use Rattle.mh_facts.specs.Orders.{cap}
-use Rattle.mh_facts.specs.Orders as orders
+use Rattle.mh_facts.specs.code.Least.{key, IsEnd, Laws, SoundAt, Frontier, Turn, Pending}
+use Rattle.mh_facts.specs.Costs.{cap}
+use Rattle.mh_facts.specs.code.Orders as orders
 use Rattle.mh_facts.proofs.Orders.{cost_append}
 use Rattle.mh_tables_core.specs.Failing.{cost_by}
 use Rattle.std.proofs.lemmas.List.{append-nil}
@@ -31,15 +31,15 @@ use Rattle.mh_facts.specs.declared.work.Work.{Work}
 use Rattle.mh_reach_found.specs.declared.found.Found.{Found}
 use Rattle.mh_facts.specs.declared.classes.Classes.{Classes}
 use Rattle.mh_facts.specs.code.Rows.{Waits}
-use Rattle.mh_facts.specs.Classes.{IsClasses, rep_of, place_of}
-use Rattle.mh_facts.specs.Rules.{InRange, path_of, further, FollowsShift, Fits, FollowsWay, Goes, whole_of, way_of, IsWayOf, queue_of, paths_at, wholes_at, Knows, HasRows, IsReady, Follows, Expanded, IsEmptyItem}
-use Rattle.mh_facts.specs.Rules as rules
-use Rattle.mh_reach_paths.specs.Begins.{AllBegin, IsBegun, empty_item}
-use Rattle.mh_facts.specs.Tales.{NoLater, capped, weigh, WordBy, before_dot}
-use Rattle.mh_reach_found.specs.Found.{IsStored, WaysIn, WholeOk, IsFound}
-use Rattle.mh_reach_paths.specs.Good.{NextIs, InQueue, Waiting, ItemOk, PathOk, Good, IsRising, InOrder}
-use Rattle.mh_reach_found.specs.Numbers.{IsNumbered}
-use Rattle.mh_reach_paths.specs.Ranking.{BeforeLevel}
+use Rattle.mh_facts.specs.code.Classes.{IsClasses, rep_of, place_of}
+use Rattle.mh_facts.specs.code.Rules.{InRange, path_of, further, FollowsShift, Fits, FollowsWay, Goes, whole_of, way_of, IsWayOf, queue_of, paths_at, wholes_at, Knows, HasRows, IsReady, Follows, Expanded, IsEmptyItem}
+use Rattle.mh_facts.specs.code.Rules as rules
+use Rattle.mh_reach_paths.specs.code.Begins.{AllBegin, IsBegun, empty_item}
+use Rattle.mh_facts.specs.code.Tales.{NoLater, capped, weigh, WordBy, before_dot}
+use Rattle.mh_reach_found.specs.code.Found.{IsStored, WaysIn, WholeOk, IsFound}
+use Rattle.mh_reach_paths.specs.code.Good.{NextIs, InQueue, Waiting, ItemOk, PathOk, Good, IsRising, InOrder}
+use Rattle.mh_reach_found.specs.code.Numbers.{IsNumbered}
+use Rattle.mh_reach_paths.specs.code.Ranking.{BeforeLevel}
 use Rattle.mh_facts.proofs.Wording.{word_kept, word_one, some_is, order_laws, over, free_part, free_word, no_lower, no_lower_back, told_more, new_words, words_kept, words_here, words_only}
 use Rattle.mh_reach_paths.proofs.Following.{shift_ok, join_ok, way_ok}
 use Rattle.mh_grammar.proofs.Lists.{contains_there}

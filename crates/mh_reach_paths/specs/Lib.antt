@@ -1,5 +1,1 @@
-pub mod Adding
-pub mod Begins
-pub mod Good
-pub mod Numbering
-pub mod Ranking
+pub mod code

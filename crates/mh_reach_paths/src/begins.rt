@@ -2,10 +2,10 @@
 ghost use Rattle.std.specs.Prelude.{◌≡◌, ◌<◌, ℕ, [], OnOk, IfOk, length};
 ghost use Rattle.mh_grammar.specs.declared.types.Symbol.TheVariants.{N};
 ghost use Rattle.mh_facts.specs.code.Rows.{Gains, Among, row_of};
-ghost use Rattle.mh_facts.specs.Classes.{IsClasses};
-ghost use Rattle.mh_facts.specs.Rules.{IsEmptyItem};
-ghost use Rattle.mh_facts.specs.Left.{IsByLeft};
-ghost use Rattle.mh_reach_paths.specs.Begins.{IsBegun, EmptyOn, BeginsOn, BeginsBehind, AllBegin, empty_item};
+ghost use Rattle.mh_facts.specs.code.Classes.{IsClasses};
+ghost use Rattle.mh_facts.specs.code.Rules.{IsEmptyItem};
+ghost use Rattle.mh_facts.specs.code.Left.{IsByLeft};
+ghost use Rattle.mh_reach_paths.specs.code.Begins.{IsBegun, EmptyOn, BeginsOn, BeginsBehind, AllBegin, empty_item};
 
 use mh_facts::queue::{Queue, empty_queue, push};
 use mh_facts::{Back, ByLeft, Classes, FactKey, Item, Work, by_left_side, list_of, productions_of};
@@ -63,7 +63,7 @@ fn begin_on(
     Ok(())
 }
 
-/// The empty paths of a state behind an edge.
+/// The empty paths of a state after an edge.
 fn begin_behind(
     alloc: Global,
     queue: &mut Queue<Item>,

@@ -1,23 +1,23 @@
 //! What follows from settled facts.
-ghost use Rattle.std.specs.Prelude.{◌≡◌, ◌<◌, ◌≤◌, ◌+◌, ◌^◌, IfOk, OnOk, false, length, slice_get, Some};
+ghost use Rattle.std.specs.Prelude.{◌≡◌, ◌<◌, ◌≤◌, ◌↔◌, ◌+◌, ◌^◌, ◌∷◌, [], IfOk, IsTrue, OnOk, false, length, min, slice_get, Some};
 ghost use Rattle.mh_grammar.specs.declared.types.Symbol.TheVariants.{T, N};
 ghost use Rattle.mh_grammar.specs.Plain.{rhs_of, lhs_of};
 ghost use Rattle.mh_tables_core.specs.Table.{edge_of};
-ghost use Rattle.mh_facts.specs.Orders.{cap};
+ghost use Rattle.mh_facts.specs.Costs.{cap};
 ghost use Rattle.std.specs.List.{Contains};
 ghost use Rattle.mh_facts.specs.declared.work.Whole.{Whole};
 ghost use Rattle.mh_facts.specs.declared.work.Path.{Path};
-ghost use Rattle.mh_facts.specs.code.Rows.{Gains, Among, IsOne, Files};
-ghost use Rattle.mh_facts.specs.Classes.{IsClasses, rep_of, place_of};
-ghost use Rattle.mh_facts.specs.Rules.{InRange, FollowsShift, FollowsWay, HasRows, IsReady, Expanded, whole_of, wholes_at};
-ghost use Rattle.mh_reach_paths.specs.Adding.{WithNext, Adds, MeetsOn};
+ghost use Rattle.mh_facts.specs.code.Rows.{Gains, Among, Files};
+ghost use Rattle.mh_facts.specs.code.Classes.{IsClasses, rep_of, place_of};
+ghost use Rattle.mh_facts.specs.code.Rules.{InRange, FollowsShift, FollowsWay, OnlyAt, HasRows, IsReady, Expanded, whole_of, wholes_at};
+ghost use Rattle.mh_tables_core.specs.Run.{Reduces, move_of};
+ghost use Rattle.mh_reach_paths.specs.code.Adding.{WithNext, Adds, MeetsOn};
 ghost use Rattle.mh_facts.specs.code.Rows.{Collects};
-ghost use Rattle.mh_facts.specs.Classes.{list_at};
+ghost use Rattle.mh_facts.specs.code.Classes.{list_at};
 
 use mh_facts::queue::{Queue, push};
 use mh_facts::{
-    Back, Classes, FactKey, Item, Path, Way, Whole, Work, add_costs, add_token, class_of, joined,
-    list_of, reduces,
+    Back, Classes, FactKey, Item, Path, Way, Whole, Work, add_costs, add_token, class_of, list_of,
 };
 use mh_grammar::{Memory, Symbol, Token};
 use mh_tables_core::{Choice, Table, choose};
@@ -44,7 +44,7 @@ fn push_each(
     Ok(())
 }
 
-/// What follows where the token behind a path's end is shifted.
+/// What follows where the token after a path's end is shifted.
 fn shift(
     alloc: Global,
     table: &Table,
@@ -82,7 +82,36 @@ fn shift(
     }
 }
 
-/// What follows from a path and a way behind it.
+/// The fact that a path and a way after it lead to.
+fn joined(table: &Table, path: Path, whole: Whole) -> Option<Item>
+    requires { InRange table.now path }
+    ensures { OnlyAt (FollowsWay table.now path whole) (min (path.cost + whole.cost) cap) result }
+{
+    table.facts();
+    if path.key.dot >= table.length_of(path.key.production) {
+        return None;
+    }
+    let fits = whole.inner.from == path.end
+        && whole.inner.first == path.key.next
+        && table.symbol_of(path.key.production, path.key.dot) == Symbol::N(whole.nonterminal);
+    if !fits {
+        return None;
+    }
+    Some(Item {
+        key: FactKey {
+            dot: path.key.dot + 1,
+            next: whole.next,
+            ..path.key
+        },
+        end: whole.target,
+        back: Back::Reduced {
+            path: path.key,
+            inner: whole.inner,
+        },
+    })
+}
+
+/// What follows from a path and a way after it.
 fn join(
     alloc: Global,
     table: &Table,
@@ -165,6 +194,22 @@ fn meet_path(
     )?;
     work.paths[place].push(path)?;
     Ok(())
+}
+
+/// Whether a whole path is reduced in front of a token.
+fn reduces(table: &Table, classes: &Classes, inner: Path, next: Token) -> bool
+    requires classes { IsClasses table.now classes.now }
+    requires inner { InRange table.now inner }
+    requires next { next < table.now.grammar.tokens }
+    ensures { IsTrue result ↔ ((move_of table.now inner.end (next ∷ []) ≡ Reduces inner.key.production) × (rep_of classes.now inner.end next ≡ inner.key.next)) }
+{
+    match choose(table, inner.end, Some(next)) {
+        Choice::Reduce(production) => {
+            production == inner.key.production
+                && class_of(table, classes, inner.end, next).representative == inner.key.next
+        }
+        _ => false,
+    }
 }
 
 /// Puts a way in. Whether it was not known.

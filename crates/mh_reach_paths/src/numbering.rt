@@ -1,15 +1,15 @@
 //! Words of settled facts get numbers, so that no two words are compared that were compared before.
 ghost use Rattle.std.specs.Prelude.{◌≡◌, IfOk, length};
-ghost use Rattle.mh_reach_paths.specs.Numbering.{AreEmpty, AreMade, AreNumbered, AreToNumber, IsLast, IsMade};
+ghost use Rattle.mh_reach_paths.specs.code.Numbering.{AreEmpty, AreMade, AreNumbered, AreToNumber, IsLast, IsMade};
 
-use mh_facts::{Back, FactKey, FactStore, Item, is_plain};
+use mh_facts::{Back, CAP, FactKey, FactStore, Item};
 use mh_grammar::Memory;
 use mh_reach_found::{EMPTY, Numbering, number_of, token_before};
 use mh_reach_words::{Last, Made};
 use mh_tables_core::Table;
 use std::alloc::Global;
 
-/// The token before the dot, with which a word ends; none stands for nothing.
+/// The token before the dot, with which a word ends, if there is one.
 fn last_before(table: &Table, key: FactKey) -> Last
     ensures { IsLast table.now key result }
 {
@@ -77,7 +77,8 @@ pub fn numbers_of(
     ensures { IfOk result (λ numbers. AreNumbered table.now store.now numbering.old numbering.new cost items.now numbers.items) }
 {
     numbering.book.rising();
-    if is_plain(cost) {
+    // The empty word has one number, and words that are too dear get none.
+    if cost == 0 || cost == CAP {
         return no_numbers(alloc, items);
     }
     let made = all_made(alloc, table, store, numbering, items)?;

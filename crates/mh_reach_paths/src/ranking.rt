@@ -1,6 +1,6 @@
 //! Items of one cost in the order of their words.
 ghost use Rattle.std.specs.Prelude.{◌≡◌, IfOk, length};
-ghost use Rattle.mh_reach_paths.specs.Ranking.{ArePaired, IsRanked};
+ghost use Rattle.mh_reach_paths.specs.code.Ranking.{ArePaired, IsRanked};
 
 use mh_facts::Item;
 use mh_grammar::Memory;

@@ -1,11 +1,11 @@
 //! Facts are settled in order of their costs.
 ghost use Rattle.std.specs.Prelude.{◌≡◌, ◌↔◌, IsTrue, ◌≤◌, ◌<◌, ◌+◌, [], OnOk, IfOk, Some, drop, length, slice_get};
 ghost use Rattle.mh_facts.specs.Stored.{last_of};
-ghost use Rattle.mh_facts.specs.Orders.{cap};
-ghost use Rattle.mh_facts.specs.Classes.{IsClasses};
-ghost use Rattle.mh_reach_found.specs.Found.{IsFound};
-ghost use Rattle.mh_reach_paths.specs.Good.{SettlesNext, KeepsNew, AllTaken};
-ghost use Rattle.mh_reach_paths.specs.Ranking.{BeforeLevel, InLevel};
+ghost use Rattle.mh_facts.specs.Costs.{cap};
+ghost use Rattle.mh_facts.specs.code.Classes.{IsClasses};
+ghost use Rattle.mh_reach_found.specs.code.Found.{IsFound};
+ghost use Rattle.mh_reach_paths.specs.code.Good.{SettlesNext, KeepsNew, AllTaken};
+ghost use Rattle.mh_reach_paths.specs.code.Ranking.{BeforeLevel, InLevel};
 
 use crate::begins::begin;
 use crate::joins::expand;

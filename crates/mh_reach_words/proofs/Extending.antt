@@ -7,9 +7,9 @@ use Rattle.mh_grammar.proofs.Lists.{at_contains, contains_at}
 use Rattle.mh_reach_words.specs.declared.made.Made.{Made}
 use Rattle.mh_reach_words.specs.declared.made.Entry.{Entry}
 use Rattle.mh_reach_words.specs.declared.numbering.Given.{Given}
-use Rattle.mh_reach_words.specs.Words.{Knows, IsSound, words_of}
-use Rattle.mh_reach_words.specs.Numbered.{AreBelowGroup, AreEven, AreKnown, AreNumbers, Gives, IsNumbered, IsNumberOf, number_in}
-use Rattle.mh_reach_words.specs.Rising.{NoLater, Same, Sorts}
+use Rattle.mh_reach_words.specs.code.Words.{Knows, IsSound, words_of}
+use Rattle.mh_reach_words.specs.code.Numbered.{AreBelowGroup, AreEven, AreKnown, AreNumbers, Gives, IsNumbered, IsNumberOf, number_in}
+use Rattle.mh_reach_words.specs.code.Rising.{NoLater, Same, Sorts}
 use Rattle.mh_reach_words.proofs.Growing.{new_is, new_long, new_word, new_place, new_sound}
 
 module _ (entries : List Entry) (group : ℕ) (made distinct ordered : List Made) (same : Same made distinct) (sorted : Sorts (NoLater (words_of entries)) distinct ordered) where

@@ -12,9 +12,9 @@ use Rattle.mh_reach_words.specs.contracts.made.MadePartialEq.TheImpl.{ghosts}
 use Rattle.mh_reach_words.specs.declared.made.Made.{Made}
 use Rattle.mh_reach_words.specs.declared.made.Entry.{Entry}
 use Rattle.mh_reach_words.specs.declared.numbering.Given.{Given}
-use Rattle.mh_reach_words.specs.Words.{Words, Before, spelled, words_of}
-use Rattle.mh_reach_words.specs.Numbered.{AreEven, PutsOnce, IsEqual, IsRepeated, AddsNew, IsGiven, Gives, AreNumbers, number_in}
-use Rattle.mh_reach_words.specs.Rising.{NoLater, Rises, Same}
+use Rattle.mh_reach_words.specs.code.Words.{Words, Before, spelled, words_of}
+use Rattle.mh_reach_words.specs.code.Numbered.{AreEven, PutsOnce, IsEqual, IsRepeated, AddsNew, IsGiven, Gives, AreNumbers, number_in}
+use Rattle.mh_reach_words.specs.code.Rising.{NoLater, Rises, Same}
 use Rattle.mh_reach_words.proofs.Ordered.{before_after, apart_before}
 
 -- WORDS THAT ARE MADE ALIKE

@@ -7,9 +7,9 @@ use Rattle.mh_reach_words.specs.declared.made.Last.{Last}
 use Rattle.mh_reach_words.specs.declared.made.Last.TheVariants as lasts
 use Rattle.mh_reach_words.specs.declared.made.Made.{Made}
 use Rattle.mh_reach_words.specs.declared.made.Entry.{Entry}
-use Rattle.mh_reach_words.specs.Words.{Word, Words, letters_in, group_in, letters_of, group_of, last_of, spelled, IsLastBelow, IsMadeBelow, Knows, Before, InGroups, IsBook, word_of, grown, empty_word, words_of, IsSound}
-use Rattle.mh_reach_words.specs.Compared.{IsEntryOf}
-use Rattle.mh_reach_words.specs.Numbered.{AreBelowGroup}
+use Rattle.mh_reach_words.specs.code.Words.{Word, Words, letters_in, group_in, letters_of, group_of, last_of, spelled, IsLastBelow, IsMadeBelow, Knows, Before, InGroups, IsBook, word_of, grown, empty_word, words_of, IsSound}
+use Rattle.mh_reach_words.specs.code.Compared.{IsEntryOf}
+use Rattle.mh_reach_words.specs.code.Numbered.{AreBelowGroup}
 
 -- PLACES OF TWO LISTS
 

@@ -5,10 +5,10 @@ use Rattle.std.specs.declared.cmp.Ordering.TheVariants.{Less, Equal, Greater}
 use Rattle.mh_grammar.specs.WordOrder.{LexLe}
 use Rattle.mh_grammar.proofs.WordOrder.{lex_same, lex_after, lex_front, lower_or_same}
 use Rattle.mh_reach_words.specs.declared.made.Made.{Made}
-use Rattle.mh_reach_words.specs.Words.{Words, Before, IsFront, spelled}
-use Rattle.mh_reach_words.specs.Compared.{IsCompared}
-use Rattle.mh_reach_words.specs.Numbered.{AreApart}
-use Rattle.mh_reach_words.specs.Rising.{NoLater}
+use Rattle.mh_reach_words.specs.code.Words.{Words, Before, IsFront, spelled}
+use Rattle.mh_reach_words.specs.code.Compared.{IsCompared}
+use Rattle.mh_reach_words.specs.code.Numbered.{AreApart}
+use Rattle.mh_reach_words.specs.code.Rising.{NoLater}
 
 -- whatever stands behind two words that differ
 pub before_lex : (u v r s : List ℕ) → Before u v → LexLe (u ++ r) (v ++ s)

@@ -5,8 +5,8 @@ use Rattle.std.proofs.lemmas.List.{append-nil}
 use Rattle.mh_reach_words.specs.declared.made.Last.{Last}
 use Rattle.mh_reach_words.specs.declared.made.Last.TheVariants as lasts
 use Rattle.mh_reach_words.specs.declared.made.Entry.{Entry}
-use Rattle.mh_reach_words.specs.Words.{Words, letters_of, last_of, IsLastBelow, words_of, IsSound}
-use Rattle.mh_reach_words.specs.Compared.{rest_of, AreBelow, weight_of, weight, Opens}
+use Rattle.mh_reach_words.specs.code.Words.{Words, letters_of, last_of, IsLastBelow, words_of, IsSound}
+use Rattle.mh_reach_words.specs.code.Compared.{rest_of, AreBelow, weight_of, weight, Opens}
 use Rattle.mh_reach_words.proofs.Growing.{word_at, empty_letters, made_below}
 
 pub rest_append : (words : Words) (xs ys : List Last) → rest_of words (xs ++ ys) ≡ rest_of words ys ++ rest_of words xs

@@ -6,8 +6,8 @@ use Rattle.mh_reach_words.specs.declared.made.Last.{Last}
 use Rattle.mh_reach_words.specs.declared.made.Last.TheVariants as lasts
 use Rattle.mh_reach_words.specs.declared.comparing.Rests.{Rests}
 use Rattle.mh_reach_words.specs.declared.made.Made.{Made}
-use Rattle.mh_reach_words.specs.Words.{Words, letters_of, last_of, spelled, group_of, Knows, Before, IsFront, InGroups}
-use Rattle.mh_reach_words.specs.Compared.{IsCompared, rest_of, AreBelow, weight, Opens, top_of, AreTops, Turns, IsTold, TakesTop, Shares}
+use Rattle.mh_reach_words.specs.code.Words.{Words, letters_of, last_of, spelled, group_of, Knows, Before, IsFront, InGroups}
+use Rattle.mh_reach_words.specs.code.Compared.{IsCompared, rest_of, AreBelow, weight, Opens, top_of, AreTops, Turns, IsTold, TakesTop, Shares}
 use Rattle.mh_reach_words.proofs.Parts.{rest_top, weight_append, weight_top, below_front, below_back, some_part}
 
 -- TWO WORDS

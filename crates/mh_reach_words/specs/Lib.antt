@@ -1,4 +1,1 @@
-pub mod Compared
-pub mod Numbered
-pub mod Rising
-pub mod Words
+pub mod code

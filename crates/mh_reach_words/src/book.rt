@@ -1,7 +1,7 @@
 //! A book of words.
 ghost use Rattle.std.specs.Prelude.{◌≡◌, [], ◌∷◌, IfOk, OnErr};
-ghost use Rattle.mh_reach_words.specs.Numbered.{AreBelowGroup, AreEven, AreKnown, Numbers};
-ghost use Rattle.mh_reach_words.specs.Words.{IsBook, empty_word};
+ghost use Rattle.mh_reach_words.specs.code.Numbered.{AreBelowGroup, AreEven, AreKnown, Numbers};
+ghost use Rattle.mh_reach_words.specs.code.Words.{IsBook, empty_word};
 
 use crate::made::{Entry, Made};
 use crate::numbering::number_words;
@@ -17,7 +17,7 @@ pub struct Book {
 }
 
 impl Model for Book {
-    ghost use Rattle.mh_reach_words.specs.Words.{IsSound, Words, words_of};
+    ghost use Rattle.mh_reach_words.specs.code.Words.{IsSound, Words, words_of};
 
     ghost Value = { Words };
 
@@ -36,7 +36,7 @@ impl Book {
         }
     }
 
-    /// A book's words stand in their order.
+    /// A book's words are in their order.
     pub fn rising(&self)
         ensures { IsBook self.now }
     {

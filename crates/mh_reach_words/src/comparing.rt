@@ -1,7 +1,7 @@
 //! Two words compared from their fronts, through what they are made of: no word is written out.
 ghost use Rattle.std.specs.Prelude.{◌≡◌, ◌<◌, ◌++◌, ◌∷◌, [], IfOk, OnOk, length, slice_get};
-ghost use Rattle.mh_reach_words.specs.Compared.{AreTops, IsCompared, IsEntryOf, IsTold, Opens, TakesTop, Turns, top_of};
-ghost use Rattle.mh_reach_words.specs.Words.{IsSound, Knows, group_of, spelled, words_of};
+ghost use Rattle.mh_reach_words.specs.code.Compared.{AreTops, IsCompared, IsEntryOf, IsTold, Opens, TakesTop, Turns, top_of};
+ghost use Rattle.mh_reach_words.specs.code.Words.{IsSound, Knows, group_of, spelled, words_of};
 ghost use Rattle.mh_reach_words.specs.declared.made.Last.TheVariants as lasts;
 
 use crate::made::{Entry, Last, Made};
@@ -84,7 +84,7 @@ fn put_back(parts: &mut Vec<Last>, part: Option<Last>) -> Result<(), Memory>
     Ok(())
 }
 
-/// What two tokens tell of the order.
+/// What two tokens say of the order.
 fn told(one: Token, two: Token) -> Option<Ordering>
     ensures { IsTold one two result }
 {
@@ -127,7 +127,7 @@ fn open_left(
     open(entries, &mut rests.left, left)
 }
 
-/// What two words tell of the order. Equal ones are dropped. Two of one group stand in the order of their numbers. Else the one of
+/// What two words say of the order. Equal ones are dropped. Two of one group are in the order of their numbers. Else the one of
 /// the higher group is opened, so that what both begin with comes to stand on top of both.
 fn turn_words(
     entries: &[Entry],
@@ -158,7 +158,7 @@ fn turn_words(
     Ok(Some(Ordering::Greater))
 }
 
-/// What the first parts of two words tell of the order.
+/// What the first parts of two words say of the order.
 fn turn_both(
     entries: &[Entry],
     rests: &mut Rests,
@@ -183,7 +183,7 @@ fn turn_both(
     }
 }
 
-/// What the first part of the right word tells of the order, where the left one has ended.
+/// What the first part of the right word says of the order, where the left one has ended.
 fn left_ended(entries: &[Entry], rests: &mut Rests, right: Last) -> Result<Option<Ordering>, Memory>
     requires sound { IsSound entries.now }
     requires tops { AreTops (words_of entries.now) rests.old None (Some right) }
@@ -198,7 +198,7 @@ fn left_ended(entries: &[Entry], rests: &mut Rests, right: Last) -> Result<Optio
     }
 }
 
-/// What the first part of the left word tells of the order, where the right one has ended.
+/// What the first part of the left word says of the order, where the right one has ended.
 fn right_ended(entries: &[Entry], rests: &mut Rests, left: Last) -> Result<Option<Ordering>, Memory>
     requires sound { IsSound entries.now }
     requires tops { AreTops (words_of entries.now) rests.old (Some left) None }
@@ -213,7 +213,7 @@ fn right_ended(entries: &[Entry], rests: &mut Rests, left: Last) -> Result<Optio
     }
 }
 
-/// What the first parts of two words tell of the order; a word without one has ended.
+/// What the first parts of two words say of the order; a word without one has ended.
 fn turn(
     entries: &[Entry],
     rests: &mut Rests,

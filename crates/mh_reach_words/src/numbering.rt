@@ -1,9 +1,9 @@
 //! Numbers for words: by their order, equal words one.
 ghost use Rattle.std.specs.Prelude.{◌≡◌, ◌<◌, ◌+◌, IfOk, IsSome, OnOk, Some, length, slice_get};
 ghost use Rattle.std.specs.List.{Contains};
-ghost use Rattle.mh_reach_words.specs.Numbered.{AddsNew, AreBelowGroup, AreEven, AreKnown, AreNumbers, Gives, IsEqual, IsNumbered, IsRepeated, Orders, PutsOnce, number_in};
-ghost use Rattle.mh_reach_words.specs.Rising.{NoLater, Rises, Same};
-ghost use Rattle.mh_reach_words.specs.Words.{IsSound, Knows, words_of};
+ghost use Rattle.mh_reach_words.specs.code.Numbered.{AddsNew, AreBelowGroup, AreEven, AreKnown, AreNumbers, Gives, IsEqual, IsNumbered, IsRepeated, Orders, PutsOnce, number_in};
+ghost use Rattle.mh_reach_words.specs.code.Rising.{NoLater, Rises, Same};
+ghost use Rattle.mh_reach_words.specs.code.Words.{IsSound, Knows, words_of};
 
 use crate::comparing::{Rests, compare, no_rests};
 use crate::made::{Entry, Made};
@@ -81,7 +81,7 @@ fn is_repeated(
     is_equal(entries, rests, before, made)
 }
 
-/// Puts the word at a place behind those that are new, where it is not the one before it.
+/// Adds the word at a place to those that are new, unless it equals the one before it.
 fn add_new(
     entries: &[Entry],
     rests: &mut Rests,

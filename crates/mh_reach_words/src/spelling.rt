@@ -1,7 +1,7 @@
 //! Words in the order of what they spell.
 ghost use Rattle.std.specs.Prelude.{IfOk, IsTrue};
-ghost use Rattle.mh_reach_words.specs.Rising.{NoLater};
-ghost use Rattle.mh_reach_words.specs.Words.{IsSound, Knows, words_of};
+ghost use Rattle.mh_reach_words.specs.code.Rising.{NoLater};
+ghost use Rattle.mh_reach_words.specs.code.Words.{IsSound, Knows, words_of};
 
 use crate::comparing::{Rests, compare};
 use crate::made::{Entry, Made};

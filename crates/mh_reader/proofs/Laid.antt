@@ -4,8 +4,8 @@ use Rattle.std.specs.List.{flat_map}
 use Rattle.mh_lex.specs.Texts.{laid}
 use Rattle.mh_rules.specs.declared.modules.Actual.{Actual, out-Actual}
 use Rattle.mh_rules.specs.declared.modules.Actual.TheFolds.{fold_out-Actual}
-use Rattle.mh_reader_parser.specs.Pieces.{Piece, ref_piece, bracketed, actual_pieces}
-use Rattle.mh_reader.specs.Printed.{Writes}
+use Rattle.mh_reader_parser.specs.code.Pieces.{Piece, ref_piece, bracketed, actual_pieces}
+use Rattle.mh_reader.specs.code.Printed.{Writes}
 
 pub laid_joined : (ts us : List Piece) → laid (ts ++ us) ≡ laid ts ++ laid us
 laid_joined [] us = refl

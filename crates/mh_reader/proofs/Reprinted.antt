@@ -12,7 +12,7 @@ use Rattle.mh_lex.specs.declared.kinds.Kind.TheVariants as kinds
 use Rattle.mh_lex.specs.declared.kinds.SyntaxFault.{SyntaxFault}
 use Rattle.mh_lex.specs.declared.kinds.SyntaxFault.TheVariants.{Syntax, Memory}
 use Rattle.mh_lex.specs.declared.kinds.Lexeme.{Lexeme}
-use Rattle.mh_lex.specs.Keywords.{keywords, is_keyword}
+use Rattle.mh_lex_bytes.specs.Keywords.{keywords, is_keyword}
 use Rattle.mh_lex.specs.Texts as texts
 use Rattle.mh_lex.specs.Texts.{LexemeText, IsText, is_content, laid, places, count_of_percents, one_of, bytes_of}
 use Rattle.mh_lex.proofs.LaidOut.{drop_all, laid_lexes, take_all}
@@ -31,8 +31,8 @@ use Rattle.mh_reader_parser.specs.Spelling as spelling
 use Rattle.mh_rules.specs.Modules.{no_module}
 use Rattle.mh_reader_parser.specs.Spelling.{Limited, ListOf, IsAlias, IsToken, IsRef, Declaration, Producers, IsPrec, Productions, Groups, Modifiers, Formals, MayFormals, IsRule, Rules, File, Spells}
 use Rattle.mh_reader_parser.specs.Faults.{Reads}
-use Rattle.mh_reader_parser.specs.Pieces.{Piece, word, mark, ref_piece, bracket_end, actual_pieces}
-use Rattle.mh_reader.specs.Printed.{keyword, percents, action, prec_pieces, alternative_pieces, modifier_pieces, formals_pieces, rule_pieces, alias_pieces, cost_text, cost_pieces, token_pieces, start_pieces, assoc_word, level_pieces, on_error_pieces, module_pieces}
+use Rattle.mh_reader_parser.specs.code.Pieces.{Piece, word, mark, ref_piece, bracket_end, actual_pieces}
+use Rattle.mh_reader.specs.code.Printed.{keyword, percents, action, prec_pieces, alternative_pieces, modifier_pieces, formals_pieces, rule_pieces, alias_pieces, cost_text, cost_pieces, token_pieces, start_pieces, assoc_word, level_pieces, on_error_pieces, module_pieces}
 use Rattle.mh_grammar.specs.Costs.{IsCost}
 use Rattle.mh_reader_parser.proofs.Priced.{cost_printed, cost_digits}
 use Rattle.mh_reader_parser.proofs.Again.{map_none, option_or-none}

@@ -1,8 +1,8 @@
 //! The text of a module.
 ghost use Rattle.std.specs.Prelude.{◌≡◌, ◌++◌, ◌∷◌, [], ◌≢◌, ℕ, List, Result, IfOk, OnOk, map, codes};
 ghost use Rattle.std.specs.List.{flat_map};
-ghost use Rattle.mh_reader_parser.specs.Pieces.{word, quoted, ref_piece, actual_pieces};
-ghost use Rattle.mh_reader.specs.Printed.{Writes, keyword, prec_pieces, alternative_pieces, modifier_pieces, formals_pieces, rule_pieces, alias_pieces, cost_pieces, token_pieces, start_pieces, assoc_word, level_pieces, on_error_pieces, module_pieces};
+ghost use Rattle.mh_reader_parser.specs.code.Pieces.{word, quoted, ref_piece, actual_pieces};
+ghost use Rattle.mh_reader.specs.code.Printed.{Writes, keyword, prec_pieces, alternative_pieces, modifier_pieces, formals_pieces, rule_pieces, alias_pieces, cost_pieces, token_pieces, start_pieces, assoc_word, level_pieces, on_error_pieces, module_pieces};
 ghost use Rattle.mh_lex.specs.declared.kinds.SyntaxFault.{SyntaxFault};
 ghost use Rattle.mh_lex.specs.declared.kinds.SyntaxFault.TheVariants as faults;
 ghost use Rattle.mh_rules.specs.declared.modules.Module.{Module};

@@ -1,14 +1,14 @@
 -- Reading stops at the first lexeme that no file has there.
-use Rattle.std.proofs.Common.{◌≡◌, ℕ, suc, ◌<◌, ◌≤◌, ◌+◌, add-one, List, [], ◌∷◌, ◌++◌, length, take, drop, get_or, Option, Some, None, refl, sym, ap, subst, ◌∙◌, append_assoc}
+use Rattle.std.proofs.Common.{◌≡◌, ℕ, suc, ◌<◌, ◌≤◌, ◌+◌, add-one, List, [], ◌∷◌, ◌++◌, length, take, drop, get_or, Option, Some, None, refl, sym, ap, subst, ◌∙◌, append_assoc, Result, Ok, Err, IfOk}
 use Rattle.std.specs.Option.{option_or}
 use Rattle.std.proofs.Math.Seq.{take-suc, split_at}
 use Rattle.std.proofs.lemmas.List.{append-nil, take_all}
 use Rattle.std.proofs.lemmas.Option.{none-some}
 use Rattle.mh_lex.specs.declared.kinds.Lexeme.{Lexeme}
-use Rattle.std.proofs.Common.{Result, Ok, Err, IfOk}
 use Rattle.mh_lex.specs.declared.kinds.SyntaxFault.{SyntaxFault}
 use Rattle.mh_lex.specs.declared.kinds.SyntaxFault.TheVariants.{Syntax, Memory}
-use Rattle.mh_lex.specs.Lexing.{Lexes, line_at}
+use Rattle.mh_lex_bytes.specs.Lines.{line_at}
+use Rattle.mh_lex.specs.Lexing.{Lexes}
 use Rattle.mh_lex.specs.Texts.{bytes_of}
 use Rattle.mh_rules.specs.declared.modules.Ref.{Ref}
 use Rattle.mh_rules.specs.declared.modules.Actual.{Actual}
@@ -27,7 +27,7 @@ use Rattle.mh_reader_parser.specs.Costs.{cost_of}
 use Rattle.mh_reader_parser.specs.Signs.{Read, reads_of, kept, sign_by, text_by, cost_along, cost_behind}
 use Rattle.mh_rules.specs.Modules.{applied, no_module}
 use Rattle.mh_reader_parser.specs.Spelling.{File, Spells, Begins}
-use Rattle.mh_reader_parser.specs.Limits.{IsShallow}
+use Rattle.mh_reader_parser.specs.code.Limits.{IsShallow}
 use Rattle.mh_reader_parser.specs.Faults.{IsHalt, IsSyntaxLine, Stops, Refuses}
 use Rattle.mh_reader_parser.specs.Faults.IsHalt.{unexpected, unfinished}
 use Rattle.mh_reader_parser.specs.code.Machine.{at, next_at, finish_at, run, go_on, start, taken, costed, costed_place}

@@ -11,10 +11,10 @@ use Rattle.mh_lex_bytes.specs.declared.keywords.Keyword.TheVariants as keywords
 use Rattle.mh_lex.specs.declared.kinds.Kind.{Kind}
 use Rattle.mh_lex.specs.declared.kinds.Kind.TheVariants as kinds
 use Rattle.mh_lex.specs.declared.kinds.Lexeme.{Lexeme}
-use Rattle.mh_lex.specs.Keywords.{keyword_named}
+use Rattle.mh_lex_bytes.specs.Keywords.{keyword_named}
 use Rattle.mh_lex.specs.Texts as texts
 use Rattle.mh_lex.specs.Texts.{LexemeText, is_content, HasText, IsSpelled, bytes_of, one_of}
-use Rattle.mh_lex.specs.Bytes.{byte_at, is_mark}
+use Rattle.mh_lex_bytes.specs.Bytes.{byte_at, is_mark}
 use Rattle.mh_lex.proofs.LaidOut.{take_all}
 use Rattle.mh_rules.specs.declared.modules.Ref.{Ref}
 use Rattle.mh_rules.specs.declared.modules.Ref.TheVariants.{Plain, Alias}
@@ -35,7 +35,7 @@ use Rattle.mh_rules.specs.Ready.{IsTokenReady}
 use Rattle.mh_reader_parser.specs.Spelling.{ref_by, ref_of, suffix_of, with_prec, own_or, Suffixed, Base, Args, IsActual, Limited, ListOf, IsAlias, IsToken, IsWord, IsRef, MayType, Declaration, Semicolons, IsProducer, Producers, IsPrec, Productions, Groups, Modifiers, Formals, MayFormals, MayBar, IsRule, Rules, File}
 use Rattle.mh_grammar.specs.Costs.{IsCost}
 use Rattle.mh_reader_parser.proofs.Priced.{cost_ready}
-use Rattle.mh_reader_parser.specs.Pieces.{Piece, mark, ref_piece, bracketed, bracket_end, actual_pieces}
+use Rattle.mh_reader_parser.specs.code.Pieces.{Piece, mark, ref_piece, bracketed, bracket_end, actual_pieces}
 
 -- LEXEMES
 

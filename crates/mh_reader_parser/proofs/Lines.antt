@@ -2,7 +2,7 @@
 use Rattle.std.proofs.Common.{◌≡◌, ℕ, List, [], ◌∷◌, ◌++◌, Some, sym, ap, subst, ◌∙◌}
 use Rattle.std.proofs.lemmas.Option.{none-some}
 use Rattle.mh_lex.specs.declared.kinds.Lexeme.{Lexeme}
-use Rattle.mh_lex.specs.Lexing.{line_at}
+use Rattle.mh_lex_bytes.specs.Lines.{line_at}
 use Rattle.mh_lex.proofs.Takes.{LexesFrom-once}
 use Rattle.mh_rules.specs.declared.modules.Module.{Module}
 use Rattle.mh_reader_parser.specs.Signs.{reads_of}

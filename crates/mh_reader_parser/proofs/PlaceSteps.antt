@@ -1,5 +1,5 @@
 -- What a step gives of a lexeme that it does not name: what another step gives of it.
-use Rattle.std.proofs.Common.{◌≡◌, ℕ, false, List, Option, None, refl}
+use Rattle.std.proofs.Common.{◌≡◌, ℕ, List, Option, None, false, refl}
 use Rattle.mh_rules.specs.declared.modules.Ref.TheVariants.{Plain, Alias}
 use Rattle.mh_rules.specs.declared.modules.Rule.{Rule}
 use Rattle.mh_rules.specs.declared.modules.Module.{Module}
@@ -9,9 +9,7 @@ use Rattle.mh_reader_parser.specs.declared.places.Draft.{Draft}
 use Rattle.mh_reader_parser.specs.declared.places.Listing.{Listing}
 use Rattle.mh_reader_parser.specs.declared.places.Listing.TheVariants as lists
 use Rattle.mh_reader_parser.specs.declared.places.Place.TheVariants as places
-use Rattle.mh_rules.specs.Due.{if_due}
-use Rattle.mh_rules.specs.Tokens.{definition_of}
-use Rattle.mh_reader_parser.specs.code.Machine.{declare, close, list_item, list_word, list_quoted, at_items, at_modified, onward, is_type, alias_by, at_token, behind_name, at_parameter, in_rules, in_production, at_begin, drafted, at_spaced, behind_group, ruled, at_group, grouped, at_rule_end}
+use Rattle.mh_reader_parser.specs.code.Machine.{declare, close, list_item, list_word, list_quoted, at_items, at_modified, token_of, at_token, at_aliased, in_rules, in_production, at_begin, drafted, at_spaced, behind_group, ruled, at_group, grouped, at_rule_end}
 
 -- a list ends where something else than an item or a comma stands
 pub items_else : (m : Module) (l : Listing) (g : Sign) (text : List ℕ) → (g ≡ signs.Word → ⊥) → (g ≡ signs.Quoted → ⊥) → (g ≡ signs.Comma → ⊥) → at_items m l g text ≡ declare (close m l) g
@@ -30,23 +28,10 @@ pub quoted_is : (m : Module) (l : Listing) (text : List ℕ) → list_quoted m l
 quoted_is m lists.Tokens text = refl
 quoted_is m _ text = refl
 
--- behind a token's name its alias may stand
-pub token_is : (m : Module) (name : List ℕ) (c : Option ℕ) (g : Sign) (text : List ℕ) → at_token m name c g text ≡ behind_name m (definition_of name (alias_by g text) c) g text
-token_is m name c signs.Quoted text = refl
-token_is m name c _ text = refl
-
-pub no_alias : (g : Sign) (text : List ℕ) → (g ≡ signs.Quoted → ⊥) → None ≡ alias_by g text
-no_alias signs.Quoted text h = absurd (h refl)
-no_alias _ text h = refl
-
-pub no_type : (g : Sign) → (g ≡ signs.TypeText → ⊥) → false ≡ is_type g
-no_type signs.TypeText h = absurd (h refl)
-no_type _ h = refl
-
--- behind %parameter only a type is taken
-pub parameter_is : (m : Module) (g : Sign) → at_parameter m g ≡ onward m (if_due (is_type g) places.Declarations)
-parameter_is m signs.TypeText = refl
-parameter_is m _ = refl
+-- a token whose name no string follows has no alias
+pub token_else : (m : Module) (name : List ℕ) (c : Option ℕ) (g : Sign) (text : List ℕ) → (g ≡ signs.Quoted → ⊥) → at_token m name c g text ≡ at_aliased m (token_of name None c) g text
+token_else m name c signs.Quoted text h = absurd (h refl)
+token_else m name c _ text h = refl
 
 -- but for the second %%, rules begin as they do behind no modifier
 pub rules_else : (m : Module) (g : Sign) (text : List ℕ) → (g ≡ signs.Percents → ⊥) → in_rules m g text ≡ at_modified m false false g text

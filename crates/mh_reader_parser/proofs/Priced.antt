@@ -13,7 +13,7 @@ use Rattle.std.proofs.lemmas.Str.Parse.{IsDigitsTest, IsNumeralModel, FoldsDigit
 use Rattle.std.proofs.lemmas.Option.{same_Some}
 use Rattle.mh_grammar.specs.declared.types.TheConstants.{MAX_COST}
 use Rattle.mh_grammar.specs.Costs.{IsCost}
-use Rattle.mh_lex.specs.Bytes.{byte_at, is_blank, is_decimal}
+use Rattle.mh_lex_bytes.specs.Bytes.{byte_at, is_blank, is_decimal}
 use Rattle.mh_reader_parser.specs.Costs.{IsCostText, front_of, value, limited, is_closing, numbered, spaced, cost_of}
 
 -- CLASSES OF BYTES AT THE FRONT

@@ -27,7 +27,7 @@ use Rattle.mh_reader_parser.specs.Signs.{Read, is_capital}
 use Rattle.mh_reader_parser.specs.Spelling as spelling
 use Rattle.mh_rules.specs.Modules.{applied, alternative}
 use Rattle.mh_reader_parser.specs.Spelling.{ref_by, ref_of, suffix_of, with_prec, starts_with_bar, is_bar, Suffixed, Base, Args, IsActual, Limited, ListOf, IsAlias, IsToken, IsWord, IsRef, MayType, Declaration, Semicolons, IsProducer, Producers, IsPrec, Productions, Groups, Modifiers, Formals, MayFormals, MayBar, IsRule, Rules, File}
-use Rattle.mh_reader_parser.specs.Limits.{Deep, IsShallow}
+use Rattle.mh_reader_parser.specs.code.Limits.{Deep, IsShallow}
 use Rattle.mh_reader_parser.specs.code.Machine as machine
 use Rattle.mh_reader_parser.specs.code.Machine.{at, next_at, finish_at, run, go_on, costed, costed_place, fits, close, token_of, with_token, with_formal, named, drafted, produced, with_producer, with_argument, grouped, grouped_with, ruled}
 use Rattle.mh_reader_parser.proofs.Again.{map_none, option_or-none}

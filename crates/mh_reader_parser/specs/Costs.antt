@@ -3,7 +3,7 @@ use Rattle.std.specs.Prelude.{◌≡◌, ◌<◌, ◌≤◌, ◌+◌, ◌-◌, �
 use Rattle.std.specs.List.{AllByRecursion}
 use Rattle.std.specs.Cmp.Lexicographic.{pointwise}
 use Rattle.mh_grammar.specs.declared.types.TheConstants.{MAX_COST}
-use Rattle.mh_lex.specs.Bytes.{byte_at, is_blank, is_decimal}
+use Rattle.mh_lex_bytes.specs.Bytes.{byte_at, is_blank, is_decimal}
 
 -- WHAT A COST ATTRIBUTE IS
 

@@ -3,7 +3,8 @@ use Rattle.std.specs.Prelude.{◌≡◌, ℕ, List, [], ◌∷◌, ◌++◌, len
 use Rattle.mh_lex.specs.declared.kinds.Lexeme.{Lexeme}
 use Rattle.mh_lex.specs.declared.kinds.SyntaxFault.{SyntaxFault}
 use Rattle.mh_lex.specs.declared.kinds.SyntaxFault.TheVariants.{Syntax, Memory}
-use Rattle.mh_lex.specs.Lexing.{Lexes, line_at}
+use Rattle.mh_lex_bytes.specs.Lines.{line_at}
+use Rattle.mh_lex.specs.Lexing.{Lexes}
 use Rattle.mh_rules.specs.declared.modules.Module.{Module}
 use Rattle.mh_reader_parser.specs.Signs.{reads_of}
 use Rattle.mh_rules.specs.Modules.{no_module}

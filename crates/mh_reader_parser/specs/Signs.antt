@@ -7,8 +7,8 @@ use Rattle.mh_lex_bytes.specs.declared.keywords.Keyword.TheVariants as keywords
 use Rattle.mh_lex.specs.declared.kinds.Kind.{Kind}
 use Rattle.mh_lex.specs.declared.kinds.Kind.TheVariants as kinds
 use Rattle.mh_lex.specs.declared.kinds.Lexeme.{Lexeme}
-use Rattle.mh_lex.specs.Bytes.{byte_at}
-use Rattle.mh_lex.specs.Keywords.{keyword_named}
+use Rattle.mh_lex_bytes.specs.Bytes.{byte_at}
+use Rattle.mh_lex_bytes.specs.Keywords.{keyword_named}
 use Rattle.mh_lex.specs.Texts.{bytes_of}
 use Rattle.mh_reader_parser.specs.declared.signs.Sign.{Sign}
 use Rattle.mh_reader_parser.specs.declared.signs.Sign.TheVariants as signs

@@ -6,7 +6,7 @@ ghost use Rattle.mh_reader_parser.specs.declared.places.Place.TheVariants as pla
 ghost use Rattle.mh_reader_parser.specs.Spelling.{ref_by};
 ghost use Rattle.mh_reader_parser.specs.code.Machine as machine;
 ghost use Rattle.mh_reader_parser.specs.code.Machine.{Refers, with_argument, with_producer};
-ghost use Rattle.mh_reader_parser.specs.Limits.{Deep};
+ghost use Rattle.mh_reader_parser.specs.code.Limits.{Deep};
 
 use crate::declarations::at_items;
 use crate::places::{

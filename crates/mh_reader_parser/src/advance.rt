@@ -2,7 +2,7 @@
 ghost use Rattle.std.specs.Prelude.{◌≡◌};
 ghost use Rattle.mh_reader_parser.specs.code.Machine as machine;
 ghost use Rattle.mh_reader_parser.specs.code.Machine.{Refers};
-ghost use Rattle.mh_reader_parser.specs.Limits.{IsShallow};
+ghost use Rattle.mh_reader_parser.specs.code.Limits.{IsShallow};
 
 use crate::actuals::{Measured, Within, after, at_argument, at_head, at_named};
 use crate::declarations::{

@@ -1,7 +1,7 @@
 //! Costs of tokens in attributes.
 ghost use Rattle.std.specs.Prelude.{◌≡◌, ◌≤◌, ◌==◌, List, drop, length, nat_eq, take};
 ghost use Rattle.std.specs.Cmp.Lexicographic.{pointwise};
-ghost use Rattle.mh_lex.specs.Bytes.{byte_at, is_blank, is_decimal};
+ghost use Rattle.mh_lex_bytes.specs.Bytes.{byte_at, is_blank, is_decimal};
 ghost use Rattle.mh_reader_parser.specs.Costs as spec;
 ghost use Rattle.mh_reader_parser.specs.Costs.{front_of, is_closing, limited, numbered, spaced, value};
 

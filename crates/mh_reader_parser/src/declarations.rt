@@ -8,7 +8,7 @@ use crate::places::{Listing, Place, Purpose, Reader, Refusal, go_to, no_memory, 
 use crate::signs::{Sign, is_capital_word};
 use crate::stack::Stack;
 use mh_grammar::{Memory, Name, Sequence, from_bytes, lost};
-use mh_rules::{Actual, Definition, LevelDecl, Module, Ref, TokenDecl, definition_of, if_due};
+use mh_rules::{Actual, LevelDecl, Module, Ref, TokenDecl};
 use std::alloc::Global;
 
 /// A declaration of levels.
@@ -220,59 +220,13 @@ pub(crate) fn at_type(alloc: Global, made: Module, sign: Sign) -> Result<Reader,
     }
 }
 
-/// Whether a lexeme is a type.
-fn is_type(sign: Sign) -> bool
-    ensures { result ≡ machine.is_type sign }
-{
-    match sign {
-        Sign::TypeText => true,
-        _ => false,
-    }
-}
-
-/// The reader goes on at a place, where there is one for the lexeme.
-fn go_onward(made: Module, place: Option<Place>) -> Result<Reader, Refusal>
-    ensures { Refers (machine.onward made place) result }
-{
-    match place {
-        Some(place) => go_to(made, place),
-        None => unexpected(made),
-    }
-}
-
 /// Where a parameter's type has to stand.
 pub(crate) fn at_parameter(made: Module, sign: Sign) -> Result<Reader, Refusal>
     ensures { Refers (machine.at_parameter made sign) result }
 {
-    go_onward(made, if_due(is_type(sign), Place::Declarations))
-}
-
-/// The alias that a lexeme is, where it is one.
-fn alias_of(alloc: Global, sign: Sign, text: &[u8]) -> Result<Option<Name>, Memory>
-    ensures { IfOk result (λ alias. alias ≡ machine.alias_by sign text.now) }
-{
     match sign {
-        Sign::Quoted => {
-            let alias = from_bytes(alloc, text)?;
-            Ok(Some(alias))
-        }
-        _ => Ok(None),
-    }
-}
-
-/// Behind the lexeme that follows a token's name.
-fn behind_name(
-    alloc: Global,
-    made: Module,
-    definition: Definition,
-    sign: Sign,
-    text: &[u8],
-) -> Result<Reader, Refusal>
-    ensures { Refers (machine.behind_name made definition sign text.now) result }
-{
-    match definition {
-        Definition::Aliased(token) => go_to(made, Place::TokenAliased(token)),
-        Definition::Whole(token) => at_aliased(alloc, made, token, sign, text),
+        Sign::TypeText => go_to(made, Place::Declarations),
+        _ => unexpected(made),
     }
 }
 
@@ -287,9 +241,29 @@ pub(crate) fn at_token(
 ) -> Result<Reader, Refusal>
     ensures { Refers (machine.at_token made name cost sign text.now) result }
 {
-    match alias_of(alloc, sign, text) {
-        Ok(alias) => behind_name(alloc, made, definition_of(name, alias, cost), sign, text),
-        Err(_) => no_memory((made, name)),
+    match sign {
+        Sign::Quoted => match from_bytes(alloc, text) {
+            Ok(alias) => go_to(
+                made,
+                Place::TokenAliased(TokenDecl {
+                    name,
+                    alias: Some(alias),
+                    cost,
+                }),
+            ),
+            Err(_) => no_memory((made, name)),
+        },
+        _ => at_aliased(
+            alloc,
+            made,
+            TokenDecl {
+                name,
+                alias: None,
+                cost,
+            },
+            sign,
+            text,
+        ),
     }
 }
 

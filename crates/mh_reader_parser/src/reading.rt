@@ -1,12 +1,13 @@
 //! The module of a grammar file.
 ghost use Rattle.std.specs.Prelude.{◌≡◌, ◌<◌, ◌^◌, ◌≤◌, ℕ, List, length, take, drop, IfOk, None};
 ghost use Rattle.std.specs.List.{All};
-ghost use Rattle.mh_lex.specs.Lexing.{IsWithin, line_at};
+ghost use Rattle.mh_lex.specs.Lexing.{IsWithin};
+ghost use Rattle.mh_lex_bytes.specs.Lines.{line_at};
 ghost use Rattle.mh_lex.specs.Texts.{bytes_of};
 ghost use Rattle.mh_rules.specs.declared.modules.Module.{Module};
 ghost use Rattle.mh_rules.specs.Ready.{IsModuleReady};
 ghost use Rattle.mh_reader_parser.specs.Signs.{reads_of, sign_by, text_by};
-ghost use Rattle.mh_reader_parser.specs.Limits.{IsShallow};
+ghost use Rattle.mh_reader_parser.specs.code.Limits.{IsShallow};
 ghost use Rattle.mh_rules.specs.Modules.{no_module};
 ghost use Rattle.mh_reader_parser.specs.Spelling.{File, Spells};
 ghost use Rattle.mh_reader_parser.specs.code.Machine.{Refers, costed, finish_at, start, taken};

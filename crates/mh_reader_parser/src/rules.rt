@@ -8,7 +8,7 @@ use crate::places::{Draft, Place, Purpose, Reader, Refusal, go_to, no_memory, un
 use crate::signs::Sign;
 use crate::stack::Stack;
 use mh_grammar::{Memory, Name, Sequence, from_bytes, lost};
-use mh_rules::{Alternative, Module, Ref, Rule, lacks_level};
+use mh_rules::{Alternative, Module, Ref, Rule};
 use std::alloc::Global;
 use std::mem;
 
@@ -429,7 +429,7 @@ fn copied_ref(alloc: Global, found: &Ref) -> Result<Ref, Memory>
 fn give_level(alloc: Global, production: &mut Alternative, group: &Ref) -> Result<(), Memory>
     ensures { OnOk result (production.new ≡ with_prec (Some group.now) production.old) }
 {
-    if lacks_level(production) {
+    if production.prec.is_none() {
         let level = copied_ref(alloc, group)?;
         drop(mem::replace(&mut production.prec, Some(level)));
     }

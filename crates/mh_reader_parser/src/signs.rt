@@ -1,7 +1,7 @@
 //! What the lexemes of a file are to its grammar.
 ghost use Rattle.std.specs.Prelude.{◌≡◌, drop};
 ghost use Rattle.mh_lex.specs.declared.kinds.Kind.TheVariants.{Quoted};
-ghost use Rattle.mh_lex.specs.Bytes.{byte_at};
+ghost use Rattle.mh_lex_bytes.specs.Bytes.{byte_at};
 ghost use Rattle.mh_reader_parser.specs.Signs.{mark_sign, sign_of_keyword, sign_of_word, sign_by, text_by, is_capital};
 
 use mh_grammar::Assoc;

@@ -18,8 +18,8 @@ use Rattle.mh_resolve_cells.specs.declared.kinds.Mode.{Mode}
 use Rattle.mh_resolve_cells.specs.States.{state_of}
 use Rattle.mh_resolve_cells.specs.Holes.{AreHoles}
 use Rattle.mh_grammar.specs.Text.{Text}
-use Rattle.mh_report_notation.specs.Items.{production_text, item_lines}
-use Rattle.mh_report_notation.specs.Cells.{refusal_line}
+use Rattle.mh_grammar_texts.specs.Productions.{production_text}
+use Rattle.mh_report_notation.specs.Items.{item_lines}
 
 abbrev pub title : Mode → ℕ → Text
 title mode states = mode_name mode ++ codes ": " ++ decimal states ++ codes " states\n"
@@ -31,7 +31,8 @@ kernel_lines g items = item_lines (codes "  ") g items
 abbrev pub cell_line : Grammar → ℕ → Action → Bool → Text
 cell_line g z (Shift j) hole = codes "  " ++ token_name g z ++ codes ": shift " ++ decimal j ++ codes "\n"
 cell_line g z (Reduce p) hole = codes "  " ++ token_name g z ++ codes ": reduce " ++ production_text g p ++ codes "\n"
-cell_line g z Refuse hole = refusal_line g z hole
+cell_line g z Refuse true = codes "  " ++ token_name g z ++ codes ": hole\n"
+cell_line g z Refuse false = []
 
 -- the lines of the first n tokens
 abbrev pub cell_lines : Grammar → TableData → ℕ → List Bool → ℕ → Text
@@ -76,6 +77,6 @@ pub record IsAutomatonText (g : Grammar) (a : Automaton) (mode : Mode) (t : Tabl
   pub are : AreStateTexts g a t (length a.kernels) states
   pub is : text ≡ title mode (length a.kernels) ++ states
 
--- what is written behind a text
+-- a text with more at its end
 abbrev pub Adds : (Text → Type 0) → Text → Text → Type 0
 Adds Is old new = (last : Text) × Is last × (new ≡ old ++ last)

@@ -1,3 +1,2 @@
 pub mod Automata
-pub mod Items
 pub mod Warnings

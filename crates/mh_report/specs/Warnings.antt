@@ -3,7 +3,7 @@ use Rattle.std.specs.Prelude.{List, [], ◌∷◌, ◌++◌}
 use Rattle.mh_grammar.specs.declared.types.Grammar.{Grammar}
 use Rattle.mh_resolve_cells.specs.declared.conflicts.Conflict.{Conflict}
 use Rattle.mh_grammar.specs.Text.{Text}
-pub use Rattle.mh_report_notation.specs.Warnings.{conflict_place, unsolved_line, stream_line, warning_line}
+use Rattle.mh_report_notation.specs.Warnings.{warning_line}
 
 abbrev pub warning_lines : Grammar → List Conflict → Text
 warning_lines g [] = []

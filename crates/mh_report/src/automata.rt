@@ -1,21 +1,18 @@
 //! The text of an automaton with its table.
-ghost use Rattle.std.specs.Prelude.{◌≡◌, ◌<◌, ◌≤◌, ◌++◌, length, codes, decimal, IfOk, OnOk};
-ghost use Rattle.std.specs.List.{All};
+ghost use Rattle.std.specs.Prelude.{◌≡◌, ◌<◌, ◌≤◌, ◌++◌, length, codes, IfOk, OnOk};
 ghost use Rattle.mh_grammar.specs.Plain.{plain_of, IsInRange};
-ghost use Rattle.mh_items_kernels.specs.Kernels.{IsKernelItem};
 ghost use Rattle.mh_items_kernels.specs.Automaton.{IsAutomaton, kernel_at, edges_at};
-ghost use Rattle.mh_tables_core.specs.Table.{cell_of, fallback_of};
+ghost use Rattle.mh_tables_core.specs.Table.{fallback_of};
 ghost use Rattle.mh_resolve_cells.specs.declared.kinds.Mode.{Mode as ModeOf};
 ghost use Rattle.mh_resolve_cells.specs.States.{IsTableOf};
 ghost use Rattle.mh_resolve_cells.specs.Names.{mode_name};
-ghost use Rattle.mh_report_notation.specs.Items.{production_text};
+ghost use Rattle.mh_grammar_texts.specs.Productions.{production_text};
 ghost use Rattle.mh_report.specs.Automata.{title, kernel_lines, cell_line, cell_lines, goto_line, goto_lines, head_line, AreActionLines, IsStateText, IsAutomatonText, Adds};
 
 use mh_grammar::{Edge, Grammar, Memory, Symbol, Token, nonterminal_name, token_name};
-use mh_items_kernels::{Automaton, KernelItem};
-use mh_report_notation::{
-    write_between, write_indented, write_item_lines, write_production, write_refusal,
-};
+use mh_grammar_texts::{write_between, write_production};
+use mh_items_kernels::Automaton;
+use mh_report_notation::write_item_lines;
 use mh_resolve_cells::Mode;
 use mh_resolve_settle::holes_of;
 use mh_tables_core::{Action, Fallback, Halting, Table};
@@ -36,6 +33,15 @@ fn write_title(alloc: Global, text: &mut Vec<u8>, mode: Mode, states: u32) -> Re
 {
     text.extend_from_slice(mode_name(mode))?;
     write_between(alloc, text, b": ", states, b" states\n")
+}
+
+/// Writes a name, two spaces in.
+fn write_indented(text: &mut Vec<u8>, name: &[u8]) -> Result<(), Memory>
+    ensures { OnOk result (text.new.items ≡ text.old.items ++ (codes "  " ++ name.now)) }
+{
+    text.extend_from_slice(b"  ")?;
+    text.extend_from_slice(name)?;
+    Ok(())
 }
 
 /// A line that ends in a production.
@@ -75,7 +81,13 @@ fn write_cell_line(
             write_indented(text, token_name(grammar, token))?;
             write_reduction(text, grammar, b": reduce ", production)
         }
-        Action::Refuse => write_refusal(text, grammar, token, is_hole),
+        Action::Refuse => {
+            if is_hole {
+                write_indented(text, token_name(grammar, token))?;
+                text.extend_from_slice(b": hole\n")?;
+            }
+            Ok(())
+        }
     }
 }
 

@@ -5,6 +5,7 @@ mod automata;
 mod warnings;
 
 pub use automata::{automaton_text, mode_name};
+pub use mh_grammar_texts::write_number;
 pub use mh_report_comments::comment_lines;
-pub use mh_report_notation::{look_name, write_number};
+pub use mh_report_notation::look_name;
 pub use warnings::warning_text;

@@ -1,6 +1,6 @@
 //! The warnings on conflicts.
-ghost use Rattle.std.specs.Prelude.{◌≡◌, ◌++◌, IfOk};
-ghost use Rattle.mh_report.specs.Warnings.{warning_line, warning_lines};
+ghost use Rattle.std.specs.Prelude.{◌≡◌, IfOk};
+ghost use Rattle.mh_report.specs.Warnings.{warning_lines};
 
 use mh_grammar::{Grammar, Memory};
 use mh_report_notation::write_warning;

@@ -1,4 +1,4 @@
-//! What is told of a sentence that fails: the comment lines of messages files, and whole entries.
+//! The texts on a sentence that fails: the comment lines of messages files, and whole entries.
 #![tactic(auto)]
 
 mod laws;

@@ -1,20 +1,93 @@
 //! The comment lines of a sentence that fails, and the entry that lists it.
-ghost use Rattle.std.specs.Prelude.{◌≡◌, ◌<◌, ◌≤◌, ◌^◌, ℕ, length, IfOk, OnOk};
+ghost use Rattle.std.specs.Prelude.{◌≡◌, ◌<◌, ◌≤◌, ◌^◌, ◌++◌, ℕ, length, take, IfOk, OnOk};
 ghost use Rattle.std.specs.List.{All};
-ghost use Rattle.mh_grammar.specs.Plain.{plain_of};
+ghost use Rattle.mh_grammar.specs.Plain.{plain_of, rhs_of};
 ghost use Rattle.mh_items_kernels.specs.Kernels.{IsKernelItem};
 ghost use Rattle.mh_items_kernels.specs.Automaton.{IsAutomaton};
 ghost use Rattle.mh_tables_core.specs.Failing.{Fails};
-ghost use Rattle.mh_report_comments.specs.Comments.{IsFarthest, WritesComments, IsCommentText, IsEntryText};
+ghost use Rattle.mh_report_comments.specs.Comments.{IsFarthest, WritesComments, IsCommentText, IsEntryText, ends_in, suffix_follows, suffix_comment, reduced_comment, reduced_comments, message_here};
 
 use mh_grammar::{Grammar, Memory, Token};
-use mh_grammar_texts::{write_all_reduced, write_message_place, write_state, write_suffix};
+use mh_grammar_texts::{write_before, write_between, write_production};
 use mh_items_kernels::{Automaton, KernelItem};
 use mh_msgfile::write_sentence;
 use mh_report_notation::write_item_lines;
 use mh_run::{Verdict, trace};
 use mh_tables_core::Halting;
 use std::alloc::Global;
+
+#[tactic(auto, unfolding(crate::specs::Comments::ends_in))]
+fn write_state(alloc: Global, text: &mut Vec<u8>, state: u32) -> Result<(), Memory>
+    ensures { OnOk result (text.new.items ≡ text.old.items ++ ends_in state) }
+{
+    write_between(
+        alloc,
+        text,
+        b"##\n## Ends in an error in state: ",
+        state,
+        b".\n##\n",
+    )
+}
+
+#[tactic(auto, unfolding(crate::specs::Comments::suffix_follows))]
+fn write_suffix_title(text: &mut Vec<u8>) -> Result<(), Memory>
+    ensures { OnOk result (text.new.items ≡ text.old.items ++ suffix_follows) }
+{
+    text.extend_from_slice(b"##\n## The known suffix of the stack is as follows:\n##")?;
+    Ok(())
+}
+
+/// Writes the symbols that are known to be on top of the stack: those before a dot in the right side of a production.
+fn write_suffix(
+    text: &mut Vec<u8>,
+    grammar: &Grammar,
+    production: u32,
+    dot: u32,
+) -> Result<(), Memory>
+    requires { dot ≤ length (rhs_of (plain_of grammar.now) production) }
+    ensures { OnOk result (text.new.items ≡ text.old.items
+        ++ suffix_comment grammar.now (take dot (rhs_of (plain_of grammar.now) production))) }
+{
+    write_suffix_title(text)?;
+    write_before(text, grammar, production, dot)?;
+    text.extend_from_slice(b"\n##\n")?;
+    Ok(())
+}
+
+#[tactic(auto, unfolding(crate::specs::Comments::reduced_before))]
+fn write_reduced(text: &mut Vec<u8>, grammar: &Grammar, production: u32) -> Result<(), Memory>
+    ensures { OnOk result (text.new.items ≡ text.old.items
+        ++ reduced_comment grammar.now production) }
+{
+    text.extend_from_slice(b"## Reduced before the error: ")?;
+    write_production(text, grammar, production)?;
+    text.push(b'\n')?;
+    Ok(())
+}
+
+/// Writes a line for each of the productions that were reduced, in order.
+fn write_all_reduced(
+    text: &mut Vec<u8>,
+    grammar: &Grammar,
+    productions: &[u32],
+) -> Result<(), Memory>
+    ensures { OnOk result (text.new.items ≡ text.old.items
+        ++ reduced_comments grammar.now productions.now) }
+{
+    for production in productions {
+        write_reduced(text, grammar, *production)?;
+    }
+    Ok(())
+}
+
+/// Writes the line that the user replaces by a message, between two empty lines.
+#[tactic(auto, unfolding(crate::specs::Comments::message_here))]
+fn write_message_place(text: &mut Vec<u8>) -> Result<(), Memory>
+    ensures { OnOk result (text.new.items ≡ text.old.items ++ message_here) }
+{
+    text.extend_from_slice(b"\n<YOUR SYNTAX ERROR MESSAGE HERE>\n\n")?;
+    Ok(())
+}
 
 /// The first item whose dot is as far as any.
 fn farthest<const W: usize>(items: &[KernelItem<W>]) -> &KernelItem<W>
@@ -54,7 +127,7 @@ fn write_comments<const W: usize>(
 }
 
 /// The comment lines of a sentence that fails: the state that refuses its last token with the kernel, the symbols that are known
-/// to stand on the stack, and the productions reduced since the last shift. Fails for want of memory alone.
+/// to be on top of the stack, and the productions reduced since the last shift. Fails for want of memory alone.
 pub fn comment_lines<const W: usize>(
     alloc: Global,
     grammar: &Grammar,

@@ -1,4 +1,4 @@
--- The texts of productions, items and kernels.
+-- The texts of items and kernels (the layout is this project's own).
 use Rattle.std.specs.Prelude.{ℕ, List, [], ◌∷◌, ◌++◌, take, drop, codes}
 use Rattle.mh_grammar.specs.declared.types.Grammar.{Grammar}
 use Rattle.mh_grammar.specs.declared.types.Look.{Look}
@@ -6,7 +6,7 @@ use Rattle.mh_grammar.specs.Plain.{plain_of, rhs_of}
 use Rattle.mh_resolve_cells.specs.Names.{look_name}
 use Rattle.mh_items_kernels.specs.Shapes.{KernelItem}
 use Rattle.mh_grammar.specs.Text.{Text}
-pub use Rattle.mh_grammar_texts.specs.Productions.{names_after, symbols_text, left_side, production_text}
+use Rattle.mh_grammar_texts.specs.Productions.{names_after, left_side}
 
 -- looks, each after one space
 abbrev pub looks_after : Grammar → List Look → Text

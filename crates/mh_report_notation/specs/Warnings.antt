@@ -1,18 +1,25 @@
 -- The warning on a conflict of a table (the texts are this project's own).
-use Rattle.std.specs.Prelude.{ℕ, []}
+use Rattle.std.specs.Prelude.{ℕ, [], ◌++◌, codes, decimal}
 use Rattle.mh_grammar.specs.declared.types.Grammar.{Grammar}
 use Rattle.mh_grammar.specs.declared.types.Look.{Look}
 use Rattle.mh_resolve_cells.specs.declared.kinds.ConflictKind.{ConflictKind}
 use Rattle.mh_resolve_cells.specs.declared.kinds.ConflictKind.TheVariants.{Solved, Unsolved, Stream}
 use Rattle.mh_grammar.specs.Text.{Text}
 use Rattle.mh_resolve_cells.specs.Names.{look_name}
-use Rattle.mh_grammar_texts.specs.Conflicts.{look_line}
-pub use Rattle.mh_grammar_texts.specs.Conflicts.{conflict_place, stream_line}
 
+-- how the warning on a conflict of a cell begins: it names the state
+unfoldable pub conflict_place : ℕ → Text
+conflict_place s = codes "menhir: warning: conflict in state " ++ decimal s ++ codes " on "
+
+-- the warning on a conflict that no levels solve
 abbrev pub unsolved_line : Grammar → ℕ → Look → Text
-unsolved_line g s look = look_line s (look_name g look)
+unsolved_line g s look = conflict_place s ++ look_name g look ++ codes "\n"
 
--- a solved conflict is not warned of
+-- the warning on an end-of-stream conflict
+abbrev pub stream_line : ℕ → Text
+stream_line s = codes "menhir: warning: end-of-stream conflict in state " ++ decimal s ++ codes "\n"
+
+-- the warning on a conflict; there is none where levels solve it
 abbrev pub warning_line : Grammar → ℕ → Look → ConflictKind → Text
 warning_line g s look Solved = []
 warning_line g s look Unsolved = unsolved_line g s look

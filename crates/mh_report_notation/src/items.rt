@@ -1,4 +1,4 @@
-//! The texts of items and kernels. Each function writes behind what a text holds.
+//! The texts of items and kernels. Each function adds to the end of a text.
 ghost use Rattle.std.specs.Prelude.{◌≡◌, ◌≤◌, ◌++◌, codes, OnOk};
 ghost use Rattle.std.specs.List.{All};
 ghost use Rattle.mh_grammar.specs.Plain.{plain_of};

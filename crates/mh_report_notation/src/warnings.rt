@@ -1,15 +1,28 @@
 //! The text of a warning on a conflict.
 ghost use Rattle.std.specs.Prelude.{◌≡◌, ◌++◌, OnOk};
-ghost use Rattle.mh_report_notation.specs.Warnings.{warning_line};
+ghost use Rattle.mh_report_notation.specs.Warnings.{conflict_place, warning_line};
 
 use crate::items::look_name;
 use mh_grammar::{Grammar, Look, Memory};
-use mh_grammar_texts::{write_conflict, write_stream};
+use mh_grammar_texts::write_between;
 use mh_resolve_cells::ConflictKind;
 use std::alloc::Global;
 
-/// A line for a conflict of this kind, or none where levels solve it. Fails for want of memory alone; then a front of it may
-/// be written.
+#[tactic(auto, unfolding(crate::specs::Warnings::conflict_place))]
+fn write_place(alloc: Global, text: &mut Vec<u8>, state: u32) -> Result<(), Memory>
+    ensures { OnOk result (text.new.items ≡ text.old.items ++ conflict_place state) }
+{
+    write_between(
+        alloc,
+        text,
+        b"menhir: warning: conflict in state ",
+        state,
+        b" on ",
+    )
+}
+
+/// Writes a line for a conflict of this kind, or none where levels solve the conflict. Fails for want of memory alone; then a front
+/// of the line may be written.
 pub fn write_warning(
     alloc: Global,
     text: &mut Vec<u8>,
@@ -21,10 +34,20 @@ pub fn write_warning(
     ensures { OnOk result (text.new.items ≡ text.old.items
         ++ warning_line grammar.now state look kind) }
 {
-    let name = look_name(grammar, look);
     match kind {
-        ConflictKind::Solved => write_conflict(alloc, text, true, state, name),
-        ConflictKind::Unsolved => write_conflict(alloc, text, false, state, name),
-        ConflictKind::Stream => write_stream(alloc, text, state),
+        ConflictKind::Solved => Ok(()),
+        ConflictKind::Unsolved => {
+            write_place(alloc, text, state)?;
+            text.extend_from_slice(look_name(grammar, look))?;
+            text.push(b'\n')?;
+            Ok(())
+        }
+        ConflictKind::Stream => write_between(
+            alloc,
+            text,
+            b"menhir: warning: end-of-stream conflict in state ",
+            state,
+            b"\n",
+        ),
     }
 }

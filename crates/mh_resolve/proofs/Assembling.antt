@@ -2,26 +2,24 @@
 use Rattle.std.proofs.Common.{◌≡◌, ℕ, ◌<◌, ◌↔◌, List, [], length, get_or, map, Option, Some, None, Bool, ap, ◌∙◌, arith}
 use Rattle.std.specs.Prelude.{MatchOption, IsTrue}
 use Rattle.std.specs.List.{All}
-use Rattle.std.proofs.lemmas.List.{length-map}
-use Rattle.std.proofs.lemmas.List.{get_or-map}
+use Rattle.std.proofs.lemmas.List.{length-map, get_or-map}
 use Rattle.std.proofs.lemmas.List.Elements.{All-from_recursion, All-weaker}
 use Rattle.mh_grammar.specs.declared.types.Grammar.{Grammar}
 use Rattle.mh_grammar.specs.declared.types.Look.{Look}
 use Rattle.mh_grammar.specs.declared.types.Look.TheVariants.{Token, End}
 use Rattle.mh_grammar.specs.declared.edges.Edge.{Edge}
 use Rattle.mh_grammar.specs.Plain.{plain_of, IsLookBelow}
-use Rattle.mh_items_kernels.specs.Empties.{HasComplete}
-use Rattle.mh_items_kernels.specs.Shapes.{Items, Kernel}
-use Rattle.mh_items_kernels.specs.Shapes.{KernelItem}
+use Rattle.mh_items_kernels.specs.code.Empties.{HasComplete}
+use Rattle.mh_items_kernels.specs.Shapes.{Items, Kernel, KernelItem}
 use Rattle.mh_items_kernels.specs.Kernels.{IsItemList, IsKernelItem}
 use Rattle.mh_tables_core.specs.declared.parts.Action.{Action}
 use Rattle.mh_tables_core.specs.declared.parts.Action.TheVariants.{Shift, Reduce, Refuse}
 use Rattle.mh_tables_core.specs.declared.parts.StateParts.{StateParts}
 use Rattle.mh_resolve_cells.specs.declared.kinds.Mode.{Mode}
 use Rattle.mh_resolve_cells.specs.declared.cells.Cell.{Cell}
-use Rattle.mh_resolve_cells.specs.States.{Raw, IsCandidate, IsForErrors, place_of, IsResolved}
+use Rattle.mh_resolve_cells.specs.States.{Raw, IsCandidate, IsForErrors, place_of, IsResolved, closed_state}
 use Rattle.mh_resolve_cells.specs.code.Rows.{listed, AreCells, IsDecidedOn, IsStreamIn, IsDefaultIn, IsLooked, no_cell}
-use Rattle.mh_resolve_cells.specs.code.Whole.{closed_state, kept_of, IsFiller, filled_with, fallback_for, IsKnown, IsRow, AreEdgesKnown}
+use Rattle.mh_resolve_cells.specs.code.Whole.{kept_of, IsFiller, filled_with, fallback_for, IsKnown, IsRow, AreEdgesKnown}
 use Rattle.mh_resolve_cells.specs.code.Counting.{AreLooksKnown}
 use Rattle.mh_resolve.proofs.Same.{AreAlike, decided_same}
 use Rattle.mh_grammar.proofs.Lists.{recursion_contains}

@@ -1,6 +1,6 @@
 //! The list of conflicts, state after state.
 ghost use Rattle.std.specs.Prelude.{◌≡◌, ◌<◌, ◌^◌, ◌++◌, length, OnOk, OnErr};
-ghost use Rattle.mh_resolve_cells.specs.Conflicts.{found_on, row_conflicts};
+ghost use Rattle.mh_resolve_cells.specs.code.Listing.{found_on, row_conflicts};
 
 use crate::states::Row;
 use mh_grammar::{Look, Memory};
@@ -24,7 +24,7 @@ fn add_found(
 }
 
 fn stream_kind(stream: bool) -> Option<ConflictKind>
-    ensures { result ≡ Rattle.mh_resolve_cells.specs.Conflicts.stream_kind stream }
+    ensures { result ≡ Rattle.mh_resolve_cells.specs.code.Listing.stream_kind stream }
 {
     if stream {
         Some(ConflictKind::Stream)

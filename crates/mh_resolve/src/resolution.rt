@@ -3,17 +3,17 @@ ghost use Rattle.std.specs.Prelude.{◌≡◌, ◌≤◌, ◌*◌, ◌<◌, ◌�
 ghost use Rattle.mh_grammar.specs.Costs.{HaveCosts};
 ghost use Rattle.mh_grammar.specs.Plain.{plain_of, IsInRange};
 ghost use Rattle.mh_grammar.specs.Edges.{IsRising, IsEdgeBefore};
-ghost use Rattle.mh_items.specs.Closer.{IsCloser};
+ghost use Rattle.mh_items.specs.code.Closer.{IsCloser};
 ghost use Rattle.mh_items_kernels.specs.Kernels.{IsItemList};
-ghost use Rattle.mh_items_kernels.specs.Empties.{HasComplete};
+ghost use Rattle.mh_items_kernels.specs.code.Empties.{HasComplete};
 ghost use Rattle.mh_items_kernels.specs.Automaton.{IsAutomaton};
 ghost use Rattle.mh_tables_core.specs.Table.{table_data, state_at};
 ghost use Rattle.mh_tables_core.specs.Facts.{Facts};
-ghost use Rattle.mh_resolve_cells.specs.States.{state_of, IsResolved, AreResolved, IsTableOf};
+ghost use Rattle.mh_resolve_cells.specs.States.{state_of, closed_state, IsResolved, AreResolved, IsTableOf};
 ghost use Rattle.mh_resolve_cells.specs.Conflicts.{AreConflicts};
 ghost use Rattle.mh_items_kernels.specs.Conflicts.{IsConflicting, IsFaulty};
 ghost use Rattle.mh_resolve_cells.specs.Clear.{HasNoConflicts, HasRawConflict, ActsWithin, ActsClearly};
-ghost use Rattle.mh_resolve_cells.specs.code.Whole.{closed_state, IsRow, AreEdgesKnown};
+ghost use Rattle.mh_resolve_cells.specs.code.Whole.{IsRow, AreEdgesKnown};
 
 use crate::found::add_conflicts;
 use crate::states::{Listed, Row, parts_of, row_of};
@@ -197,7 +197,7 @@ pub fn resolve_states<const W: usize>(
 }
 
 /// The table of an automaton, with conflicts resolved by levels, and the list of its conflicts: by state, then by token
-/// with the end of the stream behind the tokens; a conflict of the end of the stream comes last in its state.
+/// with the end of the stream after the tokens; a conflict of the end of the stream comes last in its state.
 ///
 /// The rules are those of yacc's precedence (Johnson 1975) as the Menhir manual gives them; what it leaves open is this
 /// project's profile. Fails for want of memory alone.
@@ -269,8 +269,8 @@ pub fn conflicts_tell<const W: usize>(
     let _conflicts = conflicts;
 }
 
-/// The states of an automaton have conflicts exactly where the item sets of their kernels do: an empty call that says so
-/// to contracts.
+/// The states of an automaton have conflicts exactly where the item sets of their kernels do: an empty call that says
+/// so to contracts.
 pub fn conflicts_are_raw<const W: usize>(grammar: &Grammar, automaton: &Automaton<W>)
     requires { IsAutomaton (plain_of grammar.now) automaton.now }
     ensures none { HasNoConflicts grammar.now automaton.now ↔ (IsFaulty (plain_of grammar.now) automaton.now → ⊥) }
@@ -280,8 +280,8 @@ pub fn conflicts_are_raw<const W: usize>(grammar: &Grammar, automaton: &Automato
     let _automaton = automaton;
 }
 
-/// A table shifts along its automaton's edges and reduces what is complete; without conflicts it takes every raw action:
-/// an empty call that says so to contracts.
+/// A table shifts along its automaton's edges and reduces what is complete; without conflicts it takes every raw
+/// action: an empty call that says so to contracts.
 pub fn table_acts<const W: usize>(
     grammar: &Grammar,
     automaton: &Automaton<W>,

@@ -4,17 +4,16 @@ ghost use Rattle.std.specs.List.{All};
 ghost use Rattle.mh_grammar.specs.Plain.{plain_of};
 ghost use Rattle.mh_grammar.specs.Edges.{IsRising, IsEdgeBefore};
 ghost use Rattle.mh_items_kernels.specs.Kernels.{IsItemList};
-ghost use Rattle.mh_items_kernels.specs.Empties.{HasComplete};
-ghost use Rattle.mh_resolve_cells.specs.States.{place_of, IsResolved};
+ghost use Rattle.mh_items_kernels.specs.code.Empties.{HasComplete};
+ghost use Rattle.mh_resolve_cells.specs.States.{closed_state, place_of, IsResolved};
 ghost use Rattle.mh_resolve_cells.specs.code.Rows.{listed, IsLooked};
-ghost use Rattle.mh_resolve_cells.specs.code.Whole.{closed_state, IsFiller, filled_with, fallback_for, AreEdgesKnown, IsRow};
+ghost use Rattle.mh_resolve_cells.specs.code.Whole.{kept_of, IsFiller, filled_with, fallback_for, AreEdgesKnown, IsRow};
 
 use mh_grammar::{Edge, Grammar, Memory, Sequence};
 use mh_items_kernels::{Closure, Kernel, KernelItem};
 use mh_resolve_cells::{Cell, Mode};
 use mh_resolve_settle::{
-    cell_of, cells_of, default_of, for_errors, is_stream_conflict, kept_action, shifts_of,
-    tallies_of,
+    cell_of, cells_of, default_of, for_errors, is_stream_conflict, shifts_of, tallies_of,
 };
 use mh_tables_core::{Action, CoreItem, Fallback, StateParts};
 use std::alloc::Global;
@@ -33,6 +32,13 @@ pub(crate) struct Row {
     pub cells: Sequence<Cell>,
     pub last: Cell,
     pub stream: bool,
+}
+
+/// The action at the end of the stream, which is dropped where it conflicts with that of a token.
+fn kept_action(stream: bool, last: Action) -> Action
+    ensures { result ≡ kept_of stream last }
+{
+    if stream { Action::Refuse } else { last }
 }
 
 /// The production that fills the cells without raw action, if there is one; none where the state has a default.

@@ -20,7 +20,8 @@ use Rattle.mh_resolve_cells.specs.States.{State, Raw, HasConflict, IsStreamConfl
 use Rattle.mh_resolve_cells.specs.code.Tallies.{IsKind}
 use Rattle.mh_resolve_cells.specs.code.Rows.{no_cell, IsDecidedOn}
 use Rattle.mh_resolve_cells.specs.code.Whole.{IsRow}
-use Rattle.mh_resolve_cells.specs.Conflicts.{IsConflictBefore, found_on, stream_kind, token_conflicts, row_conflicts}
+use Rattle.mh_resolve_cells.specs.code.Listing.{found_on, stream_kind, token_conflicts, row_conflicts}
+use Rattle.mh_resolve_cells.specs.Conflicts.{IsConflictBefore}
 use Rattle.mh_grammar.proofs.Lists.{at_contains, contains_at, rising-append}
 
 -- a conflict that was found on a look

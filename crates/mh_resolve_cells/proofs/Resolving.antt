@@ -6,9 +6,8 @@ use Rattle.mh_grammar.specs.declared.types.Grammar.{Grammar}
 use Rattle.mh_grammar.specs.declared.types.Symbol.TheVariants.{T}
 use Rattle.mh_grammar.specs.Costs.{HaveCosts}
 use Rattle.mh_grammar.specs.Plain.{plain_of, IsInRange}
-use Rattle.mh_items_kernels.specs.Shapes.{Automaton}
+use Rattle.mh_items_kernels.specs.Shapes.{Automaton, Kernel}
 use Rattle.mh_grammar.specs.declared.edges.Edge.{Edge}
-use Rattle.mh_items_kernels.specs.Shapes.{Kernel}
 use Rattle.mh_tables_core.specs.declared.parts.StateParts.{StateParts}
 use Rattle.mh_items_kernels.specs.Automaton.{IsAutomaton, kernel_at, edges_at, no_kernel}
 use Rattle.mh_items_kernels.specs.Kernels.{IsItemList}
@@ -19,14 +18,13 @@ use Rattle.std.specs.List.{Contains}
 use Rattle.std.proofs.lemmas.List.Elements.{Contains-append_cases, Contains-append_left, Contains-append_right}
 use Rattle.mh_resolve_cells.specs.declared.conflicts.Conflict.{Conflict}
 use Rattle.mh_resolve_cells.specs.declared.cells.Cell.{Cell}
-use Rattle.mh_resolve_cells.specs.States.{HasConflict}
-use Rattle.mh_resolve_cells.specs.code.Whole.{IsRow}
-use Rattle.mh_resolve_cells.specs.Conflicts.{AreConflicts, IsConflictBefore, row_conflicts}
+use Rattle.mh_resolve_cells.specs.States.{HasConflict, state_of, IsResolved, AreResolved, closed_state}
+use Rattle.mh_resolve_cells.specs.code.Whole.{IsRow, AreEdgesKnown}
+use Rattle.mh_resolve_cells.specs.code.Listing.{row_conflicts}
+use Rattle.mh_resolve_cells.specs.Conflicts.{AreConflicts, IsConflictBefore}
 use Rattle.mh_grammar.proofs.Lists.{rising-append}
 use Rattle.mh_resolve_cells.proofs.Listing.{row_to, row_from, row_rising}
 use Rattle.mh_resolve_cells.specs.declared.kinds.Mode.{Mode}
-use Rattle.mh_resolve_cells.specs.States.{state_of, IsResolved, AreResolved}
-use Rattle.mh_resolve_cells.specs.code.Whole.{closed_state, AreEdgesKnown}
 use Rattle.mh_resolve_cells.proofs.Tabled.{facts, moving_symbol}
 
 -- the first n states

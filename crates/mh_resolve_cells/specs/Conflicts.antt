@@ -1,15 +1,12 @@
 -- The list of conflicts, those of the Menhir manual; their order is this project's own.
-use Rattle.std.specs.Prelude.{◌≡◌, ◌<◌, ◌+◌, ◌⊎◌, ◌↔◌, ℕ, Bool, true, false, List, [], ◌∷◌, ◌++◌, Option, Some, None, length}
+use Rattle.std.specs.Prelude.{◌≡◌, ◌<◌, ◌⊎◌, ◌↔◌, List, length}
 use Rattle.std.specs.List.{Contains}
 use Rattle.mh_grammar.specs.declared.types.Grammar.{Grammar}
-use Rattle.mh_grammar.specs.declared.types.Look.{Look}
-use Rattle.mh_grammar.specs.declared.types.Look.TheVariants.{Token, End}
 use Rattle.mh_items_kernels.specs.Shapes.{Automaton}
 use Rattle.mh_grammar.specs.Edges.{IsRising, IsLookBefore}
 use Rattle.mh_resolve_cells.specs.declared.kinds.ConflictKind.{ConflictKind}
 use Rattle.mh_resolve_cells.specs.declared.kinds.ConflictKind.TheVariants.{Stream}
 use Rattle.mh_resolve_cells.specs.declared.conflicts.Conflict.{Conflict}
-use Rattle.mh_resolve_cells.specs.declared.cells.Cell.{Cell}
 use Rattle.mh_resolve_cells.specs.States.{state_of, HasConflict}
 
 -- a state of the automaton has this conflict
@@ -27,19 +24,3 @@ IsConflictBefore c d = (c.state < d.state) ⊎ ((c.state ≡ d.state) × (IsLook
 pub record AreConflicts (g : Grammar) (a : Automaton) (conflicts : List Conflict) : Type 0 where
   pub members : (c : Conflict) → Contains conflicts c ↔ IsConflictOf g a c
   pub order : IsRising IsConflictBefore conflicts
-
--- what the code lists of a state
-abbrev pub found_on : ℕ → Look → Option ConflictKind → List Conflict
-found_on s look None = []
-found_on s look (Some kind) = record { state = s; look = look; kind = kind } ∷ []
-
-abbrev pub stream_kind : Bool → Option ConflictKind
-stream_kind true = Some Stream
-stream_kind false = None
-
-abbrev pub token_conflicts : ℕ → ℕ → List Cell → List Conflict
-token_conflicts s z [] = []
-token_conflicts s z (cell ∷ cells) = found_on s (Token z) cell.kind ++ token_conflicts s (z + 1) cells
-
-abbrev pub row_conflicts : ℕ → List Cell → Cell → Bool → List Conflict
-row_conflicts s cells last stream = token_conflicts s 0 cells ++ (found_on s End last.kind ++ found_on s End (stream_kind stream))

@@ -1,17 +1,36 @@
--- How a reduction compares with a shift, by levels: the precedence of yacc (Johnson 1975; Aho, Lam, Sethi and Ullman) as the Menhir
--- manual gives it. Levels of several files, and ranks of reductions on errors, are those of the manual too.
-use Rattle.std.specs.Prelude.{◌-◌, ℕ, nat_lt, length, Option, None, slice_get, if◌then◌else◌}
+-- How a reduction compares with a shift, by levels: the precedence of yacc (Johnson 1975; Aho, Lam, Sethi and Ullman)
+-- as the Menhir manual gives it. Levels of several files, and ranks of reductions on errors, are those of the manual
+-- too.
+use Rattle.std.specs.Prelude.{◌-◌, ◌==◌, ℕ, nat_lt, length, Option, Some, None, slice_get, if◌then◌else◌}
 use Rattle.std.specs.Option.{option_and_then}
 use Rattle.mh_grammar.specs.declared.types.Level.{Level}
 use Rattle.mh_grammar.specs.declared.types.Grammar.{Grammar}
 use Rattle.mh_grammar.specs.declared.types.Look.{Look}
 use Rattle.mh_grammar.specs.declared.types.Look.TheVariants.{Token, End}
-pub use Rattle.mh_resolve_cells.specs.declared.levels.Comparison.{Comparison}
-pub use Rattle.mh_resolve_cells.specs.Comparing.{by_side, by_levels, comparison}
+use Rattle.mh_grammar.specs.declared.types.Assoc.{Assoc}
+use Rattle.mh_grammar.specs.declared.types.Assoc.TheVariants.{Left, Right, Nonassoc}
+use Rattle.mh_resolve_cells.specs.declared.levels.Comparison.{Comparison}
+use Rattle.mh_resolve_cells.specs.declared.levels.Comparison.TheVariants.{Reduces, Shifts, Neither, Unknown}
 
+abbrev pub by_side : Assoc → Comparison
+by_side Left = Reduces
+by_side Right = Shifts
+by_side Nonassoc = Neither
+
+-- levels of one file are comparable, and the later is higher
+abbrev pub by_levels : Level → Level → Comparison
+by_levels p t = if p.file == t.file then (if nat_lt t.rank p.rank then Reduces else if nat_lt p.rank t.rank then Shifts else by_side t.assoc) else Unknown
+
+abbrev pub comparison : Option Level → Option Level → Comparison
+comparison None t = Unknown
+comparison (Some p) None = Unknown
+comparison (Some p) (Some t) = by_levels p t
+
+-- the level of a production; a start production has none
 unfoldable pub production_level : Grammar → ℕ → Option Level
 production_level g p = if nat_lt p (length g.starts) then None else option_and_then (λ q. q.level) (slice_get g.productions (p - length g.starts))
 
+-- the level of a look's token; the end of the stream has none
 abbrev pub look_level : Grammar → Look → Option Level
 look_level g (Token z) = option_and_then (λ t. t.level) (slice_get g.tokens z)
 look_level g End = None

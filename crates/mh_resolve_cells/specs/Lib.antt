@@ -1,5 +1,3 @@
-pub mod Comparing
-pub mod Lowest
 pub mod code
 pub mod Cells
 pub mod Clear

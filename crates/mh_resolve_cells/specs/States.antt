@@ -1,5 +1,6 @@
--- What a state does, over the set of the items of its closure and its edges: its actions are those of Knuth 1965. Conflicts, the end
--- of the stream, defaults and reductions on errors follow the Menhir manual, and this project's own rules where it says nothing.
+-- What a state does, over the set of the items of its closure and its edges: its actions are those of Knuth 1965.
+-- Conflicts, the end of the stream, defaults and reductions on errors follow the Menhir manual, and this project's own
+-- rules where it says nothing.
 use Rattle.std.specs.Prelude.{◌≡◌, ◌<◌, ◌≤◌, ◌⊎◌, ℕ, List, Option, Some, None, length, map, slice_index_or}
 use Rattle.mh_grammar.specs.declared.types.Symbol.TheVariants.{T}
 use Rattle.mh_grammar.specs.declared.types.Grammar.{Grammar}
@@ -11,16 +12,15 @@ use Rattle.mh_tables_core.specs.declared.parts.Fallback.{Fallback}
 use Rattle.mh_tables_core.specs.declared.parts.Fallback.TheVariants as fallbacks
 use Rattle.mh_grammar.specs.declared.edges.Edge.{Edge}
 use Rattle.mh_tables_core.specs.declared.parts.CoreItem.{CoreItem}
-use Rattle.mh_items_kernels.specs.Shapes.{Kernel}
-use Rattle.mh_items_kernels.specs.Shapes.{KernelItem}
-use Rattle.mh_items_kernels.specs.Shapes.{Automaton}
+use Rattle.mh_items_kernels.specs.Shapes.{KernelItem, Kernel, Automaton}
 use Rattle.mh_tables_core.specs.declared.parts.StateParts.{StateParts}
 use Rattle.mh_grammar.specs.Costs.{costs_of}
-use Rattle.mh_grammar.specs.ItemSets.{ItemSet}
+use Rattle.mh_grammar.specs.ItemSets.{ItemSet, Close}
 use Rattle.mh_grammar.specs.Plain.{plain_of, rhs_of}
 use Rattle.mh_tables_core.specs.Table.{TableData, no_state}
 use Rattle.mh_grammar.specs.Edges.{find_edge}
 use Rattle.mh_items_kernels.specs.Automaton.{edges_at, kernel_at, closure_of}
+use Rattle.mh_items_kernels.specs.Kernels.{Holds}
 use Rattle.mh_resolve_cells.specs.declared.kinds.Mode.{Mode}
 use Rattle.mh_resolve_cells.specs.declared.kinds.Mode.TheVariants.{Canonical}
 use Rattle.mh_resolve_cells.specs.declared.kinds.ConflictKind.{ConflictKind}
@@ -36,6 +36,10 @@ pub record State : Type 1 where
 
 abbrev pub state_of : Grammar → Automaton → ℕ → State
 state_of g a s = record { grammar = g; items = closure_of (plain_of g) a s; edges = edges_at a s }
+
+-- the state of a kernel with these edges
+abbrev pub closed_state : Grammar → Kernel → List Edge → State
+closed_state g kernel edges = record { grammar = g; items = Close (plain_of g) (Holds kernel); edges = edges }
 
 -- the edge on a look; there is none at the end of the stream
 abbrev pub shift_on : List Edge → Look → Option ℕ

@@ -1,4 +1,4 @@
-pub mod Fitting
+pub mod Listing
 pub mod Counting
 pub mod Rows
 pub mod Tallies

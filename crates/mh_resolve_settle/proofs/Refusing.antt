@@ -18,7 +18,8 @@ use Rattle.mh_resolve_cells.specs.Levels.{compared}
 use Rattle.mh_resolve_cells.specs.Cells.{Stays}
 use Rattle.mh_resolve_cells.specs.States.{State, state_of, Raw, TakesOn, IsHoleOn, IsCell, IsTableOf}
 use Rattle.mh_resolve_cells.specs.code.Counting.{AreShifts}
-use Rattle.mh_resolve_cells.specs.Holes.{AreHoles, refuses}
+use Rattle.mh_resolve_cells.specs.code.Rows.{refuses}
+use Rattle.mh_resolve_cells.specs.Holes.{AreHoles}
 use Rattle.mh_resolve_cells.proofs.Stating.{takes_stays}
 
 module _ (mode : Mode) (s : State) (z : ℕ) where

@@ -6,7 +6,7 @@ use Rattle.mh_resolve_cells.specs.declared.levels.Comparison.{Comparison}
 use Rattle.mh_resolve_cells.specs.declared.levels.Comparison.TheVariants.{Reduces, Shifts, Neither, Unknown}
 use Rattle.mh_resolve_cells.specs.declared.cells.Tally.{Tally}
 use Rattle.mh_resolve_cells.specs.Cells.{IsForShift}
-use Rattle.mh_resolve_cells.specs.code.Tallies.{empty_tally, lower, is_other, tally_with, IsLowest, AreTwo, IsTally}
+use Rattle.mh_resolve_cells.specs.code.Tallies.{lower, empty_tally, is_other, tally_with, IsLowest, AreTwo, IsTally}
 
 pub empty_is : (by : ℕ → Comparison) (Has : ℕ → Type 0) → ((p : ℕ) → Has p → ⊥) → IsTally by Has empty_tally
 empty_is by Has none = record {

@@ -1,11 +1,11 @@
 //! One cell of a state.
 ghost use Rattle.std.specs.Prelude.{◌≡◌};
 ghost use Rattle.mh_resolve_cells.specs.Levels.{compared};
-ghost use Rattle.mh_resolve_cells.specs.code.Tallies.{empty_tally, is_other, tally_with, weighed, cell_from};
+ghost use Rattle.mh_resolve_cells.specs.code.Tallies.{lower, empty_tally, is_other, tally_with, weighed, cell_from};
 
 use crate::levels::compare_on;
 use mh_grammar::{Grammar, Look};
-use mh_resolve_cells::{Cell, Comparison, ConflictKind, Tally, lower_of};
+use mh_resolve_cells::{Cell, Comparison, ConflictKind, Tally};
 use mh_tables_core::Action;
 
 /// The tally of no reduction.
@@ -18,6 +18,22 @@ pub fn new_tally() -> Tally
         two: false,
         shifts: true,
         unknown: false,
+    }
+}
+
+/// The lowest production, with one more.
+fn lower_of(lowest: Option<u32>, production: u32) -> u32
+    ensures { result ≡ lower lowest production }
+{
+    match lowest {
+        None => production,
+        Some(lowest) => {
+            if production < lowest {
+                production
+            } else {
+                lowest
+            }
+        }
     }
 }
 

@@ -7,7 +7,7 @@ ghost use Rattle.mh_resolve_cells.specs.code.Rows.{listed, rank_in, best_with, I
 use crate::levels::{length_of, rank_of};
 use mh_grammar::Grammar;
 use mh_items_kernels::KernelItem;
-use mh_resolve_cells::{Best, still_tied};
+use mh_resolve_cells::Best;
 
 /// The rank of an item that is a candidate.
 fn rank_of_item<const W: usize>(grammar: &Grammar, item: &KernelItem<W>) -> Option<u64>
@@ -40,7 +40,7 @@ fn better(best: Option<Best>, production: u32, rank: u64) -> Best
                 old
             } else {
                 Best {
-                    tied: still_tied(old.tied, production, old.production),
+                    tied: old.tied || production != old.production,
                     ..old
                 }
             }

@@ -4,7 +4,8 @@ ghost use Rattle.mh_grammar.specs.Plain.{plain_of, IsInRange};
 ghost use Rattle.mh_items_kernels.specs.Automaton.{IsAutomaton};
 ghost use Rattle.mh_resolve_cells.specs.declared.kinds.Mode.{Mode};
 ghost use Rattle.mh_resolve_cells.specs.States.{state_of, IsTableOf};
-ghost use Rattle.mh_resolve_cells.specs.Holes.{AreHoles, refuses};
+ghost use Rattle.mh_resolve_cells.specs.Holes.{AreHoles};
+ghost use Rattle.mh_resolve_cells.specs.code.Rows.{refuses};
 
 use crate::counting::shifts_of;
 use mh_grammar::{Grammar, Memory, Token};
@@ -19,8 +20,8 @@ fn is_hole(shift: Option<u32>, action: Action) -> bool
     shift.is_some() && matches!(action, Action::Refuse)
 }
 
-/// For each token, whether its cell in this state is a hole: it has actions, and levels refuse them all. The table is that
-/// of the automaton. Fails for want of memory alone.
+/// For each token, whether its cell in this state is a hole: it has actions, and levels refuse them all. The table is
+/// that of the automaton. Fails for want of memory alone.
 pub fn holes_of<const W: usize>(
     alloc: Global,
     grammar: &Grammar,

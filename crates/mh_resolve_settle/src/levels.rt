@@ -1,10 +1,10 @@
 //! Levels of precedence, and how a reduction compares with a shift.
 ghost use Rattle.std.specs.Prelude.{◌≡◌, length};
 ghost use Rattle.mh_grammar.specs.Plain.{plain_of, rhs_of};
-ghost use Rattle.mh_resolve_cells.specs.Levels.{production_level, look_level, compared, error_rank};
+ghost use Rattle.mh_resolve_cells.specs.Levels.{production_level, look_level, comparison, compared, error_rank};
 
-use mh_grammar::{Grammar, Level, Look};
-use mh_resolve_cells::{Comparison, compare};
+use mh_grammar::{Assoc, Grammar, Level, Look};
+use mh_resolve_cells::Comparison;
 
 #[tactic(auto, unfolding(mh_resolve_cells::specs::Levels::production_level))]
 fn level_of_production(grammar: &Grammar, production: u32) -> Option<Level>
@@ -30,6 +30,30 @@ fn level_of_look(grammar: &Grammar, look: Look) -> Option<Level>
             None => None,
         },
         Look::End => None,
+    }
+}
+
+/// How reducing by a production of one level compares with shifting a token of the other.
+fn compare(production: Option<Level>, token: Option<Level>) -> Comparison
+    ensures { result ≡ comparison production token }
+{
+    match (production, token) {
+        (Some(p), Some(t)) => {
+            if p.file != t.file {
+                Comparison::Unknown
+            } else if t.rank < p.rank {
+                Comparison::Reduces
+            } else if p.rank < t.rank {
+                Comparison::Shifts
+            } else {
+                match t.assoc {
+                    Assoc::Left => Comparison::Reduces,
+                    Assoc::Right => Comparison::Shifts,
+                    Assoc::Nonassoc => Comparison::Neither,
+                }
+            }
+        }
+        _ => Comparison::Unknown,
     }
 }
 

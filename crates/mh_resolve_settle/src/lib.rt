@@ -1,5 +1,5 @@
-//! What the cells of a state do, computed: the reductions of a state are counted on all looks, levels settle each cell, and the
-//! default and the production reduced where there is no action are taken of those.
+//! What the cells of a state do, computed: the reductions of a state are counted on all looks, levels settle each cell,
+//! and the default and the production reduced where there is no action are taken of those.
 #![tactic(auto)]
 
 mod cells;
@@ -13,5 +13,4 @@ pub use cells::cell_of;
 pub use counting::{shifts_of, tallies_of};
 pub use errors::for_errors;
 pub use holes::holes_of;
-pub use mh_resolve_cells::kept_action;
 pub use row::{cells_of, default_of, is_stream_conflict};

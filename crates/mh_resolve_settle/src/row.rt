@@ -5,7 +5,7 @@ ghost use Rattle.mh_resolve_cells.specs.code.Rows.{AreSettled, IsStreamIn, IsCho
 
 use crate::cells::cell_of;
 use mh_grammar::Memory;
-use mh_resolve_cells::{Cell, Mode, Tally, fits};
+use mh_resolve_cells::{Cell, Mode, Tally};
 use mh_tables_core::Action;
 use std::alloc::Global;
 
@@ -66,11 +66,15 @@ fn first_reduction(cells: &[Cell]) -> Option<u32>
     None
 }
 
-/// Whether a cell reduces a production, or is empty and no hole.
+/// Whether a cell reduces this production, or has no raw action. A hole does neither.
 fn is_fit(cell: &Cell, production: u32) -> bool
     ensures { IsTrue result ↔ IsFit production cell.now }
 {
-    fits(cell.action, cell.raw, production)
+    match cell.action {
+        Action::Reduce(reduced) => reduced == production,
+        Action::Shift(_) => false,
+        Action::Refuse => !cell.raw,
+    }
 }
 
 fn all_fit(cells: &[Cell], production: u32) -> bool

@@ -2,7 +2,7 @@
 /// How the run of a sentence ends.
 #[derive(Clone, Copy, Debug, PartialEq, Eq)]
 pub enum Verdict {
-    /// A state accepts after so many tokens were shifted; more may stand behind them.
+    /// A state accepts after `read` tokens were shifted; more tokens may follow.
     Accept { read: u32 },
     /// This state asks for a token where none is left.
     Overshoot { state: u32 },

@@ -49,7 +49,7 @@ fn overshot(stack: &[u32]) -> Verdict
     }
 }
 
-/// The run of a start on a sentence, with what goes along.
+/// The run of a start on a sentence, with a follower that is called at each of its steps.
 pub(crate) fn run<F: Follow>(
     alloc: Global,
     table: &Halting,

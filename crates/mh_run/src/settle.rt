@@ -28,7 +28,7 @@ fn reduce_on(table: &Table, stack: &mut Vec<u32>, production: u32) -> Result<(),
     }
 }
 
-/// What comes next.
+/// The move that comes next.
 fn next_choice(table: &Halting, stack: &[u32], look: Option<Token>) -> Choice
     requires run { IsRunStack table.now stack.now }
     requires look { IsLook table.now look }
@@ -51,7 +51,7 @@ fn reduce_next(
     reduce_on(table.table(), stack, production)
 }
 
-/// Tells what goes along of the reduction that comes next.
+/// Calls the follower for the reduction that comes next.
 fn tell_next<F: Follow>(
     table: &Halting,
     stack: &[u32],
@@ -67,7 +67,7 @@ fn tell_next<F: Follow>(
     follower.reduce(rows.length_of(production) as usize, production)
 }
 
-/// Makes the reductions that come next, tells what goes along of them, and says what comes then.
+/// Makes the reductions that come next, calls the follower for each of them, and gives the move after them.
 pub(crate) fn settle<F: Follow>(
     table: &Halting,
     stack: &mut Vec<u32>,

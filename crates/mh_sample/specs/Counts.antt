@@ -1,15 +1,12 @@
 -- What the sentences of a sample come to on a table. The line is this project's own.
-use Rattle.std.specs.Prelude.{◌≡◌, ℕ, List, [], ◌∷◌, ◌++◌, length, count_by, codes, decimal}
+use Rattle.std.specs.Prelude.{◌≡◌, ℕ, Bool, true, false, List, [], ◌∷◌, ◌++◌, length, count_by, codes, decimal}
 use Rattle.std.specs.List.{AllZip}
 use Rattle.mh_grammar.specs.declared.types.Grammar.{Grammar}
 use Rattle.mh_grammar.specs.declared.types.Sentence.{Sentence}
-use Rattle.mh_grammar.specs.Plain.{plain_of}
 use Rattle.mh_tables_core.specs.Table.{TableData}
-use Rattle.mh_tables_core.specs.Run.{VerdictOf, Ending}
-use Rattle.mh_msgfile.specs.Sentences.{Vocabulary, vocabulary_of, vocabulary_in, LineFound, IsSentence, sentence_in}
-use Rattle.mh_msgfile.specs.declared.lexicon.Lexicon.{Lexicon}
-use Rattle.mh_sample.specs.declared.amounts.TheConstants.{SENTENCES}
-pub use Rattle.mh_sample.specs.Endings.{is_accepted, is_overshot, is_rejected}
+use Rattle.mh_tables_core.specs.Run.{VerdictOf, Ending, Accepted, Overshot, Rejected}
+use Rattle.mh_msgfile.specs.Sentences.{Vocabulary, vocabulary_of, LineFound, IsSentence, sentence_in}
+use Rattle.mh_sample.specs.declared.texts.TheConstants.{SENTENCES}
 use Rattle.mh_grammar.specs.Text.{Text}
 use Rattle.mh_sample.specs.Texts.{each_from, operators_of, sentence_text}
 
@@ -34,6 +31,24 @@ HaveEndings t sentences endings = AllZip (λ s how. VerdictOf t s.start s.tokens
 
 -- ---- the line
 
+-- the run accepts
+abbrev pub is_accepted : Ending → Bool
+is_accepted (Accepted read) = true
+is_accepted (Overshot state) = false
+is_accepted (Rejected at state) = false
+
+-- the run asks for a token where none is left
+abbrev pub is_overshot : Ending → Bool
+is_overshot (Accepted read) = false
+is_overshot (Overshot state) = true
+is_overshot (Rejected at state) = false
+
+-- the run refuses a token
+abbrev pub is_rejected : Ending → Bool
+is_rejected (Accepted read) = false
+is_rejected (Overshot state) = false
+is_rejected (Rejected at state) = true
+
 -- the number, and the sizes of the grammar
 unfoldable pub grammar_sizes : ℕ → ℕ → ℕ → Text
 grammar_sizes number tokens productions = codes "sample " ++ decimal number ++ codes ": tokens " ++ decimal tokens ++ codes ", productions " ++ decimal productions
@@ -55,9 +70,3 @@ abbrev pub IsSampleLine : Grammar → TableData → ℕ → ℕ → Text → Typ
 IsSampleLine g t number listed text =
     (endings : List Ending) × HaveEndings t (sample_sentences g number) endings
     × (text ≡ counts_line number (length g.tokens) (length g.productions) (length t.states) listed endings)
-
--- ---- what the code relies on
-
--- a lexicon has the names of the table's grammar
-abbrev pub SpeaksOf : Lexicon → TableData → Type 0
-SpeaksOf lexicon t = (g : Grammar) × (vocabulary_in lexicon ≡ vocabulary_of g) × (t.grammar ≡ plain_of g)

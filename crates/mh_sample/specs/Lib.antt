@@ -1,4 +1,3 @@
-pub mod Amounts
-pub mod Endings
 pub mod Texts
 pub mod Counts
+pub mod code

@@ -1,8 +1,7 @@
 -- The sample: for each number a grammar of expressions with so many levels, and sentences of it, of which a part lacks its last
 -- parenthesis. All of it is this project's own.
-use Rattle.std.specs.Prelude.{ℕ, zero, suc, ◌+◌, ◌-◌, ◌%◌, List, [], ◌∷◌, ◌++◌, codes, decimal}
-use Rattle.mh_sample.specs.declared.amounts.TheConstants.{SENTENCES}
-pub use Rattle.mh_sample.specs.Amounts.{operators_of, operator_at, opened, closed}
+use Rattle.std.specs.Prelude.{ℕ, zero, suc, ◌+◌, ◌-◌, ◌*◌, ◌%◌, nat_eq, if◌then◌else◌, List, [], ◌∷◌, ◌++◌, codes, decimal}
+use Rattle.mh_sample.specs.declared.texts.TheConstants.{SENTENCES}
 use Rattle.mh_grammar.specs.Text.{Text}
 
 -- a text so many times
@@ -17,6 +16,10 @@ each_from f number (suc count) = f number ++ each_from f (number + 1) count
 
 -- ---- the grammar
 
+-- how many operators the grammar of a number has: from 2 to 31
+abbrev pub operators_of : ℕ → ℕ
+operators_of number = 2 + number % 30
+
 unfoldable pub token_line : ℕ → Text
 token_line j = codes "%token OP" ++ decimal j ++ codes "\n"
 
@@ -24,7 +27,7 @@ token_line j = codes "%token OP" ++ decimal j ++ codes "\n"
 unfoldable pub left_text : ℕ → Text
 left_text j = codes "e" ++ decimal j ++ codes ": e" ++ decimal j ++ codes " OP" ++ decimal j ++ codes " "
 
--- the end: an operand behind the operator, or alone
+-- the end of a level's rule: an operand after the operator, or alone
 unfoldable pub right_text : Text → Text
 right_text operand = operand ++ codes " {} | " ++ operand ++ codes " {}\n"
 
@@ -41,6 +44,18 @@ grammar_text number =
     ++ each_from level_line 1 (operators_of number - 1) ++ last_level_line (operators_of number) ++ codes "a: INT {} | LP e1 RP {}\n"
 
 -- ---- the sentences
+
+-- the operator at a place of a sentence, counted from 1
+abbrev pub operator_at : ℕ → ℕ → ℕ → ℕ
+operator_at operators sentence place = 1 + (sentence * place) % operators
+
+-- how many parentheses a sentence opens
+abbrev pub opened : ℕ → ℕ
+opened sentence = sentence % 17
+
+-- how many parentheses a sentence closes: in each third sentence one too few, where it opens any
+abbrev pub closed : ℕ → ℕ
+closed sentence = if nat_eq (sentence % 3) 0 then opened sentence - 1 else opened sentence
 
 unfoldable pub operand_text : ℕ → Text
 operand_text operator = codes " OP" ++ decimal operator ++ codes " INT"

@@ -4,14 +4,13 @@ ghost use Rattle.std.specs.List.{All};
 ghost use Rattle.mh_grammar.specs.Plain.{plain_of, IsInRange};
 ghost use Rattle.mh_grammar.specs.declared.types.Sentence.{Sentence as Sentence'};
 ghost use Rattle.mh_run.specs.Verdicts.{ending_for};
-ghost use Rattle.mh_msgfile.specs.Sentences.{vocabulary_in, vocabulary_of, sentence_in};
-ghost use Rattle.mh_sample.specs.declared.amounts.TheConstants.{SENTENCES};
-ghost use Rattle.mh_sample.specs.Texts.{each_from, operators_of, sentence_text};
-ghost use Rattle.mh_sample.specs.Counts.{HaveEndings, IsSampleLine, SpeaksOf, counts_line as counts_text, endings_text, grammar_sizes, table_sizes, is_accepted, is_overshot, is_rejected, sample_sentences, sentences_of, sentences_at};
+ghost use Rattle.mh_msgfile.specs.Sentences.{vocabulary_in, sentence_in};
+ghost use Rattle.mh_sample.specs.declared.texts.TheConstants.{SENTENCES};
+ghost use Rattle.mh_sample.specs.Texts.{each_from};
+ghost use Rattle.mh_sample.specs.Counts.{HaveEndings, IsSampleLine, counts_line as counts_text, endings_text, grammar_sizes, table_sizes, is_accepted, is_overshot, is_rejected, sample_sentences, sentences_of, sentences_at};
+ghost use Rattle.mh_sample.specs.code.Speaking.{SpeaksOf};
 
-use crate::amounts::{operators, sentences};
-use crate::endings::{accepts, overshoots, rejects};
-use crate::texts::write_sentence;
+use crate::texts::{SENTENCES, operators, write_sentence};
 use mh_grammar::{Grammar, Memory, Sentence};
 use mh_msgfile::{Lexicon, SentenceFault};
 use mh_run::{Verdict, verdict};
@@ -110,13 +109,16 @@ fn judge_sample(
     ensures { IfOk result (λ verdicts. HaveEndings table.now (sample_sentences grammar.now number) (map ending_for verdicts.items)) }
 {
     let lexicon = Lexicon::new(alloc, grammar)?;
-    judge_sentences(alloc, &lexicon, table, operators(number), sentences())
+    judge_sentences(alloc, &lexicon, table, operators(number), SENTENCES)
 }
 
 fn count_accepts(verdicts: &[Verdict]) -> usize
     ensures { result ≡ count_by is_accepted (map ending_for verdicts.now) }
 {
-    verdicts.iter().filter(|verdict| accepts(**verdict)).count()
+    verdicts
+        .iter()
+        .filter(|verdict| matches!(verdict, Verdict::Accept { .. }))
+        .count()
 }
 
 fn count_overshoots(verdicts: &[Verdict]) -> usize
@@ -124,14 +126,17 @@ fn count_overshoots(verdicts: &[Verdict]) -> usize
 {
     verdicts
         .iter()
-        .filter(|verdict| overshoots(**verdict))
+        .filter(|verdict| matches!(verdict, Verdict::Overshoot { .. }))
         .count()
 }
 
 fn count_rejects(verdicts: &[Verdict]) -> usize
     ensures { result ≡ count_by is_rejected (map ending_for verdicts.now) }
 {
-    verdicts.iter().filter(|verdict| rejects(**verdict)).count()
+    verdicts
+        .iter()
+        .filter(|verdict| matches!(verdict, Verdict::Reject { .. }))
+        .count()
 }
 
 /// Writes words and a count.
@@ -184,7 +189,7 @@ fn write_endings(alloc: Global, text: &mut Vec<u8>, verdicts: &[Verdict]) -> Res
     write_count(alloc, text, b", reject ", count_rejects(verdicts))
 }
 
-/// The line that tells the counts.
+/// The line that gives the counts.
 fn counts_line(
     alloc: Global,
     number: u32,

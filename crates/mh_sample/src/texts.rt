@@ -1,18 +1,26 @@
 //! The grammar and the sentences of a number.
 ghost use Rattle.std.specs.Prelude.{◌≡◌, ◌<◌, ◌≤◌, ◌+◌, ◌-◌, ◌%◌, ◌++◌, IfOk, OnOk};
-ghost use Rattle.mh_sample.specs.declared.amounts.TheConstants.{SENTENCES};
-ghost use Rattle.mh_sample.specs.Texts.{operators_of, each_from, token_line, left_text, right_text, level_line, last_level_line, grammar_text, operator_at, operand_text, opened, closed, sentence_text, sentence_line, sentences_text};
+ghost use Rattle.mh_sample.specs.declared.texts.TheConstants.{SENTENCES};
+ghost use Rattle.mh_sample.specs.Texts.{operators_of, times, each_from, token_line, left_text, right_text, level_line, last_level_line, grammar_text, operator_at, operand_text, closed, sentence_text, sentence_line, sentences_text};
 
-use crate::amounts::{count_closed, operator, operators, sentences};
-use crate::repeating::write_times;
 use mh_grammar::Memory;
 use std::alloc::Global;
+
+/// How many sentences a sample has.
+pub const SENTENCES: u32 = 3_000;
 
 /// A grammar file and its sentences, one a line.
 #[derive(Drop)]
 pub struct Sample {
     pub grammar: Vec<u8>,
     pub sentences: Vec<u8>,
+}
+
+/// How many operators the grammar of a number has.
+pub(crate) fn operators(number: u32) -> u32
+    ensures { result ≡ operators_of number }
+{
+    2 + number % 30
 }
 
 #[tactic(auto, unfolding(crate::specs::Texts::token_line))]
@@ -45,7 +53,7 @@ fn write_left(alloc: Global, text: &mut Vec<u8>, level: u32) -> Result<(), Memor
     Ok(())
 }
 
-/// Writes the end of a level's rule: an operand behind the operator, or alone.
+/// Writes the end of a level's rule: an operand after the operator, or alone.
 #[tactic(auto, unfolding(crate::specs::Texts::right_text))]
 fn write_right(text: &mut Vec<u8>, operand: &[u8]) -> Result<(), Memory>
     ensures { OnOk result (text.new.items ≡ text.old.items ++ right_text operand.now) }
@@ -101,6 +109,16 @@ pub fn sample_grammar(alloc: Global, number: u32) -> Result<Vec<u8>, Memory>
     Ok(text)
 }
 
+/// Writes a text so many times.
+fn write_times(text: &mut Vec<u8>, piece: &[u8], count: u32) -> Result<(), Memory>
+    ensures { OnOk result (text.new.items ≡ text.old.items ++ times count piece.now) }
+{
+    for _ in 0..count {
+        text.extend_from_slice(piece)?;
+    }
+    Ok(())
+}
+
 /// Writes an operator and an operand.
 #[tactic(auto, unfolding(crate::specs::Texts::operand_text))]
 fn write_operand(alloc: Global, text: &mut Vec<u8>, operator: u32) -> Result<(), Memory>
@@ -124,9 +142,21 @@ fn write_operands(
     ensures { OnOk result (text.new.items ≡ text.old.items ++ each_from (λ place. operand_text (operator_at operators sentence place)) 1 (sentence % 5)) }
 {
     for place in 0..sentence % 5 {
-        write_operand(alloc, text, operator(operators, sentence, place + 1))?;
+        write_operand(alloc, text, 1 + sentence * (place + 1) % operators)?;
     }
     Ok(())
+}
+
+/// How many parentheses a sentence closes: one too few in each third, where it opens any.
+fn count_closed(sentence: u32) -> u32
+    ensures { result ≡ closed sentence }
+{
+    let count = sentence % 17;
+    if sentence % 3 == 0 {
+        count.saturating_sub(1)
+    } else {
+        count
+    }
 }
 
 /// Writes a sentence without an LF.
@@ -166,7 +196,7 @@ fn write_line(
     Ok(())
 }
 
-/// Writes the first sentences, each with an LF behind it.
+/// Writes the first sentences, each with an LF after it.
 fn write_sentences(
     alloc: Global,
     text: &mut Vec<u8>,
@@ -190,6 +220,6 @@ pub(crate) fn sample_sentences(alloc: Global, number: u32) -> Result<Vec<u8>, Me
     ensures { IfOk result (λ text. text.items ≡ sentences_text number) }
 {
     let mut text = Vec::new(alloc);
-    write_sentences(alloc, &mut text, operators(number), sentences())?;
+    write_sentences(alloc, &mut text, operators(number), SENTENCES)?;
     Ok(text)
 }

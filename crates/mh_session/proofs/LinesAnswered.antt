@@ -8,7 +8,7 @@ use Rattle.mh_msgfile.specs.Sentences.{Vocabulary, vocabulary_of}
 use Rattle.mh_session_branches.specs.declared.command.Command.{Command}
 use Rattle.mh_session_branches.specs.declared.reply.SessionFault.TheVariants as faults
 use Rattle.mh_grammar.specs.Text.{Text}
-use Rattle.mh_session.specs.code.Moments.{Moment}
+use Rattle.mh_session.specs.Moments.{Moment}
 use Rattle.mh_session_branches.specs.Answers.{Branches, Answer, next}
 use Rattle.mh_session.specs.Standing.{StandsFor}
 use Rattle.mh_session.specs.Served.{IsServed}
@@ -17,8 +17,9 @@ use Rattle.mh_session_branches.specs.declared.fault.CommandFault.TheVariants as 
 use Rattle.mh_session_branches.specs.Lines.{Said, Asks, NamesNoStart, LacksStart, NamesNoToken, LineSays, ReadsCommand}
 use Rattle.mh_session.proofs.Telling.{goes}
 use Rattle.mh_session_branches.specs.Replies.{answer_text, replying, AnswersLine}
-use Rattle.mh_session.specs.Told.{ToldSaid, ToldLine}
-use Rattle.mh_session.specs.Worded.{IsRefusal, IsTold}
+use Rattle.mh_session.specs.Told.{ToldLine}
+use Rattle.mh_session.specs.code.Worded.{ToldSaid}
+use Rattle.mh_session.specs.code.Worded.{IsRefusal, IsTold}
 
 -- a session that was served stands for some branches
 served_some : (old new : Moment) (command : Command) (r : Answer) (bs : Branches) → IsServed old command new r → StandsFor old bs → (after : Branches) × StandsFor new after

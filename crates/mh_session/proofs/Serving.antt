@@ -20,8 +20,8 @@ use Rattle.mh_session_branches.specs.declared.reply.Reply.TheVariants as replies
 use Rattle.mh_session_branches.specs.declared.reply.SessionFault.{SessionFault}
 use Rattle.mh_session_branches.specs.declared.reply.SessionFault.TheVariants as faults
 use Rattle.mh_grammar.specs.Text.{Text}
-use Rattle.mh_session_branches.specs.Renamed.{at_name, without, with_name}
-use Rattle.mh_session.specs.code.Moments.{Moment}
+use Rattle.mh_session_branches.specs.Names.{at_name, without, with_name}
+use Rattle.mh_session.specs.Moments.{Moment}
 use Rattle.mh_session_branches.specs.Answers.{Branches, Answer, answer, changed, next, next_by, phase_at, shown, of_held, of_fresh, to_offer, to_resume, step_or_deep, put_held}
 use Rattle.mh_session.specs.Standing.{Fits, StandsFor}
 use Rattle.mh_session.specs.code.Puts.{Puts, AreOf}

@@ -2,13 +2,13 @@
 use Rattle.std.proofs.Common.{◌≡◌, Bool, true, false, List, [], ◌∷◌, Option, Some, None, Result, Ok, Err, refl, ap, sym, ◌∙◌}
 use Rattle.std.specs.Prelude.{codes, if◌then◌else◌}
 use Rattle.std.specs.List.{list_all}
-use Rattle.mh_lex.specs.Words.{is_word}
+use Rattle.mh_lex_bytes.specs.Words.{is_word}
 use Rattle.mh_msgfile.specs.Sentences.{Vocabulary, pieces}
 use Rattle.mh_session_branches.specs.declared.command.Command.{Command}
 use Rattle.mh_session_branches.specs.declared.fault.CommandFault.{CommandFault}
 use Rattle.mh_session_branches.specs.declared.fault.CommandFault.TheVariants as faults
 use Rattle.mh_grammar.specs.Text.{Text}
-use Rattle.mh_session_branches.specs.Renamed.{same}
+use Rattle.mh_session_branches.specs.Names.{same}
 use Rattle.mh_session_branches.specs.Lines.{Form, BeginOnly, BeginAt, OfferTo, ResumeOf, ForkTo, ShowOf, TreeOf, ForgetOf, words_of, HasForm, said_by, ReadsCommand}
 use Rattle.mh_session_branches.specs.Forms.{of_one, of_two, of_words, form_of}
 use Rattle.mh_session_branches.proofs.Forms.{has_form}

@@ -4,7 +4,7 @@ use Rattle.std.specs.Prelude.{IfOk, IfErr, OnOk, OnErr}
 use Rattle.mh_session_branches.specs.declared.command.Command.{Command}
 use Rattle.mh_session_branches.specs.declared.reply.SessionFault.{SessionFault}
 use Rattle.mh_session_branches.specs.declared.reply.SessionFault.TheVariants as faults
-use Rattle.mh_session.specs.code.Moments.{Moment}
+use Rattle.mh_session.specs.Moments.{Moment}
 use Rattle.mh_session_branches.specs.Answers.{Branches, Answer, answer, next}
 use Rattle.mh_session.specs.Standing.{StandsFor}
 use Rattle.mh_session.specs.Served.{IsServed, IsRefusedSo, IsTheirs}

@@ -6,10 +6,10 @@ use Rattle.mh_tables_core.specs.Table.{TableData}
 use Rattle.mh_session_branches.specs.declared.command.Command.{Command}
 use Rattle.mh_session_branches.specs.declared.reply.SessionFault.{SessionFault}
 use Rattle.mh_session_branches.specs.declared.reply.SessionFault.TheVariants as faults
-use Rattle.mh_session.specs.code.Moments.{Moment}
+use Rattle.mh_session.specs.Moments.{Moment}
 use Rattle.mh_engine.specs.Positions.{Position}
 use Rattle.mh_grammar.specs.Text.{Text}
-use Rattle.mh_session_branches.specs.Renamed.{at_name}
+use Rattle.mh_session_branches.specs.Names.{at_name}
 use Rattle.mh_session_branches.specs.Answers.{Branches, Answer, answer, answers, next}
 use Rattle.mh_session.specs.Standing.{Fits, StandsFor}
 use Rattle.mh_session.specs.Served.{IsServed, IsTheirs}

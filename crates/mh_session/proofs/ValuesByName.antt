@@ -10,8 +10,8 @@ use Rattle.mh_engine.specs.Positions.{Position}
 use Rattle.mh_engine.specs.declared.checkpoint.Checkpoint.{Checkpoint}
 use Rattle.mh_engine.specs.Branches.{Branch, StandsAt}
 use Rattle.mh_grammar.specs.Text.{Text}
-use Rattle.mh_session_branches.specs.Renamed.{same, at_name, without, with_name}
-use Rattle.mh_session.specs.code.Moments.{Moment}
+use Rattle.mh_session_branches.specs.Names.{same, at_name, without, with_name}
+use Rattle.mh_session.specs.Moments.{Moment}
 use Rattle.mh_session_branches.specs.Answers.{Branches}
 use Rattle.mh_session.specs.Standing.{Fits, StandsFor}
 use Rattle.mh_session.specs.code.Puts.{Puts, AreOf}

@@ -1,5 +1,5 @@
-pub mod Served
+pub mod Moments
 pub mod Standing
-pub mod code
-pub mod Worded
+pub mod Served
 pub mod Told
+pub mod code

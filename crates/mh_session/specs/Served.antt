@@ -4,11 +4,11 @@ use Rattle.mh_engine.specs.declared.phase.Phase.{Phase}
 use Rattle.mh_session_branches.specs.declared.command.Command.{Command}
 use Rattle.mh_session_branches.specs.declared.reply.SessionFault.{SessionFault}
 use Rattle.mh_session_branches.specs.declared.reply.SessionFault.TheVariants as faults
-use Rattle.mh_session.specs.code.Moments.{Moment}
+use Rattle.mh_session.specs.Moments.{Moment}
 use Rattle.mh_session_branches.specs.Answers.{Answer, Branches, answer, next}
 use Rattle.mh_session.specs.Standing.{StandsFor}
 
--- whatever branches the session stands for, this is their answer
+-- whatever branches the session represents, this is their answer
 abbrev pub IsTheirs : Moment → Command → Answer → Type 0
 IsTheirs old command r = (bs : Branches) → StandsFor old bs → answer old.table bs command ≡ r
 

@@ -1,11 +1,11 @@
--- A session stands for names with branches.
+-- The branches that a session represents.
 use Rattle.std.specs.Prelude.{◌≡◌, Option, Some, None}
 use Rattle.mh_tables_core.specs.Table.{TableData}
 use Rattle.mh_engine.specs.Positions.{Position}
 use Rattle.mh_engine.specs.Branches.{Branch, StandsAt}
 use Rattle.mh_grammar.specs.Text.{Text}
-use Rattle.mh_session_branches.specs.Renamed.{at_name}
-use Rattle.mh_session.specs.code.Moments.{Moment}
+use Rattle.mh_session_branches.specs.Names.{at_name}
+use Rattle.mh_session.specs.Moments.{Moment}
 use Rattle.mh_session_branches.specs.Answers.{Branches}
 
 -- both have nothing, or a position of the table and its branch

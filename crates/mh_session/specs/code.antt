@@ -1,3 +1,3 @@
-pub mod Moments
 pub mod Puts
 pub mod Forms
+pub mod Worded

@@ -4,7 +4,8 @@ ghost use Rattle.mh_grammar.specs.Plain.{plain_of};
 ghost use Rattle.mh_msgfile.specs.Sentences.{vocabulary_in, vocabulary_of};
 ghost use Rattle.mh_session_branches.specs.Answers.{IsKnown};
 ghost use Rattle.mh_session_branches.specs.Lines.{Asks};
-ghost use Rattle.mh_session.specs.Told.{ToldSaid, ToldLine};
+ghost use Rattle.mh_session.specs.Told.{ToldLine};
+ghost use Rattle.mh_session.specs.code.Worded.{ToldSaid};
 
 use crate::naming::replying;
 use crate::reading::read_command_by;
@@ -31,9 +32,9 @@ fn serve(
     answer_text(alloc, grammar, replying(command), &answer)
 }
 
-/// The text that answers a line of a session on a grammar's table, by the names of that grammar. Whatever branches the
-/// session stands for, it is that of their histories, and the session stands for the branches behind the line then.
-/// Fails for want of memory alone.
+/// The text that answers a line of a session on a grammar's table, by the names of that grammar. Whatever branches the session
+/// represents, the text is that of their histories, and afterwards the session represents the branches after that line. Fails for want
+/// of memory alone.
 pub fn answer_line(
     alloc: Global,
     grammar: &Grammar,

@@ -1,15 +1,15 @@
 //! Session lines.
 ghost use Rattle.std.specs.Prelude.{◌≡◌, ◌∷◌, true};
-ghost use Rattle.mh_lex.specs.Words.{is_word as is_word_text};
+ghost use Rattle.mh_lex_bytes.specs.Words.{is_word as is_word_text};
 ghost use Rattle.mh_grammar.specs.Plain.{plain_of, IsInRange};
 ghost use Rattle.mh_msgfile.specs.Sentences.{pieces, vocabulary_in, vocabulary_of};
-ghost use Rattle.mh_session_branches.specs.Renamed.{same};
+ghost use Rattle.mh_session_branches.specs.Names.{same};
 ghost use Rattle.mh_session_branches.specs.Lines.{ReadsCommand, said_by};
 ghost use Rattle.mh_session_branches.specs.Forms.{of_one, of_two, form_by, form_of};
 ghost use Rattle.mh_session.specs.code.Forms.{as_form, as_forms, FirstWord, ReadsSaid};
 
 use mh_grammar::{Grammar, from_bytes};
-use mh_lex::is_word;
+use mh_lex_bytes::is_word;
 use mh_msgfile::{Lexicon, first_piece};
 use mh_session_branches::{Command, CommandFault};
 use std::alloc::Global;
@@ -33,7 +33,7 @@ fn is_text(word: &[u8], text: &[u8]) -> bool
     word == text
 }
 
-/// What a line of two words says, by the first, with the name behind it.
+/// What a line of two words says, by its first word and the name after it.
 #[tactic(auto, unfolding(mh_session_branches::specs::Forms::of_one))]
 fn with_one<'a>(verb: &[u8], name: &'a [u8]) -> Option<Spelled<'a>>
     ensures { as_forms result ≡ of_one verb.now name.now }
@@ -53,7 +53,7 @@ fn with_one<'a>(verb: &[u8], name: &'a [u8]) -> Option<Spelled<'a>>
     }
 }
 
-/// What a line of three words says, by the first, with the two names behind it.
+/// What a line of three words says, by its first word and the two names after it.
 #[tactic(auto, unfolding(mh_session_branches::specs::Forms::of_two))]
 fn with_two<'a>(verb: &[u8], name: &'a [u8], other: &'a [u8]) -> Option<Spelled<'a>>
     ensures { as_forms result ≡ of_two verb.now name.now other.now }
@@ -69,7 +69,7 @@ fn with_two<'a>(verb: &[u8], name: &'a [u8], other: &'a [u8]) -> Option<Spelled<
     }
 }
 
-/// The word in front of a line, with what stands behind it.
+/// The first word of a line, with the rest of the line.
 fn first_word(line: &[u8]) -> Option<(&[u8], &[u8])>
     ensures { FirstWord line.now result }
 {
@@ -85,7 +85,7 @@ fn first_word(line: &[u8]) -> Option<(&[u8], &[u8])>
     }
 }
 
-/// What a line says, by its first two words, with what stands behind them.
+/// What a line says, by its first two words and the rest of the line.
 fn with_rest<'a>(verb: &[u8], name: &'a [u8], rest: &'a [u8]) -> Option<Spelled<'a>>
     requires verb { is_word_text verb.now ≡ true }
     requires name { is_word_text name.now ≡ true }

@@ -1,6 +1,6 @@
 //! The texts for lines that are no commands.
 ghost use Rattle.std.specs.Prelude.{◌≡◌, ◌++◌, codes, IfOk};
-ghost use Rattle.mh_session.specs.Worded.{IsRefusal};
+ghost use Rattle.mh_session.specs.code.Worded.{IsRefusal};
 
 use mh_grammar::Memory;
 use mh_session_branches::CommandFault;

@@ -4,7 +4,7 @@ ghost use Rattle.std.specs.Option.{option_copied};
 ghost use Rattle.mh_engine.specs.Phases.{phase_of, CanGoOn};
 ghost use Rattle.mh_session_branches.specs.declared.reply.Reply.TheVariants as replies;
 ghost use Rattle.mh_session_branches.specs.declared.reply.SessionFault.TheVariants as faults;
-ghost use Rattle.mh_session_branches.specs.Renamed.{at_name};
+ghost use Rattle.mh_session_branches.specs.Names.{at_name};
 ghost use Rattle.mh_session.specs.code.Puts.{Puts};
 ghost use Rattle.mh_session_branches.specs.Answers.{IsKnown, Branches, answer, next};
 ghost use Rattle.mh_session.specs.Standing.{StandsFor};
@@ -13,7 +13,7 @@ ghost use Rattle.mh_session_branches.specs.declared.command.Command.TheVariants 
 
 use mh_engine::{Checkpoint, Phase, ResumeFault, begin};
 use mh_grammar::{Name, Token};
-use mh_session_branches::{Command, Reply, Serves, SessionFault, held, serve};
+use mh_session_branches::{Command, Reply, SessionFault};
 use mh_tables_core::Halting;
 use std::alloc::Global;
 use std::collections::HashMap;
@@ -28,7 +28,7 @@ pub struct Session<'t> {
 }
 
 impl<'t> Model for Session<'t> {
-    ghost use Rattle.mh_session.specs.code.Moments.{Moment};
+    ghost use Rattle.mh_session.specs.Moments.{Moment};
 
     ghost Value = { Moment };
 
@@ -75,7 +75,7 @@ impl<'t> Session<'t> {
         ensures found { option_copied result ≡ at_name name.now self.now.held }
         ensures table { IfSome result (λ c. c.now.table ≡ self.now.table) }
     {
-        held(&self.branches, name)
+        self.branches.get(name)
     }
 
     /// Answers a command. A refused one changes nothing.
@@ -88,21 +88,24 @@ impl<'t> Session<'t> {
         ensures fault { IfErr result (λ f. (f ≡ faults.Memory) ⊎ ((bs : Branches) → StandsFor self.old bs → answer self.old.table bs command.now ≡ Err f)) }
         ensures table { self.new.table ≡ self.old.table }
     {
-        serve(self, command)
+        self.serve(command)
     }
-}
 
-impl<'t> Serves for Session<'t> {
-    ghost use Rattle.mh_session_branches.specs.Answers.{IsKnown};
-    ghost use Rattle.mh_session.specs.Served.{IsServed};
-
-    type Reply = Reply;
-
-    type Fault = SessionFault;
-
-    ghost is_known = { λ s. IsKnown s.table };
-
-    ghost is_served = { λ old. IsServed old };
+    /// Answers a command by the method for its kind.
+    fn serve(&mut self, command: &Command) -> Result<Reply, SessionFault>
+        requires { IsKnown self.old.table command.now }
+        ensures { IsServed self.old command.now self.new result }
+    {
+        match command {
+            Command::Begin { name, start } => self.begin(name, *start),
+            Command::Offer { name, token } => self.offer(name, *token),
+            Command::Resume { name } => self.resume(name),
+            Command::Fork { name, fresh } => self.fork(name, fresh),
+            Command::Show { name } => self.show(name),
+            Command::Tree { name } => self.tree(name),
+            Command::Forget { name } => self.forget(name),
+        }
+    }
 
     fn begin(&mut self, name: &Name, start: u16) -> Result<Reply, SessionFault>
         requires { start < length self.old.table.grammar.starts }

@@ -1,7 +1,7 @@
-//! The texts of replies and faults. Each function writes behind what a text holds.
+//! The texts of replies and faults. Each function adds to the end of a text.
 ghost use Rattle.std.specs.Prelude.{◌≡◌, ◌++◌, IfOk, OnOk, codes};
 ghost use Rattle.mh_session_branches.specs.Replies.{phase_word as word_of, phase_rest, reply_text, fault_text};
-ghost use Rattle.mh_session.specs.Worded.{IsTold};
+ghost use Rattle.mh_session.specs.code.Worded.{IsTold};
 ghost use Rattle.mh_session_branches.specs.declared.reply.SessionFault.TheVariants as faults;
 
 use mh_engine::Phase;
@@ -61,7 +61,7 @@ fn write_rest(
     }
 }
 
-/// A reply, behind the name of its branch.
+/// A reply, after the name of its branch.
 fn write_reply(
     alloc: Global,
     text: &mut Vec<u8>,

@@ -14,7 +14,7 @@ use Rattle.mh_session_branches.specs.declared.reply.Reply.TheVariants as replies
 use Rattle.mh_session_branches.specs.declared.reply.SessionFault.{SessionFault}
 use Rattle.mh_session_branches.specs.declared.reply.SessionFault.TheVariants as faults
 use Rattle.mh_grammar.specs.Text.{Text}
-use Rattle.mh_session_branches.specs.Renamed.{at_name, without, with_name}
+use Rattle.mh_session_branches.specs.Names.{at_name, without, with_name}
 
 -- names with their branches
 abbrev pub Branches : Type 0

@@ -1,13 +1,13 @@
 -- The form of a line, found by its words.
 use Rattle.std.specs.Prelude.{List, [], ◌∷◌, Option, Some, None, codes, if◌then◌else◌}
 use Rattle.std.specs.List.{list_all}
-use Rattle.mh_lex.specs.Words.{is_word}
+use Rattle.mh_lex_bytes.specs.Words.{is_word}
 use Rattle.mh_msgfile.specs.Sentences.{pieces}
 use Rattle.mh_grammar.specs.Text.{Text}
-use Rattle.mh_session_branches.specs.Renamed.{same}
+use Rattle.mh_session_branches.specs.Names.{same}
 use Rattle.mh_session_branches.specs.Lines.{Form, BeginOnly, BeginAt, OfferTo, ResumeOf, ForkTo, ShowOf, TreeOf, ForgetOf}
 
--- by the first word, with one name behind it
+-- by the first word, with one name after it
 unfoldable pub of_one : Text → Text → Option Form
 of_one verb name =
     if same verb (codes "begin") then Some (BeginOnly name)

@@ -2,5 +2,4 @@ pub mod Names
 pub mod Answers
 pub mod Forms
 pub mod Lines
-pub mod Renamed
 pub mod Replies

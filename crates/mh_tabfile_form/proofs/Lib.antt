@@ -1,2 +1,1 @@
-pub mod Large
 pub mod Plain

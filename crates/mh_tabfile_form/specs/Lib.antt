@@ -1,4 +1,2 @@
-pub mod Numbers
-pub mod Versions
 pub mod Form
 pub mod Written

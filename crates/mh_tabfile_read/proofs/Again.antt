@@ -20,7 +20,8 @@ use Rattle.mh_tabfile_read.specs.declared.places.Place.{Place}
 use Rattle.mh_tabfile_read.specs.declared.places.Place.TheVariants as places
 use Rattle.mh_resolve_cells.specs.Names.{mode_name}
 use Rattle.mh_tabfile_form.specs.Form.{Line, IsName, IsNumber, IsRawProduction, IsRawItem, IsRawEdge, IsRawCell, IsRawFallback, AreRawCells, IsRawState, IsRaw, AreCosts, Spells, version_of, head_line, costs_lines, production_line, item_line, edge_line, cell_line, fallback_line, cells_lines, count_line, state_lines, states_lines, end_line, head_lines, grammar_lines, automaton_lines, lines_of}
-use Rattle.mh_tabfile_read.specs.code.Words.{◌>>=◌, kind_of, count_of, names_of, numbers_of, number_of, mode_of, production_of, item_of, edge_of, cell_of, fallback_of}
+use Rattle.mh_tabfile_read.specs.code.Numbers.{number_of}
+use Rattle.mh_tabfile_read.specs.code.Words.{◌>>=◌, kind_of, count_of, names_of, numbers_of, mode_of, production_of, item_of, edge_of, cell_of, fallback_of}
 use Rattle.mh_tabfile_read.specs.code.Machine.{start, table_of, costs_for, place_behind_tokens, read_head, open_state, at_states, ended_by, closed, between, next, finish, run, go_on, ended, Outcome}
 use Rattle.mh_tabfile_read.specs.code.Machine.Outcome.{Reads, Stops}
 use Rattle.mh_tabfile_read.proofs.Tellings.{mode_again, number_again, numbers_again, names_again, count_again, production_again, item_again, edge_again, cell_again, accept_again, default_again}

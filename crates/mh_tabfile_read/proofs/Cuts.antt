@@ -17,9 +17,9 @@ use Rattle.mh_tabfile_read.specs.declared.places.Reader.{Reader}
 use Rattle.mh_tabfile_read.specs.declared.reading.TabFault.{TabFault}
 use Rattle.mh_tabfile_read.specs.declared.reading.TabFault.TheVariants as faults
 use Rattle.mh_tabfile_read.specs.code.Machine.{run, start, finish}
-use Rattle.mh_tabfile_read.specs.code.Lines.{words_of, lines_in, IsMisplaced, Reaches, EndsAt, is_other_head, is_other_number, is_mode}
-use Rattle.mh_tabfile_read.specs.code.Words.{same_word, number_of, mode_of}
-use Rattle.mh_tabfile_form.specs.Versions.{first_line, version_fault}
+use Rattle.mh_tabfile_read.specs.code.Lines.{words_of, lines_in, IsMisplaced, Reaches, EndsAt, is_other_head, is_other_number, is_mode, first_line}
+use Rattle.mh_tabfile_read.specs.code.Numbers.{number_of}
+use Rattle.mh_tabfile_read.specs.code.Words.{same_word, mode_of}
 use Rattle.mh_tabfile_form.proofs.Plain.{not_equal}
 use Rattle.mh_tabfile_read.proofs.Tellings.{chosen, none_some, number_sound, mode_sound}
 use Rattle.mh_tabfile_read.proofs.Exact.{taken_begin, taken_whole, taken_early}
@@ -238,10 +238,11 @@ pub other_version : (bytes : List ℕ) (parts : List (Bor (List ℕ))) (ws : Lin
 other_version bytes [] ws e some i h = absurd (omega (arith, some))
 other_version bytes (p ∷ ps) ws e some i h = other_of bytes p.now (subst IsOtherHead i (other_head ws h)) (first_part bytes p.now (seen ps) e)
 
-pub told : (other : Bool) (fault : TabFault) (o : Option TabFault) → o ≡ version_fault other faults.Version → o ≡ Some fault → (other ≡ true) × (fault ≡ faults.Version)
-told true fault o e s = (refl, same_Some fault faults.Version (sym s ∙ e))
-told false fault o e s = absurd (none_some fault (sym e ∙ s))
+-- What is after the last LF.
 
-pub untold : (other : Bool) (o : Option TabFault) → o ≡ version_fault other faults.Version → o ≡ None → other ≡ false
-untold true o e s = absurd (none_some faults.Version (sym s ∙ e))
-untold false o e s = refl
+pub some_after : (xs : List ℕ) → (length xs == 0) ≡ false → 0 < length xs
+some_after [] e = absurd (true≢false (sym (eq-eqb 0 0 refl) ∙ e))
+some_after (x ∷ xs) e = omega arith
+
+pub none_after : (xs : List ℕ) → (length xs == 0) ≡ true → length xs ≤ 0
+none_after xs e = let none : length xs ≡ 0 = eqb-true (length xs) 0 e in omega (arith, none)

@@ -5,3 +5,4 @@ pub mod OneFault
 pub mod Only
 pub mod Sound
 pub mod Tellings
+mod Large

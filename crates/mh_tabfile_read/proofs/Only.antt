@@ -14,8 +14,7 @@ use Rattle.mh_tabfile_read.specs.code.Words.{mode_of}
 use Rattle.mh_resolve_cells.specs.Names.{mode_name}
 use Rattle.mh_tabfile_read.specs.Reading.{IsOtherVersion, IsBadLine, IsReading}
 use Rattle.mh_tabfile_form.specs.Form.{lines_of, head_line, version_of, Line, line_text, text, IsInWord, IsLine, Spells, Begins, IsFileOf}
-use Rattle.mh_tabfile_read.specs.code.Lines.{words_of, is_other_head, is_other_number, is_mode}
-use Rattle.mh_tabfile_form.specs.Versions.{first_line}
+use Rattle.mh_tabfile_read.specs.code.Lines.{words_of, is_other_head, is_other_number, is_mode, first_line}
 use Rattle.mh_tabfile_form.proofs.Plain.{plain, number_plain, mode_plain}
 use Rattle.mh_tabfile_read.proofs.Cuts.{split_some, regroup, seen}
 use Rattle.mh_tabfile_read.proofs.Tellings.{number_again, mode_again}

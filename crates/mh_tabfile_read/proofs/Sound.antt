@@ -22,7 +22,8 @@ use Rattle.mh_tabfile_read.specs.declared.places.Place.{Place}
 use Rattle.mh_tabfile_read.specs.declared.places.Place.TheVariants as places
 use Rattle.mh_resolve_cells.specs.Names.{mode_name}
 use Rattle.mh_tabfile_form.specs.Form.{Line, IsName, IsNumber, IsRawProduction, IsRawItem, IsRawEdge, IsRawCell, IsRawFallback, AreRawCells, IsRawState, IsRaw, AreCosts, Spells, version_of, head_line, costs_lines, production_line, item_line, edge_line, cell_line, fallback_line, cells_lines, count_line, state_lines, states_lines, end_line, head_lines, grammar_lines, automaton_lines, lines_of}
-use Rattle.mh_tabfile_read.specs.code.Words.{◌>>=◌, kind_of, count_of, names_of, numbers_of, number_of, mode_of, production_of, item_of, edge_of, cell_of, fallback_of}
+use Rattle.mh_tabfile_read.specs.code.Numbers.{number_of}
+use Rattle.mh_tabfile_read.specs.code.Words.{◌>>=◌, kind_of, count_of, names_of, numbers_of, mode_of, production_of, item_of, edge_of, cell_of, fallback_of}
 use Rattle.mh_tabfile_read.specs.code.Machine.{start, table_of, costs_for, place_behind_tokens, read_head, at_head, at_tokens, at_costs, at_starts, at_productions, at_states, at_production, open_state, at_state, at_end, at_cells, at_edges, at_items, at_listing, ended_by, closed, between, next, next_at, finish, finish_at, run, go_on, ended, Outcome}
 use Rattle.mh_tabfile_read.specs.code.Machine.Outcome.{Reads, Stops}
 use Rattle.mh_tabfile_read.proofs.Tellings.{none_some, bind_some, chosen, Named, kind_sound, mode_sound, number_sound, numbers_sound, names_sound, count_sound, production_sound, item_sound, edge_sound, cell_sound, fallback_sound}

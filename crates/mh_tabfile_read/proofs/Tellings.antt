@@ -20,7 +20,8 @@ use Rattle.mh_tabfile_read.specs.declared.places.Kind.{Kind}
 use Rattle.mh_tabfile_read.specs.declared.places.Kind.TheVariants as kinds
 use Rattle.mh_resolve_cells.specs.Names.{mode_name}
 use Rattle.mh_tabfile_form.specs.Form.{Line, IsName, IsNumber, IsRawProduction, IsRawItem, IsRawEdge, IsRawAction, IsRawCell, IsRawFallback, production_line, item_line, edge_line, action_words, cell_line, fallback_line}
-use Rattle.mh_tabfile_read.specs.code.Words.{◌>>=◌, same_word, is_name, names_of, is_digit, value_from, has_zero_first, small_value, number_of, numbers_of, mode_of, kind_of, count_of, production_of, item_of, edge_of, action_of, cell_of, fallback_of}
+use Rattle.mh_tabfile_read.specs.code.Numbers.{is_digit, value_from, has_zero_first, small_value, number_of}
+use Rattle.mh_tabfile_read.specs.code.Words.{◌>>=◌, same_word, is_name, names_of, numbers_of, mode_of, kind_of, count_of, production_of, item_of, edge_of, action_of, cell_of, fallback_of}
 
 -- Options and tests.
 

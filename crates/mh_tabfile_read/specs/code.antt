@@ -1,3 +1,4 @@
 pub mod Lines
 pub mod Machine
+pub mod Numbers
 pub mod Words

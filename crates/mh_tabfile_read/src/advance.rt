@@ -10,7 +10,7 @@ use crate::words::{
     numbers_of, production_of,
 };
 use mh_grammar::Sequence;
-use mh_tabfile_form::{RawCell, RawCells, RawEdge, RawItem, RawProduction, RawState, is_alone};
+use mh_tabfile_form::{RawCell, RawCells, RawEdge, RawItem, RawProduction, RawState};
 use std::alloc::Global;
 use std::mem;
 
@@ -187,13 +187,13 @@ fn at_end(reader: &mut Reader, kind: Kind, words: &[&[u8]]) -> Result<(), Refusa
     ensures { Goes (machine.at_end reader.old kind (map (λ w. w.now) words.now)) reader.new result }
 {
     match kind {
-        Kind::End => {
-            if !is_alone(words) {
-                return Err(Refusal::Unexpected);
+        Kind::End => match words {
+            [] => {
+                reader.place = Place::Ended;
+                Ok(())
             }
-            reader.place = Place::Ended;
-            Ok(())
-        }
+            [_, ..] => Err(Refusal::Unexpected),
+        },
         _ => Err(Refusal::Unexpected),
     }
 }
@@ -368,7 +368,7 @@ fn advance_at(
     }
 }
 
-/// One line more. Where it is not taken, what the reader holds is not told.
+/// Reads one line more. Where the line is refused, nothing is said of what the reader holds.
 #[tactic(auto, unfolding(crate::specs::code::Machine::next))]
 pub(crate) fn advance(alloc: Global, reader: &mut Reader, line: &[&[u8]]) -> Result<(), Refusal>
     ensures { Goes (machine.next reader.old (map (λ w. w.now) line.now)) reader.new result }

@@ -3,6 +3,7 @@
 
 mod advance;
 mod laws;
+mod numbers;
 mod places;
 mod reading;
 mod words;

@@ -5,16 +5,18 @@ ghost use Rattle.mh_tabfile_form.specs.declared.types.RawTable.{RawTable as Raw}
 ghost use Rattle.mh_tabfile_form.specs.Form.{IsFileOf};
 ghost use Rattle.mh_tabfile_read.specs.Reading.{IsOtherVersion, IsReading};
 ghost use Rattle.mh_tabfile_read.specs.code.Machine.{start, next, finish, Goes};
+ghost use Rattle.mh_tabfile_read.specs.code.Numbers.{number_of as number_read};
 ghost use Rattle.mh_tabfile_read.specs.code.Words;
 ghost use Rattle.mh_tabfile_read.specs.code.Lines;
 ghost use Rattle.mh_tabfile_read.specs.code.Lines.{words_of, lines_in, Reaches, HasRead, EndsAt, is_other_head as is_head_of_other};
 
 use crate::advance::{Refusal, advance};
+use crate::numbers::number_of;
 use crate::places::{Place, Reader};
 use crate::words::{is_word, mode_in};
 use mh_grammar::Sequence;
 use mh_resolve_cells::Mode;
-use mh_tabfile_form::{RawTable, first_line, is_open, is_other_number, version_fault};
+use mh_tabfile_form::RawTable;
 use std::alloc::{AllocError, Global};
 
 /// Why bytes are no table file.
@@ -39,6 +41,16 @@ fn is_mode(word: &[u8]) -> bool
     ensures { result ≡ Lines.is_mode (Words.mode_of word.now) }
 {
     mode_in(word).is_some()
+}
+
+/// Whether a word is the number of another version.
+fn is_other_number(word: &[u8]) -> bool
+    ensures { result ≡ Lines.is_other_number (number_read word.now) }
+{
+    match number_of(word) {
+        None => false,
+        Some(number) => number != 1 && number != 2,
+    }
 }
 
 fn are_other(word: &[u8], version: &[u8], mode: &[u8]) -> bool
@@ -145,7 +157,7 @@ fn ended(reader: Reader, line: u32) -> Result<RawTable, TabFault>
     }
 }
 
-/// The table of a file that is cut into its lines and what stands behind the last LF, where its version is a known one.
+/// The table of a file that is cut into its lines and what is after the last LF, where its version is a known one.
 fn read_known(alloc: Global, bytes: &[u8], parts: &[&[u8]]) -> Result<RawTable, TabFault>
     requires cut { map (λ x. x.now) parts.now ≡ slice_split (λ b. b == 10) bytes.now }
     requires some { 0 < length parts.now }
@@ -159,13 +171,23 @@ fn read_known(alloc: Global, bytes: &[u8], parts: &[&[u8]]) -> Result<RawTable, 
         Ok(reader) => reader,
         Err(fault) => return Err(fault),
     };
-    if is_open(parts[count]) {
+    if !parts[count].is_empty() {
         return misplaced(reader, count as u32 + 1);
     }
     ended(reader, line_of(count as u32))
 }
 
-/// Whether a file that is cut into its lines and what stands behind the last LF is of another version.
+/// The first line of a file that is cut at its LFs, with an LF after it or without.
+fn first_line<'a>(parts: &[&'a [u8]]) -> &'a [u8]
+    ensures { result.now ≡ Lines.first_line (map (λ part. part.now) parts.now) }
+{
+    match parts {
+        [first, ..] => first,
+        [] => b"",
+    }
+}
+
+/// Whether a file that is cut into its lines and what is after the last LF is of another version.
 fn is_other(alloc: Global, bytes: &[u8], parts: &[&[u8]]) -> Result<bool, AllocError>
     requires cut { map (λ x. x.now) parts.now ≡ slice_split (λ b. b == 10) bytes.now }
     requires some { 0 < length parts.now }
@@ -177,7 +199,7 @@ fn is_other(alloc: Global, bytes: &[u8], parts: &[&[u8]]) -> Result<bool, AllocE
     Ok(is_other_head(head.as_slice()))
 }
 
-/// The table of a file that is cut into its lines and what stands behind the last LF.
+/// The table of a file that is cut into its lines and what is after the last LF.
 fn read_parts(alloc: Global, bytes: &[u8], parts: &[&[u8]]) -> Result<RawTable, TabFault>
     requires cut { map (λ x. x.now) parts.now ≡ slice_split (λ b. b == 10) bytes.now }
     requires some { 0 < length parts.now }
@@ -188,13 +210,13 @@ fn read_parts(alloc: Global, bytes: &[u8], parts: &[&[u8]]) -> Result<RawTable, 
     let Ok(other) = is_other(alloc, bytes, parts) else {
         return Err(TabFault::Memory);
     };
-    match version_fault(other, TabFault::Version) {
-        Some(fault) => Err(fault),
-        None => read_known(alloc, bytes, parts),
+    if other {
+        return Err(TabFault::Version);
     }
+    read_known(alloc, bytes, parts)
 }
 
-/// The last line of so many, and 1 where there is none.
+/// The number of the last line, where there are `count` lines; 1 where there is none.
 fn line_of(count: u32) -> u32
     ensures { result ≡ max 1 count }
 {

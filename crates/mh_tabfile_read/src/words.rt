@@ -2,13 +2,15 @@
 ghost use Rattle.std.specs.Prelude.{◌≡◌, [], map, OnOk, Some};
 ghost use Rattle.std.specs.List.{list_all};
 ghost use Rattle.mh_tabfile_read.specs.code.Words as words_read;
-ghost use Rattle.mh_tabfile_read.specs.code.Words.{Refers, is_name as is_name_text, same_word, number_of as number_read};
+ghost use Rattle.mh_tabfile_read.specs.code.Numbers.{number_of as number_read};
+ghost use Rattle.mh_tabfile_read.specs.code.Words.{Refers, is_name as is_name_text, same_word};
 
 use crate::advance::Refusal;
+use crate::numbers::number_of;
 use crate::places::Kind;
 use mh_grammar::{Memory, Name, Sequence, from_bytes};
 use mh_resolve_cells::Mode;
-use mh_tabfile_form::{RawCell, RawEdge, RawItem, RawProduction, number_of};
+use mh_tabfile_form::{RawCell, RawEdge, RawItem, RawProduction};
 use mh_tables_core::{Action, Fallback};
 use std::alloc::Global;
 

@@ -1,6 +1,6 @@
 -- What a relative run does with no token it does with each.
 use Rattle.std.proofs.Common.{◌≡◌, ℕ, zero, suc, Bool, true, false, List, [], ◌∷◌, Some, None, Option, refl, ap, arith, ◌∙◌}
-use Rattle.std.specs.Prelude.{IfSome, IfNone}
+use Rattle.std.specs.Prelude.{is_some, not}
 use Rattle.mh_tables_core.specs.declared.parts.Action.{Action}
 use Rattle.mh_tables_core.specs.declared.parts.Action.TheVariants as actions
 use Rattle.mh_tables_core.specs.declared.parts.Fallback.{Fallback}
@@ -46,13 +46,17 @@ out_not t below s look stack out loops =
 
 -- one that was tried loops exactly where it did not stop
 module _ (t : TableData) (below : Option ℕ) (s : ℕ) (look : Option ℕ) (stack : List ℕ) where
-  pub loops_or : (stopped : Option ℕ) (found : Bool) → IfSome stopped (λ n. found ≡ false) → IfNone stopped (found ≡ true) → StoppedOr t below s look MAX_REDUCTIONS stack stopped → LoopsOr t below s look found
-  loops_or None found some none made = rw none (stack, made)
-  loops_or (Some count) found some none stops = rw some (out_not t below s look stack (record { count = count; few = stops.few; made = stops.made; over = stops.over }))
+  pub loops_or : (stopped : Option ℕ) (found : Bool) → is_some stopped ≡ not found → StoppedOr t below s look MAX_REDUCTIONS stack stopped → LoopsOr t below s look found
+  loops_or None true e made = (stack, made)
+  loops_or None false e made = cc
+  loops_or (Some count) true e stops = cc
+  loops_or (Some count) false e stops = out_not t below s look stack (record { count = count; few = stops.few; made = stops.made; over = stops.over })
 
-  pub tried_or : (stopped : Option ℕ) (found : Bool) → IfSome stopped (λ n. found ≡ false) → IfNone stopped (found ≡ true) → StoppedOr t below s look MAX_REDUCTIONS stack stopped → TriedOr t below s look stack found
-  tried_or None found some none made = rw none (stack, made)
-  tried_or (Some count) found some none stops = rw some (record { count = count; few = stops.few; made = stops.made; over = stops.over })
+  pub tried_or : (stopped : Option ℕ) (found : Bool) → is_some stopped ≡ not found → StoppedOr t below s look MAX_REDUCTIONS stack stopped → TriedOr t below s look stack found
+  tried_or None true e made = (stack, made)
+  tried_or None false e made = cc
+  tried_or (Some count) true e stops = cc
+  tried_or (Some count) false e stops = record { count = count; few = stops.few; made = stops.made; over = stops.over }
 
 -- nor does one with a token, where it is over in a state with a default
 pub clear_by_default : (t : TableData) (below : Option ℕ) (s top : ℕ) (stack : List ℕ) (f : Fallback) → RunsOut t below s None stack → top ≡ top_of stack → fallback_of t top ≡ Some f → Clear t below s

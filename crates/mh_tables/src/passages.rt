@@ -1,17 +1,20 @@
-//! Bounds on the reductions of relative runs above an edge, found once for each symbol and not for each edge. What such a run does
-//! with its upper state alone is the same above each lower one; where that takes off just the upper state, the run goes on above an
-//! edge of the lower state on the left side. So a bound of one symbol follows from those of others, and where these passages
-//! from symbol to symbol lead in no circle, no run above an edge need be tried.
-ghost use Rattle.std.specs.Prelude.{◌≡◌, ◌<◌, ◌≤◌, true, false, length, vec_len, slice_index, All, Contains, IfOk, OnOk};
+//! Bounds on the reductions of relative runs above an edge, found once for each symbol and not for each edge. What such
+//! a run does with its upper state alone is the same above each lower one; where that takes off just the upper state,
+//! the run goes on above an edge of the lower state on the left side. So a bound of one symbol follows from those of
+//! others, and where these passages from symbol to symbol lead in no circle, no run above an edge need be tried.
+ghost use Rattle.std.specs.Prelude.{◌≡◌, ◌<◌, ◌≤◌, ◌+◌, ℕ, true, false, length, vec_len, slice_index, All, Contains, IfOk, OnOk};
 ghost use Rattle.mh_grammar.specs.Plain.{production_count, rhs_of, IsSymbolBelow};
 ghost use Rattle.mh_tables_core.specs.Halting.{IsLook, look_list};
 ghost use Rattle.mh_tables.specs.code.Passages.{symbol_place, symbol_count, GoesSo, IsKnown, KeepsAll, IsUnclear, UnitIsIn, UnitsAreIn, EmptyNext, PassageOr, IsCoveredOn, IsCoveredFrom, IsCovered, AreAll, IsLifted, AreSettled};
 
 use crate::relative::{next_reduction, reduced_within};
 use mh_grammar::{Symbol, Token};
-use mh_run::{MAX_BOUND, asked};
 use mh_tables_core::{Choice, Table, choose};
 use std::alloc::{AllocError, Global};
+
+/// The highest bound from which anything follows: a run that makes so many reductions, and those that are tried of a
+/// state alone, makes no more than `MAX_REDUCTIONS`.
+pub(crate) const MAX_BOUND: u32 = 9_900;
 
 /// The most reductions of a state alone that are tried.
 const MAX_TRIED: u32 = 100;
@@ -22,8 +25,8 @@ const PATIENCE: u32 = 200;
 /// The most rounds.
 const MAX_ROUNDS: u32 = 400;
 
-/// Relative runs above an edge on the symbol at the place `from` go on above one on that at `to`, behind `count`
-/// reductions and one.
+/// Relative runs above an edge on the symbol at the place `from` go on above an edge on the symbol at `to`, after
+/// `count` reductions and one.
 #[derive(Clone, Copy, PartialEq, Eq)]
 pub(crate) struct Passage {
     pub from: u32,
@@ -31,7 +34,7 @@ pub(crate) struct Passage {
     pub count: u32,
 }
 
-/// How relative runs go behind the reductions of their upper state alone.
+/// How relative runs go on after the reductions of their upper state alone.
 #[derive(Clone, Copy)]
 pub(crate) enum Course {
     /// They end there.
@@ -88,7 +91,7 @@ fn is_last(passages: &[Passage], passage: Passage) -> bool
     }
 }
 
-/// Whether the last passage tells that nothing is known of the runs above an edge on a symbol.
+/// Whether the last passage says that nothing is known of the runs above an edge on a symbol.
 fn is_unclear(passages: &[Passage], from: u32) -> bool
     ensures { result ≡ true → IsUnclear passages.now from }
 {
@@ -204,7 +207,7 @@ fn passage_of(
     }
 }
 
-/// Adds that passage, if there is one, unless the last passage tells that nothing is known.
+/// Adds this passage, if there is one, unless the last passage says that nothing is known.
 fn add_passage(
     table: &Table,
     stack: &mut Vec<u32>,
@@ -291,6 +294,16 @@ fn passages_of(
     Ok(passages)
 }
 
+/// The lowest bound where a passage of `count` reductions and one more begins, if its end has the bound `onward`.
+fn asked(count: u32, onward: u32) -> u32
+    ensures { (b : ℕ) → result ≤ b → b ≤ MAX_BOUND → count + 1 + onward ≤ b }
+{
+    if MAX_BOUND <= onward || MAX_BOUND <= count {
+        return MAX_BOUND + 1;
+    }
+    count + 1 + onward
+}
+
 /// Lifts the bound where a passage begins to what it asks, or gives it up if there is no more patience. Says whether it
 /// was lower.
 fn lift(bounds: &mut Vec<u32>, passage: Passage, patient: bool) -> bool
@@ -361,8 +374,8 @@ fn lifted(alloc: Global, passages: &[Passage], count: usize) -> Result<Vec<u32>,
     vec![in alloc; MAX_BOUND + 1; count]
 }
 
-/// Bounds of the reductions of relative runs above an edge, by the place of the edge's symbol. Above an edge on a symbol whose
-/// bound is no more than `MAX_BOUND` none loops.
+/// Bounds of the reductions of relative runs above an edge, by the place of the edge's symbol. Above an edge on a
+/// symbol whose bound is no more than `MAX_BOUND` none loops.
 pub(crate) fn bounds_of(
     alloc: Global,
     table: &Table,

@@ -1,4 +1,4 @@
-//! Relative runs are tried one after another, but for those that bounds tell to end.
+//! Relative runs are tried one after another, but for those of which bounds show that they end.
 ghost use Rattle.std.specs.Prelude.{◌≡◌, ◌<◌, ◌≤◌, length, All, IfOk, OnOk, Some, None, false};
 ghost use Rattle.std.specs.Option.{ForSome};
 ghost use Rattle.std.specs.List.Sorted.{IsPermutation};
@@ -9,10 +9,9 @@ ghost use Rattle.mh_tables_core.specs.Halting.{IsLook, look_list, IsBeginning, b
 ghost use Rattle.mh_tables.specs.code.Relative.{ReducedOr, ReducesNext, StackReduced, StoppedOr, TriedOr, LoopsOr, Waits, LookFound, TokenFound, StateFound, AddsTarget, AreTargets, TestFound};
 ghost use Rattle.mh_tables.specs.code.Passages.{symbol_count, AreSettled};
 
-use crate::passages::{bounds_of, place_of};
+use crate::passages::{MAX_BOUND, bounds_of, place_of};
 use mh_grammar::{Edge, Token};
-use mh_run::{MAX_BOUND, attempts, is_loop, look_tried};
-use mh_tables_core::{Choice, MAX_REDUCTIONS, Table, choose};
+use mh_tables_core::{Action, Choice, MAX_REDUCTIONS, Table, choose};
 use std::alloc::{AllocError, Global};
 
 /// Where a relative run begins: in a state, alone or above another, with this next token or none.
@@ -126,7 +125,7 @@ pub(crate) fn reduced_within(
     ensures known { OnOk result (All (λ s. s < length table.now.states) stack.new.items) }
 {
     begin(table, stack, below, state)?;
-    'tries: for count in 0..attempts(most) {
+    'tries: for count in 0..most + 1 {
         if !reduce_once(table, stack, look)? {
             return Ok(Some(count));
         }
@@ -152,7 +151,7 @@ fn loops(
     ensures known { OnOk result (All (λ s. s < length table.now.states) stack.new.items) }
 {
     let stopped = reduced_within(table, stack, below, state, look, MAX_REDUCTIONS)?;
-    Ok(is_loop(stopped))
+    Ok(stopped.is_none())
 }
 
 /// Whether the relative run makes more than `MAX_REDUCTIONS` reductions with a token, where it stops in a state without
@@ -172,9 +171,9 @@ fn loops_on(
     requires waits { Waits table.now below state top }
     ensures { IfOk result (λ found. LoopsOr table.now below state (Some token) found) }
 {
-    match look_tried(table.action(top, token), token) {
-        Some(look) => loops(table, stack, below, state, look),
-        None => Ok(false),
+    match table.action(top, token) {
+        Action::Reduce(_) => loops(table, stack, below, state, Some(token)),
+        Action::Shift(_) | Action::Refuse => Ok(false),
     }
 }
 
@@ -244,7 +243,7 @@ fn first_start(table: &Table, stack: &mut Vec<u32>) -> Result<Option<RelativeRun
     Ok(None)
 }
 
-/// Adds where an edge of a state leads, unless the bound of its symbol tells that no relative run above it loops.
+/// Adds where an edge of a state leads, unless the bound of its symbol shows that no relative run above the edge loops.
 fn add_target(
     table: &Table,
     bounds: &[u32],

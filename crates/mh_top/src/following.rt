@@ -1,12 +1,12 @@
-//! What follows the warnings: the refusal by `--strict`, or the mode.
+//! What follows the warnings: the refusal under `--strict`, or the mode.
 ghost use Rattle.std.specs.Prelude.{◌≡◌, ◌≤◌};
 ghost use Rattle.std.specs.List.{All};
-ghost use Rattle.mh_top_drive.specs.Steps.{Counts, FileCounts};
+ghost use Rattle.mh_top_drive.specs.code.Steps.{Counts, FileCounts};
 ghost use Rattle.mh_top_plans.specs.Files.{files_of_mode};
-ghost use Rattle.mh_top_plans.specs.Modes.{Followed};
-ghost use Rattle.mh_top_types.specs.Prepared.{IsFit};
-ghost use Rattle.mh_top.specs.Run.{IsTurnBehind};
-ghost use Rattle.mh_top.specs.Work.{IsPlanOf};
+ghost use Rattle.mh_top_plans.specs.code.Modes.{Followed};
+ghost use Rattle.mh_top_types.specs.code.Prepared.{IsFit};
+ghost use Rattle.mh_top_claims.specs.Run.{IsTurnBehind};
+ghost use Rattle.mh_top_claims.specs.Work.{IsPlanOf};
 
 use crate::modes::follow;
 use mh_outside::{Shelf, Sink, Source};
@@ -15,7 +15,7 @@ use mh_top_types::Prepared;
 use mh_top_warnings::is_refused;
 use std::alloc::Global;
 
-/// Does what follows the warnings: under `--strict` a grammar is refused for what is warned of.
+/// Does what follows the warnings. Under `--strict` a grammar with warnings is refused, and no mode begins.
 pub(crate) fn go_on<F: Shelf, I: Source, O: Sink, const W: usize>(
     alloc: Global,
     prepared: &Prepared<W>,

@@ -1,24 +1,25 @@
-//! What follows the warnings, by the job.
+//! The mode of each job.
 ghost use Rattle.std.specs.Prelude.{◌≡◌, ◌≤◌};
 ghost use Rattle.std.specs.List.{All};
-ghost use Rattle.mh_top_drive.specs.Steps.{Counts, FileCounts};
+ghost use Rattle.mh_top_drive.specs.code.Steps.{Counts, FileCounts};
 ghost use Rattle.mh_top_plans.specs.Files.{IsTurnOfJob, files_of_mode};
-ghost use Rattle.mh_top_plans.specs.Modes.{Followed};
+ghost use Rattle.mh_top_plans.specs.code.Modes.{Followed};
 ghost use Rattle.mh_top_plans.specs.Plan.{IsPlanOfJob};
-ghost use Rattle.mh_top_types.specs.Prepared.{IsFit};
+ghost use Rattle.mh_top_types.specs.code.Prepared.{IsFit};
 
 use mh_opts::Job;
 use mh_outside::{Shelf, Sink, Source};
 use mh_top_drive::Stop;
-use mh_top_lists::{count_sample, list_errors};
+use mh_top_lists::{ErrorList, SampleCounts};
 use mh_top_modes::{
-    Pair, compare_errors, compile_errors, echo_errors, explain, export_tables, interpret,
-    run_session, show_automaton, update_errors,
+    AutomatonText, TableFile, compare_errors, compile_errors, echo_errors, explain, interpret,
+    run_session, update_errors,
 };
+use mh_top_plans::{write_at_end, write_made};
 use mh_top_types::Prepared;
 use std::alloc::Global;
 
-/// Does what the job asks for. A mode that reads files of its own takes them from the shelf.
+/// Runs the mode of the job. A mode that reads messages files takes them from the shelf before it writes anything.
 pub(crate) fn follow<F: Shelf, I: Source, O: Sink, const W: usize>(
     alloc: Global,
     prepared: &Prepared<W>,
@@ -41,25 +42,28 @@ pub(crate) fn follow<F: Shelf, I: Source, O: Sink, const W: usize>(
         Job::Interpret => interpret(alloc, prepared, shelf, input, out),
         Job::InterpretError => explain(alloc, prepared, input, out),
         Job::Session => run_session(alloc, prepared, input, out),
-        Job::ShowAutomaton => show_automaton(alloc, prepared, input, out),
-        Job::WriteTables => export_tables(alloc, prepared, input, out),
-        Job::ListErrors => list_errors(alloc, prepared, input, out),
-        Job::Sample { number } => count_sample(alloc, prepared, *number, input, out),
+        Job::ShowAutomaton => write_at_end(alloc, AutomatonText { prepared }, input, out),
+        Job::WriteTables => write_at_end(alloc, TableFile { prepared }, input, out),
+        Job::ListErrors => write_at_end(alloc, ErrorList { prepared }, input, out),
+        Job::Sample { number } => {
+            let number = *number;
+            write_at_end(alloc, SampleCounts { prepared, number }, input, out)
+        }
         Job::CompileErrors { file } => {
-            compile_errors(alloc, prepared, shelf, input, out, file.as_slice())
+            let made = compile_errors(alloc, prepared, shelf, file.as_slice());
+            write_made(alloc, made, input, out)
         }
         Job::CompareErrors { first, second } => {
-            let files = Pair {
-                first: first.as_slice(),
-                second: second.as_slice(),
-            };
-            compare_errors(alloc, prepared, shelf, input, out, files)
+            let made = compare_errors(alloc, prepared, shelf, first.as_slice(), second.as_slice());
+            write_made(alloc, made, input, out)
         }
         Job::EchoErrors { file } => {
-            echo_errors(alloc, prepared, shelf, input, out, file.as_slice())
+            let made = echo_errors(alloc, prepared, shelf, file.as_slice());
+            write_made(alloc, made, input, out)
         }
         Job::UpdateErrors { file } => {
-            update_errors(alloc, prepared, shelf, input, out, file.as_slice())
+            let made = update_errors(alloc, prepared, shelf, file.as_slice());
+            write_made(alloc, made, input, out)
         }
     }
 }

@@ -1,4 +1,4 @@
-//! All that the program does.
+//! The top call: all that the program does.
 ghost use Rattle.std.specs.Prelude.{◌≡◌, ◌≤◌, ◌*◌, List, length, map, string_bytes};
 ghost use Rattle.std.specs.List.{All};
 ghost use Rattle.mh_grammar.specs.Costs.{HaveCosts};
@@ -7,15 +7,15 @@ ghost use Rattle.mh_rules.specs.declared.joined.TheConstants.{MAX_TOKENS};
 ghost use Rattle.mh_validate_valid.specs.Valid.{AreNamesApart};
 ghost use Rattle.mh_grammar.specs.Text.{Text};
 ghost use Rattle.mh_top_drive.specs.Causes.{Go};
-ghost use Rattle.mh_top.specs.Claims.{Keeps};
-ghost use Rattle.mh_top.specs.ErrorLists.{ListsErrorsExactly};
-ghost use Rattle.mh_top.specs.Exact.{AcceptsExactly, RejectsRightly, OvershootsRightly, AcceptsRightly, TooDeepExactly};
+ghost use Rattle.mh_top_claims.specs.Claims.{Keeps};
+ghost use Rattle.mh_top_claims.specs.ErrorLists.{ListsErrorsExactly};
+ghost use Rattle.mh_top_claims.specs.Exact.{AcceptsExactly, RejectsRightly, OvershootsRightly, AcceptsRightly, TooDeepExactly};
 ghost use Rattle.mh_top_plans.specs.Files.{files_of_mode};
-ghost use Rattle.mh_top_claims.specs.TableTurns.{AsksForTables};
-ghost use Rattle.mh_top.specs.Asking.{AsksFor};
-ghost use Rattle.mh_top.specs.Run.{world, Ran};
-ghost use Rattle.mh_top.specs.Saying.{Worked};
-ghost use Rattle.mh_top_types.specs.Prepared.{IsFit};
+ghost use Rattle.mh_top_tables.specs.Turns.{AsksForTables};
+ghost use Rattle.mh_top_claims.specs.Asking.{AsksFor};
+ghost use Rattle.mh_top_claims.specs.Run.{world, Ran};
+ghost use Rattle.mh_top_claims.specs.code.Saying.{Worked};
+ghost use Rattle.mh_top_types.specs.code.Prepared.{IsFit};
 ghost use Rattle.mh_top_load.specs.FrontStage.{IsFront};
 ghost use Rattle.mh_top_claims.specs.Preparing.{IsPrepared};
 
@@ -29,7 +29,7 @@ use mh_top_types::{Front, Prepared};
 use mh_top_warnings::{report, warn};
 use std::alloc::Global;
 
-/// The work behind the table: the warnings, and the mode.
+/// The work after the table: the warnings, and the mode.
 fn work_with<F: Shelf, I: Source, O: Sink, E: Sink, const W: usize>(
     alloc: Global,
     prepared: &Prepared<W>,
@@ -55,8 +55,8 @@ fn work_with<F: Shelf, I: Source, O: Sink, E: Sink, const W: usize>(
     }
 }
 
-/// The work behind the grammar: its table, the warnings, and the mode. What was prepared is let go by one call: the end of a scope lets
-/// go of each field by itself, which takes long to prove.
+/// The work after the grammar: its table, the warnings, and the mode. `drop` lets what was prepared go at once,
+/// because letting go of field after field at the end of the scope takes long to prove.
 fn work_on<F: Shelf, I: Source, O: Sink, E: Sink, const W: usize>(
     alloc: Global,
     front: Front,
@@ -90,7 +90,7 @@ fn work_on<F: Shelf, I: Source, O: Sink, E: Sink, const W: usize>(
     }
 }
 
-/// The work behind the grammar, at the least width of sets of tokens.
+/// The work after the grammar, with sets of tokens of the least width.
 fn work_at_width<F: Shelf, I: Source, O: Sink, E: Sink>(
     alloc: Global,
     front: Front,
@@ -116,7 +116,7 @@ fn work_at_width<F: Shelf, I: Source, O: Sink, E: Sink>(
     with_width!(front.grammar.tokens.len(); work_on; F, I, O, E; alloc, front, shelf, input, out, err)
 }
 
-/// The work up to its last line on err.
+/// All of the work but its last line on err.
 fn work<F: Shelf, I: Source, O: Sink, E: Sink>(
     alloc: Global,
     words: &[String],
@@ -140,7 +140,7 @@ fn work<F: Shelf, I: Source, O: Sink, E: Sink>(
     }
 }
 
-/// Does what the words ask for, and tells how that ended.
+/// All of the work, with its last line on err and its status.
 fn run<F: Shelf, I: Source, O: Sink, E: Sink>(
     alloc: Global,
     words: &[String],
@@ -163,10 +163,10 @@ fn run<F: Shelf, I: Source, O: Sink, E: Sink>(
     }
 }
 
-/// Does what the words ask for, over any shelf, input and outputs, and gives the exit status, one of `status`: 0 done,
-/// 1 refused, 2 misused, 3 a read fault, 4 a write fault, 5 too big, 6 want of memory. The words are those of the command
-/// line without the program's name. The shelf is asked for the files that the words name, and for nothing else. The lines of
-/// the input are answered one after the other, each before the next is read.
+/// Does what the words ask for, over any shelf, input and outputs, and gives the exit status, one of `status`: 0
+/// done, 1 refused, 2 misused, 3 a read fault, 4 a write fault, 5 too big, 6 want of memory. The words are those of
+/// the command line without the program's name. The shelf is asked for the files that the words name, and for nothing
+/// else. The lines of the input are answered one after the other, each before the next is read.
 pub fn menhir<F: Shelf, I: Source, O: Sink, E: Sink>(
     alloc: Global,
     words: &[String],

@@ -7,7 +7,8 @@ use Rattle.mh_top_plans.specs.Verdicts.{Answering}
 use Rattle.mh_top_plans.specs.Plan.{Plan, Judges, Answers, by_plan}
 use Rattle.mh_top_drive.specs.Ways.{AnswersAll}
 use Rattle.mh_top_claims.specs.AtLine.{IsAnsweredAt, HasVerdictAt}
-use Rattle.mh_top_claims.specs.Work.{Work, IsPlanUnless, IsWork, IsWorkOf, has_warning}
+use Rattle.mh_top_claims.specs.Work.{Work, IsPlanUnless, IsWork, IsWorkOf}
+use Rattle.mh_top_warnings.specs.Warnings.{has_warning}
 use Rattle.mh_top_claims.specs.Preparing.{IsPrepared}
 use Rattle.mh_top_types.specs.Shapes.{Prepared}
 use Rattle.mh_top_plans.proofs.Reading.{Runs}

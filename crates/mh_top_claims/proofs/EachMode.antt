@@ -20,15 +20,15 @@ use Rattle.mh_top_drive.specs.declared.stop.Cause.TheVariants.{Refused}
 use Rattle.mh_top_drive.proofs.Binding.{IsOne}
 use Rattle.mh_top_drive.specs.FileStage.{IsFile, IsFound, loaded}
 use Rattle.mh_top_types.specs.Shapes.{Prepared}
-use Rattle.mh_top_plans.specs.Told.{ending_of}
+use Rattle.mh_top_plans.specs.FinalText.{ending_of}
 use Rattle.mh_top_plans.specs.Compared.{compared}
 use Rattle.mh_top_plans.specs.Files.{files_of_job, named}
 use Rattle.mh_top_plans.specs.Listing.{ListsErrors, Lists, TooLong, too_long}
 use Rattle.mh_top_plans.specs.MessagesStage.{AreBoth, AreMessages, IsMessagesFile, IsUpdatedFile, Messages}
-use Rattle.mh_top_plans.specs.Plan.{Answers, Automaton, End, Ends, EndsBy, EndsWith, Errors, Explains, IsPlanOfJob, Judges, Known, MessagesFor, Plan, Serves, halts, judges, plan_by, tables_of, tells, Sampled}
+use Rattle.mh_top_plans.specs.Plan.{Answers, Automaton, End, Ends, EndsBy, EndsWith, Errors, Explains, IsPlanOfJob, Judges, Known, MessagesFor, Plan, Serves, halts, judges, plan_by, tables_of, writes_final, Sampled}
 use Rattle.mh_top_plans.specs.Verdicts.{Answering}
-use Rattle.mh_top_plans.specs.declared.at_end.Told.{Told}
-use Rattle.mh_top_plans.specs.declared.at_end.Told.TheVariants.{Said, Not}
+use Rattle.mh_top_plans.specs.declared.at_end.FinalText.{FinalText}
+use Rattle.mh_top_plans.specs.declared.at_end.FinalText.TheVariants.{Written, Refusal}
 use Rattle.mh_top_claims.proofs.Answering.{one_once}
 use Rattle.mh_top_plans.proofs.Messaging.{checking, for_unread_halts, messages_for_once, messages_for_right, named_turn, some_checked, some_messages_for, some_spelled, spelling}
 use Rattle.mh_top_claims.proofs.Both.{two_files}
@@ -36,7 +36,7 @@ use Rattle.mh_top_claims.proofs.Updated.{one_updated}
 use Rattle.mh_top_plans.proofs.Reading.{IsRead, Runs, StagedRight, one_file}
 use Rattle.mh_top_plans.proofs.Turning.{Turn, no_turn, turn_of_named}
 use Rattle.mh_top_claims.proofs.Refusals.{list_cause_once, list_out_once}
-use Rattle.mh_top_claims.proofs.Explained.{told_once}
+use Rattle.mh_top_claims.proofs.Explained.{final_once}
 use Rattle.mh_top_claims.proofs.Counts.{counts_cause_once, counts_out_once, counts_right}
 
 -- ---- for which causes a mode may end
@@ -51,9 +51,9 @@ module _ (Right : Cause → Type 0) where
   EndsRight (Ends (Known e)) = IsRight e.cause
   EndsRight plan = ⊤
 
-told_right : (Right : Cause → Type 0) → ((line : Text) → Right (Refused line)) → (told : Told) → IsRight Right (ending_of told).cause
-told_right Right may (Said text) = tt
-told_right Right may (Not line) = may line
+final_right : (Right : Cause → Type 0) → ((line : Text) → Right (Refused line)) → (told : FinalText) → IsRight Right (ending_of told).cause
+final_right Right may (Written text) = tt
+final_right Right may (Refusal line) = may line
 
 -- ---- a job has a plan, and one alone over given files
 
@@ -130,16 +130,16 @@ facts_of Interpret p = judging p p.order.messages
 facts_of InterpretError p = fixed p (Explains p []) (λ by is. cc) (λ Right. tt)
 facts_of Session p = fixed p (Serves p.grammar p.tabled.halting []) (λ by is. cc) (λ Right. tt)
 facts_of ShowAutomaton p = fixed p (Ends (Automaton p)) (λ by is. cc) (λ Right. tt)
-facts_of WriteTables p = fixed p (tells (Said (tables_of p))) (λ by is. cc) (λ Right. tt)
+facts_of WriteTables p = fixed p (writes_final (Written (tables_of p))) (λ by is. cc) (λ Right. tt)
 facts_of ListErrors p = fixed p (Ends (Errors p)) (λ by is. cc) (λ Right. tt)
 facts_of (Sample number) p = fixed p (Ends (Sampled number p)) (λ by is. cc) (λ Right. tt)
-facts_of (CompileErrors file) p = reading p (file ∷ []) (λ files. IsFile files (AreMessages p.grammar p.tabled.halting) file) (one_checked p file) (λ messages. tells (Said (compiled_text messages))) (λ messages by is. cc) (λ Right may messages. tt)
+facts_of (CompileErrors file) p = reading p (file ∷ []) (λ files. IsFile files (AreMessages p.grammar p.tabled.halting) file) (one_checked p file) (λ messages. writes_final (Written (compiled_text messages))) (λ messages by is. cc) (λ Right may messages. tt)
 facts_of (EchoErrors file) p =
-    reading p (file ∷ []) (λ files. IsFile files (IsMessagesFile p.grammar) file) (one_file p file (IsMessagesFile p.grammar) (spelling p.grammar) (λ runs name bytes short. some_spelled p.grammar name bytes)) (λ spelled. tells (Said (echo_text p.grammar spelled))) (λ spelled by is. cc)
+    reading p (file ∷ []) (λ files. IsFile files (IsMessagesFile p.grammar) file) (one_file p file (IsMessagesFile p.grammar) (spelling p.grammar) (λ runs name bytes short. some_spelled p.grammar name bytes)) (λ spelled. writes_final (Written (echo_text p.grammar spelled))) (λ spelled by is. cc)
     (λ Right may spelled. tt)
-facts_of (UpdateErrors file) p = reading p (file ∷ []) (λ files. IsUpdatedFile files p file) (one_updated p file) (λ text. tells (Said text)) (λ text by is. cc) (λ Right may text. tt)
+facts_of (UpdateErrors file) p = reading p (file ∷ []) (λ files. IsUpdatedFile files p file) (one_updated p file) (λ text. writes_final (Written text)) (λ text by is. cc) (λ Right may text. tt)
 facts_of (CompareErrors first second) p =
-    reading p (first ∷ second ∷ []) (λ files. AreBoth files p first second) (two_files p first second) (λ both. tells (compared first second (missing both.0 both.1))) (λ both by is. cc) (λ Right may both. told_right Right may (compared first second (missing both.0 both.1)))
+    reading p (first ∷ second ∷ []) (λ files. AreBoth files p first second) (two_files p first second) (λ both. writes_final (compared first second (missing both.0 both.1))) (λ both by is. cc) (λ Right may both. final_right Right may (compared first second (missing both.0 both.1)))
 
 -- ---- an end is one
 
@@ -185,7 +185,7 @@ module _ (line : Text) where
       let same = line_once g t branches line a c p.0 q.0 p.1 q.1 in (same.0, p.2 ∙ ap (λ (after : Branches). Serves g t after) same.1 ∙ sym q.2)
 
 explained_once : (p : Prepared) (line : Text) (x y : Finish) → EndsWith (Explains p line) x → EndsWith (Explains p line) y → x ≡ y
-explained_once p line x y is so = is.2 ∙ ap ending_of (told_once p line is.0 so.0 is.1 so.1) ∙ sym so.2
+explained_once p line x y is so = is.2 ∙ ap ending_of (final_once p line is.0 so.0 is.1 so.1) ∙ sym so.2
 
 pub cause_once : (plan : Plan) (x y : Finish) → EndsWith plan x → EndsWith plan y → x.cause ≡ y.cause
 cause_once (Ends end) x y is so = (end_facts end).cause x y is so
@@ -211,5 +211,5 @@ module _ (Right : Cause → Type 0) (may_refuse : (line : Text) → Right (Refus
   pub ends_right : (plan : Plan) (e : Finish) → EndsRight Right plan → EndsWith plan e → IsRight Right e.cause
   ends_right (Ends end) e right is = (end_facts end).right Right may_refuse e right is
   ends_right (Judges by) e right is = subst (IsRight Right) (sym (ap (λ (x : Finish). x.cause) is)) tt
-  ends_right (Explains p line) e right is = subst (IsRight Right) (sym (ap (λ (x : Finish). x.cause) is.2)) (told_right Right may_refuse is.0)
+  ends_right (Explains p line) e right is = subst (IsRight Right) (sym (ap (λ (x : Finish). x.cause) is.2)) (final_right Right may_refuse is.0)
   ends_right (Serves g t branches) e right is = subst (IsRight Right) (sym (ap (λ (x : Finish). x.cause) is)) tt

@@ -22,13 +22,17 @@ use Rattle.mh_top_drive.specs.Turns.{IsSpelled, IsTurn}
 use Rattle.mh_top_claims.specs.TableTurns.{IsTablesTurn}
 use Rattle.mh_top_load.specs.GrammarStage.{IsGrammarStage}
 use Rattle.mh_tabfile_form.specs.declared.types.RawTable.{RawTable}
-use Rattle.mh_top_tables.specs.TableFile.{IsTableFile}
-use Rattle.mh_top_tables.specs.TableStage.{IsAutomatonStage, IsResolvedStage, IsSource, IsSourceBy, IsTableStage, mode_of}
+use Rattle.mh_top_tables.specs.FileContent.{IsTableFile}
+use Rattle.mh_top_tables.specs.TableStage.{IsAutomatonStage, IsTableStage, mode_of}
+use Rattle.mh_top_tables.specs.Tabled.{IsResolvedStage}
+use Rattle.mh_top_tables.specs.Sources.{IsSource, IsSourceBy}
 use Rattle.mh_top_drive.specs.Ways.{Finish, AnswersAll, AsksFor, EndsBehind, Outcome, Yields}
 use Rattle.mh_top_plans.specs.Plan.{Plan, EndsWith, asks_of, halts, by_plan}
-use Rattle.mh_top_claims.specs.Work.{Work, IsPlanUnless, IsWork, IsWorkOf, has_warning, warnings_of}
+use Rattle.mh_top_claims.specs.Work.{Work, IsPlanUnless, IsWork, IsWorkOf}
+use Rattle.mh_top_warnings.specs.Warnings.{has_warning, warnings_of}
 use Rattle.mh_top_load.specs.FrontStage.{IsFront}
-use Rattle.mh_top_claims.specs.Preparing.{IsPrepared, IsTabledFrom, IsTabledFront}
+use Rattle.mh_top_claims.specs.Preparing.{IsPrepared}
+use Rattle.mh_top_tables.specs.Preparing.{IsTabledFrom, IsTabledFront}
 use Rattle.mh_top_claims.specs.Run.{err_of, IsDue, OfGrammar, OfTables, OfMode, IsTurnBehind, IsTurnUnless}
 use Rattle.mh_top_claims.specs.Claims.{AsksLines, HoldsFile, IsPast}
 use Rattle.mh_top_drive.specs.declared.driving.Asks.{Asks}

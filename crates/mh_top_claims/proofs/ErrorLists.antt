@@ -15,7 +15,8 @@ use Rattle.mh_top_claims.specs.Run.{World, Does, err_of}
 use Rattle.mh_top_claims.specs.Run as runs
 use Rattle.mh_top_types.specs.Shapes.{Prepared}
 use Rattle.mh_grammar.specs.Text.{Text}
-use Rattle.mh_top_claims.specs.Work.{Work, IsPlanUnless, IsWork, IsWorkOf, has_warning, warnings_of}
+use Rattle.mh_top_claims.specs.Work.{Work, IsPlanUnless, IsWork, IsWorkOf}
+use Rattle.mh_top_warnings.specs.Warnings.{has_warning, warnings_of}
 use Rattle.mh_top_claims.specs.Preparing.{IsPrepared}
 use Rattle.mh_top_drive.specs.declared.driving.Asks.TheVariants.{NoLine}
 use Rattle.mh_top_drive.specs.declared.stop.Cause.{Cause}

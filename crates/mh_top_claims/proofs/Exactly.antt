@@ -11,7 +11,7 @@ use Rattle.mh_items_kernels.specs.Shapes.{Automaton, Kernel}
 use Rattle.mh_items_kernels.specs.Automaton.{IsAutomaton, kernel_at}
 use Rattle.mh_canon_states.specs.Canonical.{IsCanonical, IsOver}
 use Rattle.mh_canon_states.specs.declared.limits.TheConstants.{MAX_STATES}
-use Rattle.mh_canon_states.specs.Found.{IsState, AreStates}
+use Rattle.mh_canon_states.specs.code.Found.{IsState, AreStates}
 use Rattle.mh_canon_states.proofs.Finished.{kernel_got}
 use Rattle.mh_canon_states.proofs.Meaning.{IsAutomaton-canonical}
 use Rattle.mh_canon_states.proofs.Only.{one_canonical}
@@ -37,8 +37,9 @@ use Rattle.mh_outside.specs.Shelf.{Files}
 use Rattle.std.proofs.lemmas.List.Elements.{All-cons, All-head, All-nil}
 use Rattle.mh_grammar.specs.Text.{Text}
 use Rattle.mh_top_drive.specs.Causes.{Staged, Go, Halt, On, Then, Gives}
-use Rattle.mh_top_tables.specs.TableStage.{IsAutomatonStage, IsResolvedStage, mode_of}
-use Rattle.mh_top_tables.specs.TableFile.{IsBuilt, IsNumbered}
+use Rattle.mh_top_tables.specs.TableStage.{IsAutomatonStage, mode_of}
+use Rattle.mh_top_tables.specs.Tabled.{IsResolvedStage}
+use Rattle.mh_top_tables.specs.code.Sources.{IsBuilt, IsNumbered}
 use Rattle.mh_top_claims.proofs.Made.{IsMade, made}
 use Rattle.mh_validate_valid.proofs.Giving.{automaton_of}
 use Rattle.mh_resolve_cells.specs.declared.kinds.Mode.{Mode}
@@ -47,10 +48,11 @@ use Rattle.mh_msgfile.proofs.Below.{sentence_start}
 use Rattle.mh_top_plans.specs.Verdicts.{Answering, FoundBy, SentenceText, behind_refusal, verdict_text, outcome_text}
 use Rattle.mh_top_plans.specs.MessagesStage.{Messages}
 use Rattle.mh_top_plans.specs.Plan.{Judges, halts}
-use Rattle.mh_top_claims.specs.Work.{Work, IsPlanUnless, IsWork, IsWorkOf, has_warning, warnings_of}
+use Rattle.mh_top_claims.specs.Work.{Work, IsPlanUnless, IsWork, IsWorkOf}
+use Rattle.mh_top_warnings.specs.Warnings.{has_warning, warnings_of}
 use Rattle.mh_top_claims.specs.Preparing.{IsPrepared}
 use Rattle.mh_top_claims.specs.Exact.{IsClear, IsClearTable, IsLR1, NameNoTables, AnswersSentence, Accepts, Rejects, IsTooDeepText, ShowsTree, AcceptsExactly, RejectsRightly, OvershootsRightly, AcceptsRightly, TooDeepExactly, HasNoLevels, ClearWhereUnwarned}
-use Rattle.mh_top_types.specs.Prepared.{IsFit}
+use Rattle.mh_top_types.specs.code.Prepared.{IsFit}
 use Rattle.mh_top_types.specs.Shapes.{Prepared}
 use Rattle.mh_top_drive.specs.declared.stop.Cause.{Cause}
 use Rattle.mh_top_tables.specs.declared.sources.Source.{Source}

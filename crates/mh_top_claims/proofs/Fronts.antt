@@ -13,7 +13,8 @@ use Rattle.mh_validate_valid.specs.Valid.{AreNamesApart}
 use Rattle.mh_grammar.specs.Text.{Text}
 use Rattle.mh_top_drive.specs.Causes.{Staged, Go, Halt, On, Then, Gives}
 use Rattle.mh_top_load.specs.GrammarStage.{IsGrammarStage}
-use Rattle.mh_top_load.specs.Modules.{AreModules, HasCapitals, sample_of}
+use Rattle.mh_top_load.specs.Modules.{AreModules, sample_of}
+use Rattle.mh_top_load.specs.code.Capitals.{HasCapitals}
 use Rattle.mh_top_load.specs.Order.{staged_order}
 use Rattle.mh_top_load.specs.FrontStage.{IsFront}
 use Rattle.mh_top_types.specs.declared.front.Front.{Front}

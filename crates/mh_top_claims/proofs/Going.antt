@@ -7,19 +7,22 @@ use Rattle.mh_outside.specs.Shelf.{Files}
 use Rattle.mh_grammar.specs.Text.{Text}
 use Rattle.mh_top_drive.specs.Causes.{Staged, Go, Halt, Then, Gives}
 use Rattle.mh_top_load.specs.Order.{staged_order}
-use Rattle.mh_top_load.specs.GrammarTurns.{IsGrammarTurn}
+use Rattle.mh_top_load.specs.code.GrammarTurns.{IsGrammarTurn}
 use Rattle.mh_top_plans.specs.Plan.{Plan, IsPlanOfJob, halts, by_plan}
 use Rattle.mh_top_plans.specs.Files.{IsTurnOfJob}
 use Rattle.mh_top_plans.proofs.Following.{ended_halts}
-use Rattle.mh_top_drive.specs.Stages.{FilesGive, ShelfCounts, StageHas, Halts as HaltsWith}
+use Rattle.mh_top_drive.specs.code.Stages.{FilesGive, ShelfCounts, StageHas, Halts as HaltsWith}
 use Rattle.mh_top_load.specs.FrontStage.{IsFront}
-use Rattle.mh_top_claims.specs.Preparing.{IsPrepared, IsTabledFront}
-use Rattle.mh_top_claims.specs.Work.{IsPlanOf, IsPlanUnless, Work, has_warning, warnings_of}
+use Rattle.mh_top_claims.specs.Preparing.{IsPrepared}
+use Rattle.mh_top_tables.specs.Preparing.{IsTabledFront}
+use Rattle.mh_top_claims.specs.Work.{IsPlanOf, IsPlanUnless, Work}
+use Rattle.mh_top_warnings.specs.Warnings.{has_warning, warnings_of}
 use Rattle.mh_top_drive.specs.Ways.{left_behind}
-use Rattle.mh_top_drive.specs.Drive.{Ended, LeftIs, Ran}
-use Rattle.mh_top_drive.specs.Steps.{Counts, FileCounts, OutCounts}
-use Rattle.mh_top_plans.specs.Modes.{Followed, IsUnopened}
-use Rattle.mh_top_claims.specs.Saying.{Warned, Worked}
+use Rattle.mh_top_drive.specs.Drive.{Ended, LeftIs}
+use Rattle.mh_top_drive.specs.code.Steps.{ModeRan, Counts, FileCounts, OutCounts}
+use Rattle.mh_top_plans.specs.code.Modes.{Followed, IsUnopened}
+use Rattle.mh_top_warnings.specs.code.Warnings.{Warned}
+use Rattle.mh_top_claims.specs.code.Saying.{Worked}
 use Rattle.mh_top_claims.specs.Run.{World, Behind, Nothing, Warned as Said, Begun, IsDue, OfGrammar, OfTables, OfMode, IsStill, IsTurnBehind, IsTurnUnless}
 use Rattle.mh_top_types.specs.declared.front.Front.{Front}
 use Rattle.mh_top_types.specs.Shapes.{Prepared}
@@ -112,7 +115,7 @@ module _ (words : List Text) (b a : World) (p : Prepared) (is : IsPrepared words
     behind : (At : Work → Type 0) → At (record { warnings = warnings_of p; plan = plan }) → Behind words b At (Appends b.err a.err)
     behind At at = record { work = record { warnings = warnings_of p; plan = plan }; is_asked = (Go p, is, (refl, is_plan)); at = at; on_err = on_err }
 
-    plan_ran : (r : Result (Unit {0}) Stop) → Ran by_plan plan b.left a.left b.out a.out r → Counts b.input_faults a.input_faults b.out_faults a.out_faults r → FileCounts b.shelf_faults a.shelf_faults r → Worked words b a r
+    plan_ran : (r : Result (Unit {0}) Stop) → ModeRan by_plan plan b.left a.left b.out a.out r → Counts b.input_faults a.input_faults b.out_faults a.out_faults r → FileCounts b.shelf_faults a.shelf_faults r → Worked words b a r
     plan_ran (Ok u) ran counts read = (record { shelf = read; input = counts.0; out = counts.1; err = err_calm }, behind _ ran)
     plan_ran (Err (Halted cause)) ran counts read = (record { shelf = read; input = counts.0; out = counts.1; err = err_calm }, behind _ ran)
     plan_ran (Err (ShelfFailed name)) ran counts read = absurd ran

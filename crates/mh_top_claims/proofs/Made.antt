@@ -9,10 +9,11 @@ use Rattle.mh_top_load.specs.FrontStage.{IsFront}
 use Rattle.mh_top_types.specs.declared.front.Front.{Front}
 use Rattle.mh_top_claims.proofs.Fronts.{IsGrammarReady, front_order, front_ready}
 use Rattle.mh_top_types.specs.Shapes.{Prepared, Tabled}
-use Rattle.mh_top_claims.specs.Preparing.{IsPrepared, IsTabledFrom, IsTabledFront}
-use Rattle.mh_top_tables.specs.TableFile.{IsBuilt}
+use Rattle.mh_top_claims.specs.Preparing.{IsPrepared}
+use Rattle.mh_top_tables.specs.Preparing.{IsTabledFrom, IsTabledFront}
+use Rattle.mh_top_tables.specs.code.Sources.{IsBuilt, IsNumbered}
 use Rattle.mh_top_tables.specs.TableStage.{IsTableStage}
-use Rattle.mh_top_tables.specs.Sources.{IsNumbered, IsSource}
+use Rattle.mh_top_tables.specs.Sources.{IsSource}
 use Rattle.mh_top_tables.specs.declared.sources.Source.{Source}
 use Rattle.mh_top_tables.proofs.Sourced.{source_built, source_numbered}
 

@@ -5,7 +5,8 @@ use Rattle.mh_grammar.specs.Text.{Text}
 use Rattle.mh_top_drive.specs.Causes.{Staged, Go, Halt}
 use Rattle.mh_top_plans.specs.Plan.{Plan, asks_of, by_plan}
 use Rattle.mh_top_drive.specs.Ways.{AnswersAll, AsksFor, EndsBehind, Outcome, Yields, left_behind}
-use Rattle.mh_top_claims.specs.Work.{Work, IsPlanUnless, IsWork, IsWorkOf, has_warning}
+use Rattle.mh_top_claims.specs.Work.{Work, IsPlanUnless, IsWork, IsWorkOf}
+use Rattle.mh_top_warnings.specs.Warnings.{has_warning}
 use Rattle.mh_top_claims.specs.Preparing.{IsPrepared}
 use Rattle.mh_top_drive.specs.declared.driving.Asks.{Asks}
 use Rattle.mh_top_drive.specs.declared.driving.Asks.TheVariants.{NoLine, FirstLine, EachLine}

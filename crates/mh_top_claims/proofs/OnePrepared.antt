@@ -9,7 +9,8 @@ use Rattle.mh_top_claims.proofs.Fronts.{front_ready}
 use Rattle.mh_top_claims.proofs.OneFront.{front_once}
 use Rattle.mh_top_types.specs.declared.front.Front.{Front}
 use Rattle.mh_top_claims.proofs.OneTabled.{tabled_front_once}
-use Rattle.mh_top_claims.specs.Preparing.{IsPrepared, IsTabledFront}
+use Rattle.mh_top_claims.specs.Preparing.{IsPrepared}
+use Rattle.mh_top_tables.specs.Preparing.{IsTabledFront}
 
 pub prepared_once : (words : List Text) (files : Files) → IsOne (IsPrepared words (Some files))
 prepared_once words files s r p q = at p.0 q.0 (front_once words files p.0 q.0 p.1 q.1) p.1 p.2 q.2

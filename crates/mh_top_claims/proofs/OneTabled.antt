@@ -32,9 +32,11 @@ use Rattle.mh_validate_valid.specs.Valid.{AreNamesApart, IsValidFor}
 use Rattle.mh_validate_valid.proofs.Apart.{apart}
 use Rattle.mh_validate_valid.proofs.Once.{automaton_is_one, test_is_one}
 use Rattle.mh_top_types.specs.Shapes.{Tabled}
-use Rattle.mh_top_tables.specs.TableTexts.{invalid_line, loops_line}
+use Rattle.mh_top_tables.specs.TableTexts.{invalid_line}
+use Rattle.mh_top_tables.specs.Loops.{loops_line}
 use Rattle.mh_top_tables.specs.TableFile.{IsInvalid}
-use Rattle.mh_top_tables.specs.TableStage.{AreTabled, IsAutomatonStage, IsResolvedStage, IsTableStage, LoopsFirst, mode_of}
+use Rattle.mh_top_tables.specs.Tabled.{AreTabled, IsResolvedStage, LoopsFirst}
+use Rattle.mh_top_tables.specs.TableStage.{IsAutomatonStage, IsTableStage, mode_of}
 use Rattle.mh_top_tables.specs.FormTexts.{table_line}
 use Rattle.mh_top_tables.specs.FileContent.{HasTableFault, IsTableFile}
 use Rattle.mh_top_tables.specs.Sources.{IsSource, IsSourceBy, built_by}

@@ -9,11 +9,12 @@ use Rattle.mh_outside.proofs.Pieces.{Appends-append}
 use Rattle.mh_grammar.specs.Text.{Text}
 use Rattle.mh_top_drive.specs.Text.{cannot_read, cannot_read_input, out_of_memory}
 use Rattle.mh_top_drive.specs.Statuses.{code_of, line_of, said, status_of}
-use Rattle.mh_top_claims.specs.Work.{Work, warnings_of}
+use Rattle.mh_top_claims.specs.Work.{Work}
+use Rattle.mh_top_warnings.specs.Warnings.{warnings_of}
 use Rattle.mh_top_claims.specs.Run.{World, Ran, Finished, CannotReadFile, CannotReadInput, CannotWarn, CannotWrite, CannotSay, NoMemory, Behind, Done, Nothing, Warned, Begun, OfCause, OfFile, OfInput, OfMemory, IsQuiet}
 use Rattle.mh_top_warnings.proofs.Lines.{prefix_behind}
-use Rattle.mh_top_warnings.specs.LastLine.{LastLine, Reported, Said, Silent, Failed}
-use Rattle.mh_top_claims.specs.Saying.{Worked}
+use Rattle.mh_top_warnings.specs.code.LastLine.{LastLine, Reported, Said, Silent, Failed}
+use Rattle.mh_top_claims.specs.code.Saying.{Worked}
 use Rattle.mh_top_drive.specs.declared.stop.Cause.{Cause}
 use Rattle.mh_top_drive.specs.declared.stop.Stop.{Stop}
 use Rattle.mh_top_drive.specs.declared.stop.Stop.TheVariants.{Halted, ShelfFailed, InputFailed, WriteFailed, OutOfMemory}

@@ -12,8 +12,7 @@ use Rattle.mh_grammar.specs.declared.types.Look.TheVariants.{Token, End}
 use Rattle.mh_grammar.specs.ItemSets.{ItemSet}
 use Rattle.mh_items_kernels.specs.Shapes.{Automaton}
 use Rattle.mh_resolve_cells.specs.Names.{look_name}
-use Rattle.mh_grammar_texts.specs.Conflicts.{conflict_place}
-use Rattle.mh_report_notation.specs.Warnings.{warning_line}
+use Rattle.mh_report_notation.specs.Warnings.{conflict_place, warning_line}
 use Rattle.mh_report.specs.Warnings.{warning_lines}
 use Rattle.mh_tables_core.specs.declared.parts.Action.{Action}
 use Rattle.mh_tables_core.specs.declared.parts.Action.TheVariants.{Shift, Reduce, Refuse}

@@ -1,11 +1,11 @@
--- From a text to the line of each answer in it: the text is a front, the answer of the line, and the rest.
+-- The place of each line's answer in the text that answers many lines.
 use Rattle.std.specs.Prelude.{◌≡◌, List, ◌++◌}
 use Rattle.mh_grammar.specs.Text.{Text}
 use Rattle.mh_top_plans.specs.Verdicts.{Answering, AnswersOne}
 use Rattle.mh_top_plans.specs.Plan.{Plan, Judges, Answers, by_plan}
 use Rattle.mh_top_drive.specs.Ways.{AnswersAll}
 
--- the lines before this one are answered by the front, and those behind it by the rest
+-- The text is made of the answers to the lines before, the answer to this line, and the answers to the lines after.
 pub record IsAnsweredAt (plan : Plan) (before : List Text) (line : Text) (after : List Text) (text : Text) (last : Plan) : Type 0 where
   pub front : Text
   pub answer : Text
@@ -17,7 +17,7 @@ pub record IsAnsweredAt (plan : Plan) (before : List Text) (line : Text) (after 
   pub all_after : AnswersAll by_plan next after rest last
   pub text_is : text ≡ front ++ (answer ++ rest)
 
--- it stands there with its verdict
+-- The answer to this line is that of its verdict alone.
 pub record HasVerdictAt (by : Answering) (before : List Text) (line : Text) (after : List Text) (text : Text) : Type 0 where
   pub front : Text
   pub answer : Text

@@ -21,31 +21,32 @@ use Rattle.mh_top_drive.specs.declared.driving.Asks.{Asks}
 use Rattle.mh_top_drive.specs.declared.driving.Asks.TheVariants.{NoLine}
 use Rattle.mh_top_drive.specs.declared.stop.Cause.TheVariants.{Misused}
 
--- what stands under the name of the file whose turn it is, in the files that are told or in some
+-- what the shelf has under the name of the file whose turn it is
 abbrev pub HoldsFile : List Text → Found → Option Files → Type 0
 HoldsFile words what files = (front name : Text) × IsDue words files front name × IsFound files name what
 
--- the files are told, and the one whose turn it is is not among them
+-- The files are known, and the file whose turn it is is not among them.
 abbrev pub IsAbsent : List Text → Option Files → Type 0
 IsAbsent words files = HoldsFile words NoFile files
 
--- the file whose turn it is passes its limit
+-- The file whose turn it is passes its limit.
 abbrev pub IsLongFile : List Text → Option Files → Type 0
 IsLongFile words files = HoldsFile words Long files
 
+-- The mode asks for lines.
 abbrev pub AsksLines : Plan → Type 0
 AsksLines plan = asks_of plan ≡ NoLine → ⊥
 
--- a line that is asked for passes its limit, or there are too many, where the input is told
+-- Where the input is known: a line that is asked for passes its limit, or there are too many lines.
 abbrev pub IsPast : Asks → Option Text → Type 0
 IsPast asks None = ⊤
 IsPast asks (Some input) = is_small LINE_LIMIT (most asks) (wanted asks (most asks) (split input)) ≡ false
 
--- the work asked for asks for lines of an input that passes a limit
+-- The work that is asked for reads lines of an input that passes a limit.
 abbrev pub IsLongInput : List Text → World → Type 0
 IsLongInput words before = (w : Work) × IsWork words before.files w × AsksLines w.plan × IsPast (asks_of w.plan) before.left
 
--- no count rose or stands at its last value
+-- No count of faults rose or is at its last value.
 pub record AllCalm (before now : World) : Type 0 where
   pub shelf : IsCalm before.shelf_faults now.shelf_faults
   pub input : IsCalm before.input_faults now.input_faults
@@ -56,65 +57,66 @@ pub record AllCalm (before now : World) : Type 0 where
 abbrev pub Completes : List Text → World → World → ℕ → Type 0
 Completes words before now status = AllCalm before now → (status ≡ 6) ⊎ Does words before now status
 
--- the work was done, or ended by itself before its time
+-- the statuses of work that was done, or ended early by its own rules
 abbrev pub IsDone : ℕ → Type 0
 IsDone status = (status ≡ 0) ⊎ (status ≡ 1) ⊎ (status ≡ 2) ⊎ (status ≡ 5)
 
--- Such a status comes only where no count rose, and as asked for.
+-- Such a status comes only where no count rose, and the work that is asked for gives it.
 abbrev pub Finishes : List Text → World → World → ℕ → Type 0
 Finishes words before now status = IsDone status → IsQuiet before now × Does words before now status
 
--- Misuse is that of the words, and its line is written.
+-- Status 2 comes only where the words are misused, and the line that says so is written.
 abbrev pub MisuseHasCause : List Text → World → World → ℕ → Type 0
 MisuseHasCause words before now status = status ≡ 2 → (line : Text) × (staged_order words ≡ Halt (Misused line)) × Appends before.err now.err line
 
--- A read fault has its cause: the shelf's count rose at a file whose turn it was, and nothing was done but that it was named, behind
--- what stood on err; or the order's file whose turn it is is absent; or the input's count rose, and out holds exactly the text of
--- the lines that were got whole.
+-- Status 3 has its cause: the shelf's count rose at a file whose turn it was, and nothing was done but that the last
+-- line on err names this file; or the order's file whose turn it is is absent; or the input's count rose, and out has
+-- exactly the text for the lines that were read whole.
 abbrev pub ReadFaultHasCause : List Text → World → World → ℕ → Type 0
 ReadFaultHasCause words before now status = status ≡ 3 →
     (Rose before.shelf_faults now.shelf_faults × ((front name : Text) × IsDue words before.files front name × IsStill before now × Appends before.err now.err (front ++ cannot_read name)))
     ⊎ IsAbsent words before.files
     ⊎ (Rose before.input_faults now.input_faults × Behind words before (GotLines before now) (λ front. Appends before.err now.err (front ++ cannot_read_input)))
 
--- Where no count rose, an absent file is a read fault.
+-- Where no count rose, an absent file whose turn comes is answered with status 3.
 abbrev pub AbsentIsSaid : List Text → World → World → ℕ → Type 0
 AbsentIsSaid words before now status = AllCalm before now → (files : Files) → before.files ≡ Some files → IsAbsent words (Some files) → (status ≡ 3) ⊎ (status ≡ 6)
 
--- A write fault has its cause.
+-- Status 4 comes only where the count of out or err rose.
 abbrev pub WriteFaultHasCause : World → World → ℕ → Type 0
 WriteFaultHasCause before now status = status ≡ 4 → Rose before.out_faults now.out_faults ⊎ Rose before.err_faults now.err_faults
 
--- Where a write failed, nothing else is answered.
+-- Where a write failed, the status is 4.
 abbrev pub WriteFaultIsSaid : World → World → ℕ → Type 0
 WriteFaultIsSaid before now status = (CouldWrite before now → ⊥) → status ≡ 4
 
--- After a write that failed nothing is written, and no further line is taken: the warnings were cut short, and nothing else
--- was done; or out was, behind whole warnings, and the input is left behind the line whose answer was being written; or the last
--- line on err was.
+-- After a write that failed nothing is written, and no further line is read: the warnings were cut short, and nothing
+-- else was done; or out was cut short after whole warnings, and the last line that was read is the one whose answer
+-- was being written; or the last line on err was cut short.
 abbrev pub WriteFaultStops : List Text → World → World → ℕ → Type 0
 WriteFaultStops words before now status = status ≡ 4 →
     CutWarnings words before now ⊎ Behind words before (CutOut before now) (Appends before.err now.err) ⊎ Says words before now (λ front line. AppendsPrefix before.err now.err (front ++ line))
 
--- Where memory was wanted, the warnings stand on err whole or not at all; the input is untouched where no line is asked for; where
--- lines are, out holds exactly the text of the lines that were answered.
+-- Where memory was wanted, the warnings are on err whole or not at all; the input is untouched where no line is asked
+-- for; else out has exactly the text for the lines that were answered.
 abbrev pub WantKeeps : List Text → World → World → ℕ → Type 0
 WantKeeps words before now status = status ≡ 6 → (now.input_faults ≡ before.input_faults) × Done words before now (λ front. Appends before.err now.err (front ++ out_of_memory))
 
--- What is too big passes a limit: the file of the order whose turn it is, or an input whose lines are asked for.
+-- Status 5 comes only where a limit is passed: by the file of the order whose turn it is, or by an input whose lines
+-- are asked for.
 abbrev pub TooBigHasCause : List Text → World → World → ℕ → Type 0
 TooBigHasCause words before now status = status ≡ 5 → IsLongFile words before.files ⊎ IsLongInput words before
 
--- Where no count rose, a file that is too big is answered so, once its turn comes.
+-- Where no count rose, a file that is too big is answered with status 5, once its turn comes.
 abbrev pub LongFileIsSaid : List Text → World → World → ℕ → Type 0
 LongFileIsSaid words before now status = AllCalm before now → (files : Files) → before.files ≡ Some files → IsLongFile words (Some files) → (status ≡ 5) ⊎ (status ≡ 6)
 
--- So is an input that is too big, where the words ask for its lines.
+-- So is an input that is too big, where its lines are asked for.
 abbrev pub LongInputIsSaid : List Text → World → World → ℕ → Type 0
 LongInputIsSaid words before now status = AllCalm before now → (input : Text) → before.left ≡ Some input
     → ((w : Work) → IsWork words before.files w → AsksLines w.plan × IsPast (asks_of w.plan) (Some input)) → (status ≡ 5) ⊎ (status ≡ 6)
 
--- a part of what a mode writes on out: answers, and a front of the next one or of its end
+-- The text is a part of what the mode writes on out: whole answers, and a beginning of the next answer or of the end.
 pub record IsOutPart (plan : Plan) (input : Option Text) (text : Text) : Type 0 where
   pub lines : List Text
   pub answers : Text
@@ -128,12 +130,12 @@ pub record IsOutPart (plan : Plan) (input : Option Text) (text : Text) : Type 0 
 abbrev pub WritesPart : List Text → World → World → Type 0
 WritesPart words before now = Appends before.out now.out [] ⊎ ((w : Work) × IsWork words before.files w × ((text : Text) × Appends before.out now.out text × IsOutPart w.plan before.left text))
 
--- Where the files are told, that holds of each work that is asked for: there is one.
+-- Where the files are known, this holds of each work that is asked for: there is only one.
 abbrev pub WritesPartOfEach : List Text → World → World → Type 0
 WritesPartOfEach words before now = (files : Files) → before.files ≡ Some files → (w : Work) → IsWork words (Some files) w
     → Appends before.out now.out [] ⊎ ((text : Text) × Appends before.out now.out text × IsOutPart w.plan before.left text)
 
--- The status is a known one.
+-- The status is one of 0 to 6.
 abbrev pub IsStatus : ℕ → Type 0
 IsStatus status = IsDone status ⊎ (status ≡ 3) ⊎ (status ≡ 4) ⊎ (status ≡ 6)
 

@@ -39,20 +39,21 @@ pub record IsClearTable (g : Grammar) (t : TableData) : Type 0 where
   pub table : IsTableOf g automaton mode t
   pub clear : HasNoConflicts g automaton
 
--- the words name no table file
+-- The words name no table file.
 abbrev pub NameNoTables : List Text → Type 0
 NameNoTables words = (order : Order) → staged_order words ≡ Go order → order.tables ≡ None
 
--- Verdicts go by no conflict: the table is built, and the grammar is LR(1); or the table, which may be that of a file, is clear.
+-- Verdicts rest on no conflict: the table is built, and the grammar is LR(1); or the table, which may be that of a
+-- file, is clear.
 abbrev pub IsClear : List Text → Grammar → TableData → Type 0
 IsClear words g t = (NameNoTables words × IsLR1 g) ⊎ IsClearTable g t
 
--- no token has a level of precedence
+-- No token has a level of precedence.
 abbrev pub HasNoLevels : Grammar → Type 0
 HasNoLevels g = All (λ t. t.level ≡ None) g.tokens
 
--- The words ask for verdicts by a table of the grammar, with trees or without, with messages or without, and the text answers a line that is this
--- sentence.
+-- The words ask for verdicts by a table of the grammar, with trees or without, with messages or without, and the text
+-- answers a line that is this sentence.
 pub record AnswersSentence (words : List Text) (files : Option Files) (trees : Bool) (g : Grammar) (s : Sentence) (text : Text) : Type 0 where
   pub table : TableData
   pub messages : Option Messages
@@ -62,34 +63,34 @@ pub record AnswersSentence (words : List Text) (files : Option Files) (trees : B
   pub sentence : sentence_in (vocabulary_of g) line ≡ IsSentence s
   pub answer : AnswersOne (record { trees = trees; grammar = g; table = table; messages = messages }) line text
 
--- the text accepts a line; with trees it has one line more
+-- The text accepts a line; with trees, a second line has a tree.
 abbrev pub Accepts : Bool → Grammar → Text → Type 0
 Accepts false g text = text ≡ codes "ACCEPT\n"
 Accepts true g text = (tree : SyntaxTree) × (text ≡ codes "ACCEPT\n" ++ text_of g tree ++ codes "\n")
 
--- the text refuses a line; with messages more stands behind it
+-- The text refuses a line; a message may follow.
 abbrev pub Rejects : Text → Type 0
 Rejects text = (rest : Text) × (text ≡ codes "REJECT\n" ++ rest)
 
--- with trees, the text may also say that they are too deep
+-- With trees, the text says that they are too deep.
 abbrev pub IsTooDeepText : Bool → Text → Type 0
 IsTooDeepText false text = ⊥
 IsTooDeepText true text = text ≡ codes "TOODEEP\n"
 
--- with trees, the text shows a tree of the grammar for the first tokens, as many as `read`
+-- With trees, the text shows a tree of the grammar for the first tokens, as many as `read`.
 abbrev pub ShowsTree : Bool → Grammar → Sentence → ℕ → Text → Type 0
 ShowsTree false g s read text = ⊤
 ShowsTree true g s read text =
     (tree : SyntaxTree) × (text ≡ codes "ACCEPT\n" ++ text_of g tree ++ codes "\n") × IsTreeFor (plain_of g) (start_symbol (plain_of g) s.start) tree × (yield_of tree ≡ take read s.tokens)
 
--- By a table without conflicts, a line is accepted only where its tokens, or the first of them, are a sentence; and each such
--- line is, but where its trees are too deep.
+-- By a table without conflicts, a line is accepted only where its tokens, or the first of them, are a sentence; and
+-- each such line is accepted, but where its trees are too deep.
 abbrev pub AcceptsExactly : List Text → Option Files → Type 0
 AcceptsExactly words files = (trees : Bool) (g : Grammar) (s : Sentence) (text : Text) → (answers : AnswersSentence words files trees g s text) → IsClear words g answers.table →
     (Accepts trees g text → (read : ℕ) × IsPrefixSentence (plain_of g) s.start s.tokens read)
     × ((read : ℕ) → IsPrefixSentence (plain_of g) s.start s.tokens read → Accepts trees g text ⊎ IsTooDeepText trees text)
 
--- And REJECT answers a line only where no sentence begins with its tokens up to one of them.
+-- By a table without conflicts, REJECT answers a line only where no sentence begins with its tokens up to one of them.
 abbrev pub RejectsRightly : List Text → Option Files → Type 0
 RejectsRightly words files = (trees : Bool) (g : Grammar) (s : Sentence) (text : Text) → (answers : AnswersSentence words files trees g s text) → IsClear words g answers.table →
     Rejects text → (at : ℕ) × (at < length s.tokens) × (BeginsSentence (plain_of g) s.start (take (at + 1) s.tokens) → ⊥)
@@ -100,20 +101,20 @@ abbrev pub OvershootsRightly : List Text → Option Files → Type 0
 OvershootsRightly words files = (trees : Bool) (g : Grammar) (s : Sentence) (text : Text) → AnswersSentence words files trees g s text → AllProductive (plain_of g) →
     text ≡ codes "OVERSHOOT\n" → BeginsSentence (plain_of g) s.start s.tokens
 
--- By any grammar, a line is accepted only where its tokens, or the first of them, are a sentence; with trees, one of these
--- tokens is shown.
+-- By any grammar, a line is accepted only where its tokens, or the first of them, are a sentence; with trees, a tree
+-- of these tokens is shown.
 abbrev pub AcceptsRightly : List Text → Option Files → Type 0
 AcceptsRightly words files = (trees : Bool) (g : Grammar) (s : Sentence) (text : Text) → AnswersSentence words files trees g s text →
     Accepts trees g text → (read : ℕ) × IsPrefixSentence (plain_of g) s.start s.tokens read × ShowsTree trees g s read text
 
--- With trees, TOODEEP answers exactly the lines in whose run, up to its end, some step makes trees that are too many or too
--- high.
+-- With trees, TOODEEP answers exactly the lines in whose run some step makes a tree that is too high, or a stack that
+-- is too long.
 abbrev pub TooDeepExactly : List Text → Option Files → Type 0
 TooDeepExactly words files = (g : Grammar) (s : Sentence) (text : Text) → (answers : AnswersSentence words files true g s text) →
     (text ≡ codes "TOODEEP\n") ↔ IsTooDeep answers.table s.start s.tokens
 
--- By a grammar without levels, no warning on err tells that verdicts go by no conflict, be the table built or that of a file. (A conflict
--- that levels solve is not warned of.)
+-- For a grammar without levels of precedence, no warning on err means that verdicts rest on no conflict, whether the
+-- table is built or that of a file. (There is no warning for a conflict that levels solve.)
 abbrev pub ClearWhereUnwarned : List Text → Option Files → Type 0
 ClearWhereUnwarned words files = (trees : Bool) (g : Grammar) (s : Sentence) (text : Text) → (answers : AnswersSentence words files trees g s text) → HasNoLevels g →
     answers.warnings ≡ [] → IsClear words g answers.table

@@ -1,4 +1,4 @@
-//! What the definition of the work says: empty calls that tell it to contracts.
+//! Laws about the definition of the work. Each is the contract of a function that does nothing.
 ghost use Rattle.std.specs.Prelude.{◌≡◌, ◌∷◌, ◌++◌, List, Option, Some};
 ghost use Rattle.mh_outside.specs.Shelf.{Files};
 ghost use Rattle.mh_top_claims.specs.AtLine.{IsAnsweredAt, HasVerdictAt};
@@ -21,22 +21,22 @@ pub fn work_is_one()
         o ≡ p }
 {}
 
-/// Two runs on the same words, files and input warn of the same, write the same text, end for the same cause, and leave the same
-/// input.
+/// Two runs on the same words, files and input have the same warnings, the same text on out and the same cause, and
+/// leave the same input.
 pub fn runs_are_one()
     ensures { (words : List Text) (files : Files) (input : Text) (v w : Work) (o p : Outcome) →
         IsWork words (Some files) v → Yields by_plan v.plan (Some input) o →
         IsWork words (Some files) w → Yields by_plan w.plan (Some input) p → (v ≡ w) × (o ≡ p) }
 {}
 
-/// Words ask for some work wherever what comes before the warnings goes on or halts.
+/// Words ask for some work, whether what comes before the warnings gives something or halts.
 pub fn some_work_is_asked()
     ensures { (words : List Text) (files : Option Files) (before : Staged Prepared) → IsPrepared words files before →
         (w : Work) × IsWork words files w }
 {}
 
-/// The text that answers lines is, at each of them, a front, the answer of the line, and the rest; where lines are judged, the
-/// answer is the one of that line by itself.
+/// The text that answers lines is, for each line, the text before the line's answer, this answer, and the rest. Where
+/// lines are answered with verdicts, the answer depends on this line alone.
 pub fn lines_are_answered()
     ensures each { (plan last : Plan) (before after : List Text) (line text : Text) →
         AnswersAll by_plan plan (before ++ line ∷ after) text last → IsAnsweredAt plan before line after text last }
@@ -44,8 +44,9 @@ pub fn lines_are_answered()
         AnswersAll by_plan (Judges by) (before ++ line ∷ after) text last → HasVerdictAt by before line after text }
 {}
 
-/// By a grammar without levels, verdicts go by no conflict wherever nothing is warned of, also where a table file is named: whether the
-/// premise of the claims on acceptance and rejection holds can be seen on err.
+/// For a grammar without levels of precedence, no warning on err means that verdicts rest on no conflict, also where
+/// a table file is named. So the user can see on err whether the premise of the claims on acceptance and rejection
+/// holds.
 pub fn unwarned_is_clear()
     ensures { (words : List Text) (files : Option Files) → ClearWhereUnwarned words files }
 {}

@@ -1,8 +1,6 @@
-//! What the modes come to, by their definitions alone: a job has one plan, each line one answer, and each mode one end, for no other cause
-//! than it may have. All of it stands in `proofs`: `EachMode`, over what the others say of one kind of mode each.
-//!
-//! What a run of the program is, by definition: the work that words ask for over files and an input, how a run ends, what is claimed of
-//! it, and its laws.
+//! What a run of the program is, by definition: the work that words ask for over files and an input (`Work`), how a
+//! run of it ends (`Run`), and what the top call promises (`Claims`, `ErrorLists`, `Exact`). The promises are proved
+//! here from these definitions alone: `proofs/EachMode` has what is proved of each mode.
 #![tactic(auto)]
 
 mod laws;

@@ -11,7 +11,7 @@ use Rattle.mh_outside.specs.declared.lines.LineFault.TheVariants as faults
 use Rattle.mh_grammar.specs.Text.{Text}
 use Rattle.mh_top_drive.specs.Ways.{Finish, Way}
 use Rattle.mh_top_drive.specs.declared.driving.TheConstants.{LINE_LIMIT}
-use Rattle.mh_top_drive.specs.Steps.{AnswerRan, EndRan, IsNext, LineRan, NextRan, PastRan, StopIs, TookLine, WriteRan}
+use Rattle.mh_top_drive.specs.code.Steps.{AnswerRan, EndRan, IsNext, LineRan, NextRan, PastRan, StopIs, TookLine, WriteRan}
 use Rattle.mh_top_drive.specs.declared.stop.Stop.{Stop}
 use Rattle.mh_top_drive.specs.declared.stop.Stop.TheVariants.{Halted, ShelfFailed, InputFailed, WriteFailed, OutOfMemory}
 

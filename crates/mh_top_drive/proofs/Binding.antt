@@ -2,7 +2,7 @@
 use Rattle.std.proofs.Common.{◌≡◌, refl, sym, ◌∙◌, subst, Ok, Err, Result}
 use Rattle.mh_grammar.specs.Text.{Text}
 use Rattle.mh_top_drive.specs.Causes.{Staged, Go, Halt, On, Then}
-use Rattle.mh_top_drive.specs.Stages.{FilesGive, StageHas}
+use Rattle.mh_top_drive.specs.code.Stages.{FilesGive, StageHas}
 use Rattle.mh_top_drive.specs.declared.stop.Stop.{Stop}
 use Rattle.mh_top_drive.specs.declared.stop.Stop.TheVariants.{Halted, ShelfFailed, InputFailed, WriteFailed, OutOfMemory}
 

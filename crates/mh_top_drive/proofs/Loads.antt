@@ -8,7 +8,7 @@ use Rattle.mh_grammar.specs.Text.{Text}
 use Rattle.mh_top_drive.specs.Causes.{Go, Halt}
 use Rattle.mh_top_drive.specs.FileStage.{IsLoaded}
 use Rattle.mh_top_drive.specs.declared.files.TheConstants.{FILE_LIMIT}
-use Rattle.mh_top_drive.specs.Stages.{FilesGive, FailsAt, Halts}
+use Rattle.mh_top_drive.specs.code.Stages.{FilesGive, FailsAt, Halts}
 use Rattle.mh_top_drive.specs.declared.stop.Cause.TheVariants.{Missing, LongFile}
 use Rattle.mh_top_drive.specs.declared.stop.Stop.{Stop}
 use Rattle.mh_top_drive.specs.declared.stop.Stop.TheVariants.{Halted, ShelfFailed, InputFailed, WriteFailed, OutOfMemory}

@@ -10,8 +10,8 @@ use Rattle.mh_grammar.specs.Text.{Text}
 use Rattle.mh_top_drive.specs.Lines.{split, asked, is_small, behind}
 use Rattle.mh_top_drive.specs.Ways.{AnswersAll, AsksFor, Finish, Way, asked_of, left_behind, most, wanted}
 use Rattle.mh_top_drive.specs.declared.driving.TheConstants.{LINE_LIMIT}
-use Rattle.mh_top_drive.specs.Drive.{AreFirst, Ended, LeftIs, Ran, Stands, Took, TookPart}
-use Rattle.mh_top_drive.specs.Steps.{AllAsked, EndRan, LineRan, LinesRan, PastRan, TookLine}
+use Rattle.mh_top_drive.specs.Drive.{AreFirst, Ended, LeftIs, Stands, Took, TookPart}
+use Rattle.mh_top_drive.specs.code.Steps.{ModeRan, AllAsked, EndRan, LineRan, LinesRan, PastRan, TookLine}
 use Rattle.mh_top_drive.specs.declared.driving.Asks.{Asks}
 use Rattle.mh_top_drive.specs.declared.driving.Asks.TheVariants.{NoLine, FirstLine, EachLine}
 use Rattle.mh_top_drive.specs.declared.stop.Cause.{Cause}
@@ -224,7 +224,7 @@ module _ {Plan : Type 0} (way : Way Plan) where
     on_out_nil : (out2 : Option Text) → Keeps out1 out2 → Appends out0 out2 (so_far.text ++ [])
     on_out_nil out2 still = subst (Appends out0 out2) (sym (append-nil so_far.text)) (still_appended out0 out1 out2 so_far.text so_far.on_out still)
 
-    pub failed : (in2 out2 : Option Text) → (asks ≡ NoLine → ⊥) → Loses in1 in2 (λ n. Unit {0}) → Keeps out1 out2 → Ran way plan in0 in2 out0 out2 (Err InputFailed)
+    pub failed : (in2 out2 : Option Text) → (asks ≡ NoLine → ⊥) → Loses in1 in2 (λ n. Unit {0}) → Keeps out1 out2 → ModeRan way plan in0 in2 out0 out2 (Err InputFailed)
     failed in2 out2 some loses still = record {
       lines = so_far.lines;
       text = so_far.text;
@@ -235,7 +235,7 @@ module _ {Plan : Type 0} (way : Way Plan) where
       on_out = on_out_nil out2 still;
     }
 
-    pub gave_up : (in2 out2 : Option Text) → (asks ≡ NoLine → ⊥) → Loses in1 in2 (λ n. Unit {0}) → Keeps out1 out2 → Ran way plan in0 in2 out0 out2 (Err OutOfMemory)
+    pub gave_up : (in2 out2 : Option Text) → (asks ≡ NoLine → ⊥) → Loses in1 in2 (λ n. Unit {0}) → Keeps out1 out2 → ModeRan way plan in0 in2 out0 out2 (Err OutOfMemory)
     gave_up in2 out2 some loses still = record {
       lines = so_far.lines;
       text = so_far.text;
@@ -250,7 +250,7 @@ module _ {Plan : Type 0} (way : Way Plan) where
     left_false None lines = refl
     left_false (Some input) lines = refl
 
-    pub too_much : (in2 out2 : Option Text) (cause : Cause) → cause ≡ LongInput → (asks ≡ NoLine → ⊥) → AreNone asks m in1 false → Keeps out1 out2 → Ran way plan in0 in2 out0 out2 (Err (Halted cause))
+    pub too_much : (in2 out2 : Option Text) (cause : Cause) → cause ≡ LongInput → (asks ≡ NoLine → ⊥) → AreNone asks m in1 false → Keeps out1 out2 → ModeRan way plan in0 in2 out0 out2 (Err (Halted cause))
     too_much in2 out2 cause is some none still = record {
       outcome = record { cause = Some LongInput; out = so_far.text; left = None };
       yields = record {
@@ -325,7 +325,7 @@ module _ {Plan : Type 0} (way : Way Plan) where
         let long = long_wanted (way.asks_of plan) q.0 q.1 some_asked q.3 in
         (ap₂ (λ (j : ℕ) (l : List Text). asked LINE_LIMIT j (wanted (way.asks_of plan) j l)) is q.2 ∙ long.0, ap₂ (λ (j : ℕ) (l : List Text). is_small LINE_LIMIT j (wanted (way.asks_of plan) j l)) is q.2 ∙ long.1)
 
-    pub line_stops : (next : Plan) (stop : Stop) → LineRan way mid next in1 in2 out1 out2 (Err stop) → Ran way plan in0 in2 out0 out2 (Err stop)
+    pub line_stops : (next : Plan) (stop : Stop) → LineRan way mid next in1 in2 out1 out2 (Err stop) → ModeRan way plan in0 in2 out0 out2 (Err stop)
     line_stops next (Halted cause) ran = too_much plan mid k in0 in1 out0 out1 so_far in2 out2 cause ran.0 some_asked (long_line in1 in2 ran.1) ran.2
     line_stops next (ShelfFailed name) ran = absurd ran
     line_stops next InputFailed ran = failed plan mid k in0 in1 out0 out1 so_far in2 out2 some_asked ran.0 ran.1
@@ -350,7 +350,7 @@ module _ {Plan : Type 0} (way : Way Plan) where
     }
     line_stops next OutOfMemory ran = wants ran.0 ran.1
       where
-        wants : (Loses in1 in2 (λ n. Unit {0}) ⊎ ((line : Text) × TookLine in1 in2 line)) → Keeps out1 out2 → Ran way plan in0 in2 out0 out2 (Err OutOfMemory)
+        wants : (Loses in1 in2 (λ n. Unit {0}) ⊎ ((line : Text) × TookLine in1 in2 line)) → Keeps out1 out2 → ModeRan way plan in0 in2 out0 out2 (Err OutOfMemory)
         wants (inl loses) still = gave_up plan mid k in0 in1 out0 out1 so_far in2 out2 some_asked loses still
         wants (inr took) still = record {
           lines = so_far.lines;
@@ -426,7 +426,7 @@ module _ {Plan : Type 0} (way : Way Plan) where
     stands_all : Stands way plan in0 all.lines all.text next
     stands_all = record { answers = all.answers; first = first_all (way.asks_of plan) in0 all.lines all.asks }
 
-    pub end_ran : (r : _) → EndRan (way.EndsWith next) out1 out2 r → Ran way plan in0 in1 out0 out2 r
+    pub end_ran : (r : _) → EndRan (way.EndsWith next) out1 out2 r → ModeRan way plan in0 in1 out0 out2 r
     end_ran (Ok u) ran = ended None ran.0 ran.1 ran.2 ran.3
     end_ran (Err (Halted cause)) ran = ended (Some cause) ran.0 ran.1 ran.2 ran.3
     end_ran (Err WriteFailed) ran = record {

@@ -7,7 +7,7 @@ use Rattle.mh_grammar.specs.Text.{Text}
 use Rattle.mh_top_drive.specs.Causes.{Staged, Go, Halt}
 use Rattle.mh_top_drive.specs.FileStage.{AreFiles, IsFile}
 use Rattle.mh_top_drive.specs.Turns.{IsSpelled, IsTurn}
-use Rattle.mh_top_drive.specs.Stages.{FilesGive}
+use Rattle.mh_top_drive.specs.code.Stages.{FilesGive}
 use Rattle.mh_top_drive.specs.declared.stop.Stop.{Stop}
 use Rattle.mh_top_drive.specs.declared.stop.Stop.TheVariants.{Halted, ShelfFailed, InputFailed, WriteFailed, OutOfMemory}
 

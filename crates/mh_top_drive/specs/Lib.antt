@@ -1,11 +1,9 @@
 pub mod Text
 pub mod Causes
 pub mod Statuses
-pub mod Stages
 pub mod Lines
 pub mod Ways
 pub mod Drive
-pub mod Steps
-pub mod Opening
 pub mod FileStage
 pub mod Turns
+pub mod code

@@ -1,5 +1,5 @@
--- Texts, and the lines on err that tell of files, of the input and of memory.
-use Rattle.std.specs.Prelude.{ℕ, List, ◌++◌, codes}
+-- The lines on err for files that cannot be read, for what is too big, and for want of memory (this project's profile).
+use Rattle.std.specs.Prelude.{◌++◌, codes}
 use Rattle.mh_grammar.specs.Text.{Text}
 
 abbrev pub cannot_read : Text → Text

@@ -1,9 +1,9 @@
-//! A mode over an input and an output: the lines that it asks for are answered, each before the next is asked for, and then its
-//! end is written. After the first write that fails nothing is written, and no line is taken.
+//! Runs a mode over an input and an output: the lines that the mode asks for are answered, each before the next is
+//! read, and then the end of the mode is written. After a write that fails nothing more is written, and no further
+//! line is read.
 ghost use Rattle.std.specs.Prelude.{◌≡◌, ◌<◌, ◌^◌, length, IfOk};
-ghost use Rattle.mh_top_drive.specs.Drive.{Ran};
-ghost use Rattle.mh_top_drive.specs.Opening.{Driven, IsOpened};
-ghost use Rattle.mh_top_drive.specs.Steps.{AnswerRan, Counts, EndRan, InputCounts, LineRan, LinesRan, NextRan, OutCounts, PastRan, StopIs, WriteRan};
+ghost use Rattle.mh_top_drive.specs.code.Steps.{ModeRan, AnswerRan, Counts, EndRan, InputCounts, LineRan, LinesRan, NextRan, OutCounts, PastRan, StopIs, WriteRan};
+ghost use Rattle.mh_top_drive.specs.code.Opening.{Driven, IsOpened};
 ghost use Rattle.mh_grammar.specs.Text.{Text};
 ghost use Rattle.mh_top_drive.specs.Ways.{Way, most as most_of};
 
@@ -15,7 +15,7 @@ use std::alloc::Global;
 /// An input line has at most 1 MiB.
 pub const LINE_LIMIT: usize = 1024 * 1024;
 
-/// The input has at most so many lines.
+/// The input has at most one million lines.
 pub const MAX_LINES: usize = 1_000_000;
 
 /// Which lines of the input a mode asks for.
@@ -27,7 +27,7 @@ pub enum Asks {
 }
 
 impl Asks {
-    /// How many lines it may ask for.
+    /// How many lines the mode may ask for.
     fn most(self) -> usize
         ensures { result ≡ most_of self }
     {
@@ -39,36 +39,37 @@ impl Asks {
     }
 }
 
-/// A mode as it stands, between lines.
+/// A mode between two lines. Contracts speak of its plan: the state that the value stands for, of which there may be
+/// several.
 pub trait Mode {
-    /// How a mode may stand, between lines.
+    /// The states of a mode between two lines.
     ghost State: { Type 0 };
 
-    /// What it asks for, answers and writes at its end, where it stands so.
+    /// By the state: which lines the mode asks for, how it answers a line, and what it writes at its end.
     ghost way: { Way State };
 
-    /// The plans that a value stands for.
+    /// The states that a value stands for.
     ghost Is: { Self → State → Type 0 };
 
-    /// Which lines it asks for.
+    /// Which lines the mode asks for.
     fn asks(&self) -> Asks
         ensures { (plan : State) → Is self.now plan → result ≡ way.asks_of plan };
 
-    /// The text that answers a line. Each line may change the mode.
+    /// The text that answers a line. The answer may change the mode.
     fn answer(&mut self, alloc: Global, line: &[u8]) -> Result<Vec<u8>, Memory>
         requires short { length line.now < 2 ^ 32 }
         requires some { (plan : State) × Is self.old plan }
         ensures { (plan : State) → Is self.old plan → (next : State) × Is self.new next × IfOk result (λ text.
             way.Answers plan line.now text.items next) };
 
-    /// Writes what stands behind the answers: in one piece, or piece by piece as it is made. It may halt.
+    /// Writes what follows the answers, in one piece or piece by piece as it is made, or halts.
     fn end<O: Sink>(self, alloc: Global, out: &mut O) -> Result<(), Stop>
         requires some { (plan : State) × Is self plan }
         ensures text { (plan : State) → Is self plan → EndRan (way.EndsWith plan) (O.written out.old) (O.written out.new) result }
         ensures counts { OutCounts (O.faults out.old) (O.faults out.new) result };
 }
 
-/// Writes a text.
+/// Writes a text on out.
 pub fn write_text<O: Sink>(out: &mut O, text: &[u8]) -> Result<(), Stop>
     ensures text { WriteRan text.now (O.written out.old) (O.written out.new) result }
     ensures counts { OutCounts (O.faults out.old) (O.faults out.new) result }
@@ -79,6 +80,7 @@ pub fn write_text<O: Sink>(out: &mut O, text: &[u8]) -> Result<(), Stop>
     }
 }
 
+/// Why the work stops where no line could be read.
 fn stop_of(fault: LineFault) -> Stop
     ensures { StopIs fault result }
 {
@@ -91,7 +93,7 @@ fn stop_of(fault: LineFault) -> Stop
     }
 }
 
-/// Answers a line.
+/// Writes the answer to a line.
 fn answer_line<O: Sink, M: Mode>(
     alloc: Global,
     out: &mut O,
@@ -108,7 +110,7 @@ fn answer_line<O: Sink, M: Mode>(
     write_text(out, &text)
 }
 
-/// Takes the next line, where there is one.
+/// Reads the next line, where there is one.
 fn next_line<I: Source>(alloc: Global, input: &mut I) -> Result<Option<Vec<u8>>, Stop>
     ensures line { NextRan (I.left input.old) (I.left input.new) result }
     ensures counts { InputCounts (I.faults input.old) (I.faults input.new) result }
@@ -119,7 +121,7 @@ fn next_line<I: Source>(alloc: Global, input: &mut I) -> Result<Option<Vec<u8>>,
     }
 }
 
-/// Takes the next line, where there is one, and answers it. Says whether there was one.
+/// Reads the next line and writes the answer to it; false where the input has ended.
 fn take_line<I: Source, O: Sink, M: Mode>(
     alloc: Global,
     input: &mut I,
@@ -142,7 +144,7 @@ fn take_line<I: Source, O: Sink, M: Mode>(
     }
 }
 
-/// One line more is too many.
+/// Reads past the last line that the input may have: a further line halts the work.
 fn past_last<I: Source>(alloc: Global, input: &mut I) -> Result<(), Stop>
     ensures ran { PastRan (I.left input.old) (I.left input.new) result }
     ensures counts { InputCounts (I.faults input.old) (I.faults input.new) result }
@@ -184,7 +186,7 @@ fn ask<I: Source, O: Sink, M: Mode>(
     }
 }
 
-/// Runs a mode that was opened over the input and out.
+/// Runs a mode that was opened over the input and out; where none could be opened, the work stops for that reason.
 pub fn drive_opened<I: Source, O: Sink, M: Mode + Drop>(
     alloc: Global,
     opened: Result<M, Stop>,
@@ -211,7 +213,7 @@ pub fn drive<I: Source, O: Sink, M: Mode + Drop>(
     out: &mut O,
 ) -> Result<(), Stop>
     requires some { (plan : M.State) × M.Is mode plan }
-    ensures ran { (plan : M.State) → M.Is mode plan → Ran M.way plan (I.left input.old) (I.left input.new)
+    ensures ran { (plan : M.State) → M.Is mode plan → ModeRan M.way plan (I.left input.old) (I.left input.new)
         (O.written out.old) (O.written out.new) result }
     ensures counts { Counts (I.faults input.old) (I.faults input.new)
         (O.faults out.old) (O.faults out.new) result }

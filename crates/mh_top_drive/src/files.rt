@@ -1,11 +1,11 @@
-//! Files are read from a shelf, and spelled, one after the other.
+//! Reads files from a shelf, one after the other; what the bytes of a file spell is found before the next file is read.
 ghost use Rattle.std.specs.Prelude.{◌≡◌, ◌<◌, ◌≤◌, ◌^◌, List, ℕ, length, IfOk};
 ghost use Rattle.std.specs.List.{All};
 ghost use Rattle.mh_grammar.specs.Text.{Text};
 ghost use Rattle.mh_top_drive.specs.Causes.{Staged};
 ghost use Rattle.mh_top_drive.specs.FileStage.{AreFiles, IsFile, IsLoaded};
 ghost use Rattle.mh_top_drive.specs.Turns.{IsTurn};
-ghost use Rattle.mh_top_drive.specs.Stages.{FilesGive, Halts, FailsAt, ShelfCounts, StageHas, listed};
+ghost use Rattle.mh_top_drive.specs.code.Stages.{FilesGive, Halts, FailsAt, ShelfCounts, StageHas, listed};
 ghost use Rattle.mh_top_drive.specs.declared.stop.Cause.TheVariants.{Missing, LongFile};
 
 use crate::stop::{Cause, Stop};
@@ -16,9 +16,9 @@ use std::alloc::Global;
 /// A file has at most 16 MiB.
 pub const FILE_LIMIT: usize = 16 * 1024 * 1024;
 
-/// What the bytes of a file are read as.
+/// What the bytes of a file are read as, for example a grammar module.
 pub trait Spelling<T> {
-    /// What bytes under a name come to.
+    /// By the name and the bytes of a file: what the bytes spell, or why the work halts.
     ghost Spells: { Self → Text → Text → Staged T → Type 0 };
 
     /// What these bytes of the named file spell.
@@ -27,6 +27,7 @@ pub trait Spelling<T> {
         ensures { StageHas (Spells self.now name.now bytes.now) result };
 }
 
+/// The work halts since the named file is missing.
 fn missing(alloc: Global, name: &[u8]) -> Stop
     ensures { Halts (Missing name.now) result }
 {
@@ -38,6 +39,7 @@ fn missing(alloc: Global, name: &[u8]) -> Stop
     }
 }
 
+/// The work halts since the named file passes its limit.
 fn long_file(alloc: Global, name: &[u8]) -> Stop
     ensures { Halts (LongFile name.now) result }
 {
@@ -49,6 +51,7 @@ fn long_file(alloc: Global, name: &[u8]) -> Stop
     }
 }
 
+/// The work stops since the shelf failed at the named file.
 fn shelf_failed(alloc: Global, name: &[u8]) -> Stop
     ensures { FailsAt name.now result }
 {
@@ -58,7 +61,7 @@ fn shelf_failed(alloc: Global, name: &[u8]) -> Stop
     }
 }
 
-/// The bytes of the named file.
+/// Reads the bytes of the named file.
 fn load<F: Shelf>(alloc: Global, shelf: &mut F, name: &[u8]) -> Result<Vec<u8>, Stop>
     requires asked { F.MayAsk shelf.old name.now }
     ensures bytes { FilesGive (IsLoaded (F.files shelf.old) name.now) (λ other. other ≡ name.now) (listed result) }
@@ -76,7 +79,7 @@ fn load<F: Shelf>(alloc: Global, shelf: &mut F, name: &[u8]) -> Result<Vec<u8>, 
     }
 }
 
-/// What the named file spells.
+/// Reads the named file, and gives what its bytes spell.
 pub fn read_file<F: Shelf, T: Drop, S: Spelling<T>>(
     alloc: Global,
     shelf: &mut F,
@@ -95,7 +98,7 @@ pub fn read_file<F: Shelf, T: Drop, S: Spelling<T>>(
     }
 }
 
-/// What the named files spell, each read and spelled before the next.
+/// Reads the named files in order, and gives what each spells. A file that spells nothing ends the reading.
 pub fn read_files<F: Shelf, T: Drop, S: Spelling<T>>(
     alloc: Global,
     shelf: &mut F,

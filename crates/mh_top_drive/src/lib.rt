@@ -1,6 +1,5 @@
-//! A mode over an input and an output, and why work stops before its time.
-//!
-//! Files are read from a shelf, and what their bytes spell.
+//! What all parts of the work share: why it stops early and with which exit status, how files are read from the
+//! shelf, and how any mode runs over the input and out.
 #![tactic(auto)]
 
 mod driving;

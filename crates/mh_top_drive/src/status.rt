@@ -3,10 +3,10 @@
 /// The work was done.
 pub const DONE: u8 = 0;
 
-/// The grammar is refused.
+/// The work is refused: the grammar, a messages file, a table file, or what `--strict` forbids.
 pub const REFUSED: u8 = 1;
 
-/// The words ask for nothing that the program does.
+/// The words of the command line are misused.
 pub const MISUSED: u8 = 2;
 
 /// A file or the input cannot be read.

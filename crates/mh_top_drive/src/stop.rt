@@ -1,7 +1,7 @@
-//! Why the work stops before its time.
+//! Why the work stops early.
 ghost use Rattle.std.specs.Prelude.{◌≡◌, ◌++◌, IfOk};
 ghost use Rattle.mh_top_drive.specs.Statuses.{code_of};
-ghost use Rattle.mh_top_drive.specs.Stages.{Halts};
+ghost use Rattle.mh_top_drive.specs.code.Stages.{Halts};
 ghost use Rattle.mh_top_drive.specs.declared.stop.Cause.TheVariants.{Refused as Refused'};
 ghost use Rattle.mh_top_drive.specs.declared.stop.Stop.TheVariants.{Halted as Halted', OutOfMemory, ShelfFailed};
 
@@ -9,12 +9,12 @@ use crate::status;
 use mh_grammar::{Memory, Name, Sequence};
 use std::alloc::{AllocError, AllocFailed, Global};
 
-/// Why the work ends by itself before its time. A fault of a device and want of memory are none of these.
+/// Why the work ends early by its own rules. A fault of a device and want of memory are no such cause.
 #[derive(Drop)]
 pub enum Cause {
-    /// The grammar is refused, with this line on err.
+    /// The work is refused, with this line on err.
     Refused { line: Sequence<u8> },
-    /// The words ask for nothing that the program does; the line says why.
+    /// The words of the command line are misused; the line says how.
     Misused { line: Sequence<u8> },
     /// A file that the words name is missing.
     Missing { name: Name },
@@ -39,10 +39,10 @@ impl Cause {
     }
 }
 
-/// Why the work stopped.
+/// Why the work stopped early.
 #[derive(Drop)]
 pub enum Stop {
-    /// By its definition.
+    /// By its own rules.
     Halted { cause: Cause },
     /// The shelf failed at the file of this name.
     ShelfFailed { name: Name },
@@ -93,7 +93,7 @@ pub fn joined(
     Ok(Sequence::from_vec(bytes))
 }
 
-/// The refusal that this line says.
+/// The refusal with this line.
 pub fn refusal(line: Sequence<u8>) -> Stop
     ensures { result ≡ Halted' (Refused' line) }
 {

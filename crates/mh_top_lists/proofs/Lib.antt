@@ -1,4 +1,3 @@
-pub mod Counted
 pub mod Refused
 pub mod Listed
 pub mod Sampled

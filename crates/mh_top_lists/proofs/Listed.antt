@@ -24,10 +24,10 @@ use Rattle.mh_grammar.specs.Text.{Text}
 use Rattle.mh_top_plans.specs.Listing.{Lists}
 use Rattle.mh_top_drive.specs.Ways.{Finish}
 use Rattle.mh_top_plans.specs.Plan.{EndsBy, Errors}
-use Rattle.mh_top_lists.specs.Entries.{AreEntriesOf, AreRowsFit, IsEntryOf, IsRowFit, PartRan, TextRan}
-use Rattle.mh_top_types.specs.Prepared.{IsFit}
+use Rattle.mh_top_lists.specs.code.Entries.{AreEntriesOf, AreRowsFit, IsEntryOf, IsRowFit, PartRan, TextRan}
+use Rattle.mh_top_types.specs.code.Prepared.{IsFit}
 use Rattle.mh_top_types.specs.Shapes.{Prepared}
-use Rattle.mh_top_drive.specs.Steps.{EndRan, WriteRan}
+use Rattle.mh_top_drive.specs.code.Steps.{EndRan, WriteRan}
 use Rattle.mh_top_drive.specs.declared.stop.Stop.{Stop}
 use Rattle.mh_top_drive.specs.declared.stop.Stop.TheVariants.{Halted, ShelfFailed, InputFailed, WriteFailed, OutOfMemory}
 

@@ -7,8 +7,8 @@ use Rattle.mh_tables_core.specs.Table.{TableData}
 use Rattle.mh_tables_core.specs.Failing.{TooLongAt}
 use Rattle.mh_catalogue_rows.specs.declared.rows.CatalogueFault.{CatalogueFault}
 use Rattle.mh_catalogue_rows.specs.declared.rows.CatalogueFault.TheVariants as faults
-use Rattle.mh_top_drive.specs.Stages.{Halts}
-use Rattle.mh_top_drive.specs.Steps.{EndRan, OutCounts}
+use Rattle.mh_top_drive.specs.code.Stages.{Halts}
+use Rattle.mh_top_drive.specs.code.Steps.{EndRan, OutCounts}
 use Rattle.mh_top_drive.specs.Ways.{Finish}
 use Rattle.mh_top_drive.specs.declared.stop.Cause.TheVariants.{Refused}
 use Rattle.mh_top_drive.specs.declared.stop.Stop.{Stop}
@@ -18,8 +18,7 @@ use Rattle.mh_top_plans.specs.Listing.{too_long}
 use Rattle.mh_top_plans.specs.Listing as lists
 use Rattle.mh_top_plans.specs.Plan.{EndsBy, Errors, Sampled}
 use Rattle.mh_top_plans.specs.Sampled as counts
-use Rattle.mh_top_lists.specs.Counted.{CountedRows}
-use Rattle.mh_top_lists.specs.Faults.{FaultStops}
+use Rattle.mh_top_lists.specs.code.Faults.{FaultStops}
 
 -- over ends that a refusal is one of
 module _ (t : TableData) (Is : Finish → Type 0) (refuses : (s : ℕ) → TooLongAt t s → (e : Finish) → e.cause ≡ Some (Refused (too_long s)) → e.out ≡ [] → Is e) (out : Option Text) where
@@ -30,11 +29,11 @@ module _ (t : TableData) (Is : Finish → Type 0) (refuses : (s : ℕ) → TooLo
   refused s is InputFailed same = absurd same
   refused s is WriteFailed same = absurd same
 
-  stops : (fault : CatalogueFault) (stop : Stop) → FaultStops fault stop → CountedRows t (Err fault) → EndRan Is out out (Err stop)
-  stops (faults.TooLong s) stop is long = refused s long stop is
+  stops : (fault : CatalogueFault) (stop : Stop) → FaultStops fault stop → ((s : ℕ) → fault ≡ faults.TooLong s → TooLongAt t s) → EndRan Is out out (Err stop)
+  stops (faults.TooLong s) stop is long = refused s (long s refl) stop is
   stops faults.Memory stop is long = subst (λ (x : Stop). EndRan Is out out (Err x)) (sym is) (inl refl)
 
-module _ (p : Prepared) (out : Option Text) (fault : CatalogueFault) (stop : Stop) (is : FaultStops fault stop) (long : CountedRows p.tabled.halting (Err fault)) where
+module _ (p : Prepared) (out : Option Text) (fault : CatalogueFault) (stop : Stop) (is : FaultStops fault stop) (long : (s : ℕ) → fault ≡ faults.TooLong s → TooLongAt p.tabled.halting s) where
   pub list_stops : EndRan (EndsBy (Errors p)) out out (Err stop)
   list_stops = stops p.tabled.halting (EndsBy (Errors p)) (λ s at e cause none. lists.ListsErrors.TooLong s at cause none) out fault stop is long
 

@@ -4,13 +4,13 @@ use Rattle.std.specs.Prelude.{Result, Ok, Err}
 use Rattle.mh_grammar.specs.Text.{Text}
 use Rattle.mh_tables_core.specs.Failing.{Row, Catalogue, TooLongAt}
 use Rattle.mh_sample.specs.Counts.{IsSampleLine}
-use Rattle.mh_top_drive.specs.Steps.{EndRan}
+use Rattle.mh_top_drive.specs.code.Steps.{EndRan}
 use Rattle.mh_top_drive.specs.declared.stop.Stop.{Stop}
 use Rattle.mh_top_drive.specs.declared.stop.Stop.TheVariants.{Halted, ShelfFailed, InputFailed, WriteFailed, OutOfMemory}
 use Rattle.mh_top_types.specs.Shapes.{Prepared}
 use Rattle.mh_top_plans.specs.Plan.{EndsBy, Sampled}
 use Rattle.mh_top_plans.specs.Sampled.{Counts}
-use Rattle.mh_top_lists.specs.Entries.{TextRan}
+use Rattle.mh_top_lists.specs.code.Entries.{TextRan}
 
 module _ (p : Prepared) (number : ℕ) (none : (s : ℕ) → TooLongAt p.tabled.halting s → ⊥) (rows : List Row) (is : Catalogue p.tabled.halting rows) (listed : ℕ) (all : listed ≡ length rows) (out0 out1 : Option Text) where
   counts_of : (text : Text) → IsSampleLine p.grammar p.tabled.halting number listed text → EndsBy (Sampled number p) (record { cause = None; out = text })

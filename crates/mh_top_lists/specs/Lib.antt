@@ -1,3 +1,1 @@
-pub mod Counted
-pub mod Faults
-pub mod Entries
+pub mod code

@@ -1,9 +1,9 @@
-//! The entries of rows, one behind the other.
+//! The entries of the catalogue's rows, written one after the other.
 ghost use Rattle.std.specs.Prelude.{◌≤◌};
 ghost use Rattle.mh_catalogue_rows.specs.Rows.{row_of, rows_of};
-ghost use Rattle.mh_top_lists.specs.Entries.{AreEntriesOf, AreRowsFit, IsEntryOf, IsRowFit, PartRan, TextRan};
-ghost use Rattle.mh_top_types.specs.Prepared.{IsFit};
-ghost use Rattle.mh_top_drive.specs.Steps.{OutCounts};
+ghost use Rattle.mh_top_lists.specs.code.Entries.{AreEntriesOf, AreRowsFit, IsEntryOf, IsRowFit, PartRan, TextRan};
+ghost use Rattle.mh_top_types.specs.code.Prepared.{IsFit};
+ghost use Rattle.mh_top_drive.specs.code.Steps.{OutCounts};
 
 use mh_catalogue_rows::Row;
 use mh_outside::Sink;
@@ -12,7 +12,7 @@ use mh_top_drive::{Stop, write_text};
 use mh_top_types::Prepared;
 use std::alloc::Global;
 
-/// Writes the entry of a row.
+/// Writes the entry of one row.
 fn write_entry<O: Sink, const W: usize>(
     alloc: Global,
     prepared: &Prepared<W>,
@@ -36,7 +36,7 @@ fn write_entry<O: Sink, const W: usize>(
     write_text(out, &text)
 }
 
-/// Writes the entries of rows, each as it is made.
+/// Writes the entries of the rows in order, each as it is made.
 pub(crate) fn write_entries<O: Sink, const W: usize>(
     alloc: Global,
     prepared: &Prepared<W>,

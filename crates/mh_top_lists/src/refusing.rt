@@ -1,6 +1,6 @@
-//! What the work comes to where there is no catalogue.
-ghost use Rattle.mh_top_lists.specs.Faults.{FaultStops};
-ghost use Rattle.mh_top_drive.specs.Stages.{Halts};
+//! Why the work stops where there is no catalogue.
+ghost use Rattle.mh_top_lists.specs.code.Faults.{FaultStops};
+ghost use Rattle.mh_top_drive.specs.code.Stages.{Halts};
 ghost use Rattle.mh_top_drive.specs.declared.stop.Cause.TheVariants.{Refused};
 ghost use Rattle.mh_top_plans.specs.Listing.{too_long as too_long_line};
 
@@ -8,7 +8,7 @@ use mh_catalogue_rows::CatalogueFault;
 use mh_top_drive::{Stop, refused};
 use std::alloc::Global;
 
-/// The refusal where each sentence that fails in a state is too dear.
+/// The refusal for a state in which only sentences that are too long are refused.
 fn too_long(alloc: Global, state: u32) -> Stop
     ensures { Halts (Refused (too_long_line state)) result }
 {
@@ -18,7 +18,7 @@ fn too_long(alloc: Global, state: u32) -> Stop
     }
 }
 
-/// Why there is no catalogue.
+/// Why the work stops, by the fault of the catalogue.
 pub(crate) fn stop_of(alloc: Global, fault: CatalogueFault) -> Stop
     ensures { FaultStops fault result }
 {

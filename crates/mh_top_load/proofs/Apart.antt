@@ -22,7 +22,7 @@ use Rattle.mh_reader_parser.specs.Signs.{is_capital}
 use Rattle.mh_front.specs.Stages.{IsGrammarOfModules}
 use Rattle.mh_validate_valid.specs.Valid.{AreNamesApart}
 use Rattle.mh_grammar.specs.Text.{Text}
-use Rattle.mh_top_load.specs.Modules.{HasCapitals}
+use Rattle.mh_top_load.specs.code.Capitals.{HasCapitals}
 
 -- a name that is there is found
 found_at : (k : Text) (ks : List Text) (i : ℕ) → slice_get ks i ≡ Some k → list_any (same k) ks ≡ true

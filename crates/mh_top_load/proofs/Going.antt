@@ -7,7 +7,7 @@ use Rattle.mh_outside.specs.Shelf.{Files}
 use Rattle.mh_rules.specs.declared.modules.Module.{Module}
 use Rattle.mh_grammar.specs.Text.{Text}
 use Rattle.mh_top_drive.specs.Causes.{Staged, Go, Halt, On, Then, Gives}
-use Rattle.mh_top_drive.specs.Stages.{FilesGive, StageHas}
+use Rattle.mh_top_drive.specs.code.Stages.{FilesGive, StageHas}
 use Rattle.mh_top_drive.specs.declared.stop.Cause.{Cause}
 use Rattle.mh_top_drive.specs.declared.stop.Stop.{Stop}
 use Rattle.mh_top_drive.specs.declared.stop.Stop.TheVariants.{Halted, ShelfFailed, InputFailed, WriteFailed, OutOfMemory}
@@ -16,7 +16,7 @@ use Rattle.mh_top_drive.specs.Turns.{IsTurn}
 use Rattle.mh_top_load.specs.Order.{staged_order}
 use Rattle.mh_top_load.specs.GrammarFile.{IsModule}
 use Rattle.mh_top_load.specs.Modules.{AreModules, grammar_files}
-use Rattle.mh_top_load.specs.GrammarTurns.{IsGrammarTurn}
+use Rattle.mh_top_load.specs.code.GrammarTurns.{IsGrammarTurn}
 use Rattle.mh_top_load.specs.GrammarStage.{IsGrammarStage}
 use Rattle.mh_top_load.specs.FrontStage.{IsFront}
 use Rattle.mh_top_types.specs.declared.front.Front.{Front}

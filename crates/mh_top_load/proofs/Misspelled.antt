@@ -5,7 +5,7 @@ use Rattle.mh_rules.specs.declared.modules.Module.{Module}
 use Rattle.mh_reader_parser.specs.Spelling.{Spells}
 use Rattle.mh_reader_parser.specs.Faults.{IsSyntaxLine}
 use Rattle.mh_grammar.specs.Text.{Text}
-use Rattle.mh_top_drive.specs.Stages.{StageHas, Halts}
+use Rattle.mh_top_drive.specs.code.Stages.{StageHas, Halts}
 use Rattle.mh_top_drive.specs.declared.stop.Cause.TheVariants.{Refused}
 use Rattle.mh_top_drive.specs.declared.stop.Stop.{Stop}
 use Rattle.mh_top_drive.specs.declared.stop.Stop.TheVariants.{Halted, ShelfFailed, InputFailed, WriteFailed, OutOfMemory}

@@ -17,7 +17,8 @@ use Rattle.mh_top_drive.specs.Causes.{Staged, Go, Halt, On, Then, Gives}
 use Rattle.mh_sample.specs.Texts.{grammar_text}
 use Rattle.mh_top_drive.specs.FileStage.{AreFiles, IsFile}
 use Rattle.mh_top_load.specs.GrammarFile.{IsModule}
-use Rattle.mh_top_load.specs.Modules.{AreModulesBy, HasCapitals, sample_file}
+use Rattle.mh_top_load.specs.Modules.{AreModulesBy, sample_file}
+use Rattle.mh_top_load.specs.code.Capitals.{HasCapitals}
 
 module _ (P : Module → Type 0) (each : (bytes : Text) (m : Module) → Spells bytes m → P m) where
   of_file : (files : Option Files) (name : Text) (m : Module) → IsFile files IsModule name (Go m) → P m

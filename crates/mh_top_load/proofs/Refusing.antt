@@ -8,8 +8,8 @@ use Rattle.mh_front.specs.declared.fault.GrammarFault.TheVariants.{Join, Expand,
 use Rattle.mh_front.specs.Stages.{IsGrammarFault, Causes}
 use Rattle.mh_top_load.specs.GrammarStage.{IsGrammarStage}
 use Rattle.mh_top_load.specs.Texts.{refusal}
-use Rattle.mh_top_load.specs.ModuleFaults.{RefusesBy}
-use Rattle.mh_top_drive.specs.Stages.{StageHas, Halts}
+use Rattle.mh_top_load.specs.code.ModuleFaults.{RefusesBy}
+use Rattle.mh_top_drive.specs.code.Stages.{StageHas, Halts}
 use Rattle.mh_top_drive.specs.declared.stop.Cause.TheVariants.{Refused}
 use Rattle.mh_top_drive.specs.declared.stop.Stop.{Stop}
 use Rattle.mh_top_drive.specs.declared.stop.Stop.TheVariants.{Halted, ShelfFailed, InputFailed, WriteFailed, OutOfMemory}

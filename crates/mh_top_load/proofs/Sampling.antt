@@ -11,7 +11,7 @@ use Rattle.mh_rules.specs.declared.modules.Module.{Module}
 use Rattle.mh_sample.specs.Texts.{each_from, operators_of, token_line, left_text, right_text, level_line, last_level_line, grammar_text}
 use Rattle.mh_grammar.specs.Text.{Text}
 use Rattle.mh_top_drive.specs.Causes.{Staged, Go, Gives}
-use Rattle.mh_top_drive.specs.Stages.{FilesGive, ShelfCounts, StageHas, listed}
+use Rattle.mh_top_drive.specs.code.Stages.{FilesGive, ShelfCounts, StageHas, listed}
 use Rattle.mh_top_drive.specs.declared.stop.Stop.{Stop}
 use Rattle.mh_top_drive.specs.declared.stop.Stop.TheVariants.{Halted, ShelfFailed, InputFailed, WriteFailed, OutOfMemory}
 use Rattle.mh_top_drive.proofs.Binding.{no_names, then_stops}

@@ -1,9 +1,7 @@
 pub mod Texts
-pub mod ModuleFaults
 pub mod GrammarFile
 pub mod Modules
 pub mod GrammarStage
 pub mod Order
 pub mod FrontStage
-pub mod GrammarTurns
-pub mod UsageFaults
+pub mod code

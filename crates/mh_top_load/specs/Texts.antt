@@ -1,4 +1,5 @@
--- The lines on err that tell why there is no order, no module, or no grammar.
+-- The lines on err where words spell no order, a file spells no module, or modules give no grammar (this project's
+-- profile).
 use Rattle.std.specs.Prelude.{ℕ, ◌++◌, codes, decimal}
 use Rattle.mh_front.specs.declared.fault.GrammarFault.{GrammarFault}
 use Rattle.mh_front.specs.Texts.{fault_text}
@@ -7,9 +8,11 @@ use Rattle.mh_top_drive.specs.Text.{out_of_memory}
 use Rattle.mh_opts.specs.declared.order.UsageFault.{UsageFault}
 use Rattle.mh_opts.specs.declared.order.UsageFault.TheVariants.{Parse, Number, NoMode, TwoModes, Misplaced, NoGrammar, Memory}
 
+-- the line for a file that spells no module
 abbrev pub syntax_error : Text → ℕ → Text
 syntax_error name line = codes "menhir: " ++ (name ++ (codes ":" ++ (decimal line ++ codes ": syntax error\n")))
 
+-- the line for modules that give no grammar
 abbrev pub refusal : GrammarFault → Text
 refusal fault = codes "menhir: " ++ (fault_text fault ++ codes "\n")
 

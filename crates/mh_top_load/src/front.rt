@@ -1,13 +1,14 @@
-//! The order that the words spell, and the grammar of its modules. Nothing is written, and nothing of the input is taken.
+//! From the words to the grammar: the order that the words spell, its modules, and the grammar that they give.
+//! Nothing is written, and nothing of the input is read.
 ghost use Rattle.std.specs.Prelude.{◌≡◌, ◌≤◌, List, ℕ, length, map, string_bytes, IfOk};
 ghost use Rattle.mh_grammar.specs.Costs.{HaveCosts};
 ghost use Rattle.mh_grammar.specs.Plain.{plain_of, IsInRange};
 ghost use Rattle.mh_rules.specs.declared.joined.TheConstants.{MAX_TOKENS};
 ghost use Rattle.mh_top_drive.specs.Causes.{Go};
 ghost use Rattle.mh_top_load.specs.FrontStage.{IsFront};
-ghost use Rattle.mh_top_load.specs.GrammarTurns.{AsksForGrammars, IsGrammarTurn};
+ghost use Rattle.mh_top_load.specs.code.GrammarTurns.{AsksForGrammars, IsGrammarTurn};
 ghost use Rattle.mh_top_load.specs.Order.{staged_order};
-ghost use Rattle.mh_top_drive.specs.Stages.{FilesGive, ShelfCounts};
+ghost use Rattle.mh_top_drive.specs.code.Stages.{FilesGive, ShelfCounts};
 ghost use Rattle.mh_validate_valid.specs.Valid.{AreNamesApart};
 
 use crate::grammar::grammar_in;
@@ -18,7 +19,7 @@ use mh_top_drive::Stop;
 use mh_top_types::Front;
 use std::alloc::Global;
 
-/// The order and its grammar: the words, the modules, and the grammar that they give.
+/// The order that the words spell, with its grammar.
 pub fn front_of<F: Shelf>(alloc: Global, words: &[String], shelf: &mut F) -> Result<Front, Stop>
     requires asked { AsksForGrammars (map string_bytes words.now) (F.MayAsk shelf.old) }
     ensures front { FilesGive (IsFront (map string_bytes words.now) (F.files shelf.old))

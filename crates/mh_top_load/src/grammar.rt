@@ -7,10 +7,10 @@ ghost use Rattle.mh_rules.specs.declared.joined.TheConstants.{MAX_TOKENS};
 ghost use Rattle.mh_rules.specs.Ready.{AreModulesReady};
 ghost use Rattle.mh_validate_valid.specs.Valid.{AreNamesApart};
 ghost use Rattle.mh_top_load.specs.GrammarStage.{IsGrammarStage};
-ghost use Rattle.mh_top_load.specs.Modules.{HasCapitals};
+ghost use Rattle.mh_top_load.specs.code.Capitals.{HasCapitals};
 ghost use Rattle.mh_top_load.specs.Texts.{refusal};
-ghost use Rattle.mh_top_load.specs.ModuleFaults.{RefusesBy};
-ghost use Rattle.mh_top_drive.specs.Stages.{StageHas, Halts};
+ghost use Rattle.mh_top_load.specs.code.ModuleFaults.{RefusesBy};
+ghost use Rattle.mh_top_drive.specs.code.Stages.{StageHas, Halts};
 ghost use Rattle.mh_top_drive.specs.declared.stop.Cause.TheVariants.{Refused};
 
 use mh_front::{GrammarFault, fault_line, grammar_of};
@@ -19,6 +19,7 @@ use mh_reader_parser::Module;
 use mh_top_drive::{Stop, refused};
 use std::alloc::Global;
 
+/// The refusal of the modules for their fault.
 fn refused_by(alloc: Global, fault: &GrammarFault) -> Stop
     ensures { Halts (Refused (refusal fault.now)) result }
 {
@@ -28,6 +29,7 @@ fn refused_by(alloc: Global, fault: &GrammarFault) -> Stop
     }
 }
 
+/// Why the work stops where modules give no grammar.
 fn stop_of(alloc: Global, fault: &GrammarFault) -> Stop
     ensures { RefusesBy fault.now result }
 {
@@ -37,7 +39,7 @@ fn stop_of(alloc: Global, fault: &GrammarFault) -> Stop
     }
 }
 
-/// The grammar that modules give, with the prelude or without. The modules are let go.
+/// The grammar that modules give, with the prelude or without.
 pub(crate) fn grammar_in(
     alloc: Global,
     modules: Vec<Module>,

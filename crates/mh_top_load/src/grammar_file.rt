@@ -1,8 +1,8 @@
-//! Grammar files: the module that the bytes of one spell.
+//! Grammar files: the module that the bytes of a file spell.
 ghost use Rattle.std.specs.Prelude.{◌≡◌, ◌<◌, ◌^◌, ◌++◌, length, IfOk, codes, decimal, string_bytes};
 ghost use Rattle.mh_top_load.specs.GrammarFile.{IsModule};
 ghost use Rattle.mh_top_load.specs.Texts.{syntax_error};
-ghost use Rattle.mh_top_drive.specs.Stages.{Halts, StageHas};
+ghost use Rattle.mh_top_drive.specs.code.Stages.{Halts, StageHas};
 ghost use Rattle.mh_top_drive.specs.declared.stop.Cause.TheVariants.{Refused};
 
 use mh_lex::SyntaxFault;
@@ -13,7 +13,7 @@ use std::alloc::{AllocError, Global};
 /// Grammar files.
 pub(crate) struct GrammarFiles;
 
-/// What stands behind a file's name.
+/// The part of the refusal that follows the name of the file.
 fn place_of(alloc: Global, line: u32) -> Result<String, AllocError>
     ensures { IfOk result (λ text.
         string_bytes text ≡ codes ":" ++ (decimal line ++ codes ": syntax error\n")) }
@@ -21,6 +21,7 @@ fn place_of(alloc: Global, line: u32) -> Result<String, AllocError>
     format!(in alloc; ":{line}: syntax error\n")
 }
 
+/// The refusal of a file that spells no module, with the line where the syntax fails.
 fn no_module(alloc: Global, name: &[u8], line: u32) -> Stop
     ensures { Halts (Refused (syntax_error name.now line)) result }
 {

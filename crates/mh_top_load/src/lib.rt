@@ -1,6 +1,4 @@
-//! The modules of an order, those of its grammar files or that of its sample, and the grammar that they give.
-//!
-//! From words and files to the grammar.
+//! The first part of the work: from the words and the grammar files to the order and its grammar.
 #![tactic(auto)]
 
 mod front;
@@ -10,4 +8,3 @@ mod modules;
 mod order;
 
 pub use front::front_of;
-pub use mh_top_types::Front;

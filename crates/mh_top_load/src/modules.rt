@@ -1,8 +1,8 @@
-//! The modules of an order: those of its grammar files, or that of the sample, which is read as a file with a name of its own.
+//! The modules of an order: those of its grammar files, or that of its sample, whose text is read as that of a file.
 ghost use Rattle.std.specs.Prelude.{◌≡◌, ◌<◌, ◌^◌, ◌∷◌, [], List, ℕ, length, IfOk};
 ghost use Rattle.std.specs.List.{All};
 ghost use Rattle.mh_sample.specs.Texts.{grammar_text};
-ghost use Rattle.mh_top_drive.specs.Stages.{FilesGive, ShelfCounts, StageHas, listed};
+ghost use Rattle.mh_top_drive.specs.code.Stages.{FilesGive, ShelfCounts, StageHas, listed};
 ghost use Rattle.mh_top_load.specs.GrammarFile.{IsModule};
 ghost use Rattle.mh_top_load.specs.Modules.{AreModules, IsSampleModule, grammar_files, sample_of as sample_in};
 ghost use Rattle.mh_top_drive.specs.Turns.{IsTurn};
@@ -34,7 +34,7 @@ fn sample_text(alloc: Global, number: u32) -> Result<Vec<u8>, Memory>
     sample_grammar(alloc, number)
 }
 
-/// A module alone.
+/// A list of one module.
 fn alone(alloc: Global, made: Module) -> Result<Vec<Module>, Memory>
     ensures { IfOk result (λ modules. modules.items ≡ made ∷ []) }
 {
@@ -43,7 +43,7 @@ fn alone(alloc: Global, made: Module) -> Result<Vec<Module>, Memory>
     Ok(modules)
 }
 
-/// The module of a sample, alone.
+/// The module of a sample, as the only one.
 fn sample_modules(alloc: Global, number: u32) -> Result<Vec<Module>, Stop>
     ensures { StageHas (IsSampleModule number) (listed result) }
 {

@@ -1,8 +1,8 @@
-//! The words of the command line.
+//! The order that the words of the command line spell, or why they are misused.
 ghost use Rattle.std.specs.Prelude.{◌≡◌, ◌++◌, map, string_bytes};
 ghost use Rattle.mh_top_load.specs.Order.{staged_order};
-ghost use Rattle.mh_top_load.specs.UsageFaults.{HaltsBy};
-ghost use Rattle.mh_top_drive.specs.Stages.{Halts, StageHas};
+ghost use Rattle.mh_top_load.specs.code.UsageFaults.{HaltsBy};
+ghost use Rattle.mh_top_drive.specs.code.Stages.{Halts, StageHas};
 ghost use Rattle.mh_top_drive.specs.declared.stop.Cause.TheVariants.{Misused as Misused'};
 
 use mh_opts::{Order, UsageFault, read_words};
@@ -21,7 +21,7 @@ fn misused(alloc: Global, before: &[u8], middle: &[u8], after: &[u8]) -> Stop
     }
 }
 
-/// Why the words are no order.
+/// Why the work stops where the words spell no order.
 fn usage(alloc: Global, fault: &UsageFault) -> Stop
     ensures { HaltsBy fault.now result }
 {

@@ -3,7 +3,7 @@ use Rattle.std.proofs.Common.{◌≡◌, ◌∷◌, Option, Err, [], subst, refl
 use Rattle.mh_outside.specs.Shelf.{Files}
 use Rattle.mh_grammar.specs.Text.{Text}
 use Rattle.mh_top_drive.specs.Causes.{Go, Gives}
-use Rattle.mh_top_drive.specs.Stages.{FilesGive}
+use Rattle.mh_top_drive.specs.code.Stages.{FilesGive}
 use Rattle.mh_top_drive.specs.declared.stop.Stop.{Stop}
 use Rattle.mh_top_drive.proofs.Binding.{names_wider, then_on, then_stops}
 use Rattle.mh_top_drive.specs.FileStage.{IsFile}

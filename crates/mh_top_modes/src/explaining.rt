@@ -1,15 +1,14 @@
-//! The entry of the sentence on the first line of the input.
+//! The mode that explains the first line of the input: the entry of its sentence, or why the sentence has none.
 ghost use Rattle.std.specs.Prelude.{◌≡◌, ◌<◌, ◌≤◌, ◌^◌, ◌++◌, ℕ, [], length, codes, IfOk};
 ghost use Rattle.std.specs.List.{All};
 ghost use Rattle.mh_tables_core.specs.Failing.{Fails};
 ghost use Rattle.mh_report_comments.specs.Comments.{IsEntryText};
 ghost use Rattle.mh_run.specs.Verdicts.{ending_for};
 ghost use Rattle.mh_check.specs.Texts.{ending_text as ending_words, early_text};
-ghost use Rattle.mh_top_plans.specs.Explained.{IsTold, IsToldSentence, told_not};
-ghost use Rattle.mh_top_drive.specs.Drive.{Ran};
-ghost use Rattle.mh_top_drive.specs.Steps.{Counts};
+ghost use Rattle.mh_top_plans.specs.Explained.{IsExplained, IsExplainedSentence, input_refusal};
+ghost use Rattle.mh_top_drive.specs.code.Steps.{ModeRan, Counts};
 ghost use Rattle.mh_top_plans.specs.Plan.{Explains, by_plan};
-ghost use Rattle.mh_top_types.specs.Prepared.{IsFit};
+ghost use Rattle.mh_top_types.specs.code.Prepared.{IsFit};
 
 use mh_check::{ending_text, write_early};
 use mh_grammar::{Memory, Sentence, Sequence};
@@ -18,47 +17,52 @@ use mh_outside::{Sink, Source};
 use mh_report_comments::entry_text;
 use mh_run::{Verdict, verdict};
 use mh_top_drive::{Asks, Mode, Stop, drive};
-use mh_top_plans::{Told, tell};
+use mh_top_plans::{FinalText, write_final};
 use mh_top_types::Prepared;
 use std::alloc::Global;
 
-/// There is no entry, for a reason in three parts.
-fn not_told(alloc: Global, before: &[u8], middle: &[u8], after: &[u8]) -> Result<Told, Memory>
-    ensures { IfOk result (λ told. told ≡ told_not (before.now ++ middle.now ++ after.now)) }
+/// The refusal of the input for a reason in three parts.
+fn refuse_input(
+    alloc: Global,
+    before: &[u8],
+    middle: &[u8],
+    after: &[u8],
+) -> Result<FinalText, Memory>
+    ensures { IfOk result (λ made. made ≡ input_refusal (before.now ++ middle.now ++ after.now)) }
 {
     let mut line = b"menhir: input: ".to_vec(alloc)?;
     line.extend_from_slice(before)?;
     line.extend_from_slice(middle)?;
     line.extend_from_slice(after)?;
-    Ok(Told::Not {
+    Ok(FinalText::Refusal {
         line: Sequence::from_vec(line),
     })
 }
 
-/// The sentence is refused at this place, before its last token.
-fn told_early(alloc: Global, at: u32) -> Result<Told, Memory>
-    ensures { IfOk result (λ told. told ≡ told_not (early_text at)) }
+/// The refusal of a sentence that is refused early, at this place.
+fn refuse_early(alloc: Global, at: u32) -> Result<FinalText, Memory>
+    ensures { IfOk result (λ made. made ≡ input_refusal (early_text at)) }
 {
     let mut line = b"menhir: input: ".to_vec(alloc)?;
     write_early(alloc, &mut line, at)?;
-    Ok(Told::Not {
+    Ok(FinalText::Refusal {
         line: Sequence::from_vec(line),
     })
 }
 
-/// It is not refused.
-fn told_unrefused(alloc: Global, verdict: Verdict) -> Result<Told, Memory>
-    ensures { IfOk result (λ told. told ≡ told_not (ending_words (ending_for verdict))) }
+/// The refusal of a sentence that is not refused, by its verdict.
+fn refuse_ending(alloc: Global, verdict: Verdict) -> Result<FinalText, Memory>
+    ensures { IfOk result (λ made. made ≡ input_refusal (ending_words (ending_for verdict))) }
 {
     let mut line = b"menhir: input: ".to_vec(alloc)?;
     line.extend_from_slice(ending_text(verdict))?;
-    Ok(Told::Not {
+    Ok(FinalText::Refusal {
         line: Sequence::from_vec(line),
     })
 }
 
-/// The entry of a sentence that fails.
-fn told_entry<const W: usize>(
+/// The entry of a sentence that is refused at its last token.
+fn entry_of<const W: usize>(
     alloc: Global,
     prepared: &Prepared<W>,
     sentence: &Sentence,
@@ -81,58 +85,58 @@ fn told_entry<const W: usize>(
     Ok(Sequence::from_vec(text))
 }
 
-/// What a sentence is told.
-fn told_sentence<const W: usize>(
+/// The final text for a sentence.
+fn explain_sentence<const W: usize>(
     alloc: Global,
     prepared: &Prepared<W>,
     sentence: &Sentence,
-) -> Result<Told, Memory>
+) -> Result<FinalText, Memory>
     requires few { W ≤ 8 }
     requires fit { IsFit prepared.now }
     requires start { sentence.now.start < length prepared.now.tabled.halting.grammar.starts }
     requires tokens { All (λ z. z < prepared.now.tabled.halting.grammar.tokens) sentence.now.tokens }
     requires size { length sentence.now.tokens < 2 ^ 32 }
-    ensures { IfOk result (λ told. IsToldSentence prepared.now sentence.now told) }
+    ensures { IfOk result (λ made. IsExplainedSentence prepared.now sentence.now made) }
 {
     let tokens = sentence.tokens.as_slice();
     let ended = verdict(alloc, &prepared.tabled.halting, sentence.start, tokens)?;
     match ended {
-        Verdict::Reject { at, .. } if at as usize + 1 == tokens.len() => Ok(Told::Said {
-            text: told_entry(alloc, prepared, sentence)?,
+        Verdict::Reject { at, .. } if at as usize + 1 == tokens.len() => Ok(FinalText::Written {
+            text: entry_of(alloc, prepared, sentence)?,
         }),
-        Verdict::Reject { at, .. } => told_early(alloc, at),
-        Verdict::Accept { .. } => told_unrefused(alloc, ended),
-        Verdict::Overshoot { .. } => told_unrefused(alloc, ended),
+        Verdict::Reject { at, .. } => refuse_early(alloc, at),
+        Verdict::Accept { .. } => refuse_ending(alloc, ended),
+        Verdict::Overshoot { .. } => refuse_ending(alloc, ended),
     }
 }
 
-/// What a line is told.
-fn told_line<const W: usize>(
+/// The final text for a line.
+fn explain_line<const W: usize>(
     alloc: Global,
     prepared: &Prepared<W>,
     line: &[u8],
-) -> Result<Told, Memory>
+) -> Result<FinalText, Memory>
     requires few { W ≤ 8 }
     requires fit { IsFit prepared.now }
     requires short { length line.now < 2 ^ 32 }
-    ensures { IfOk result (λ told. IsTold prepared.now line.now told) }
+    ensures { IfOk result (λ made. IsExplained prepared.now line.now made) }
 {
     match read_sentence(alloc, &prepared.grammar, line) {
-        Ok(sentence) => told_sentence(alloc, prepared, &sentence),
-        Err(SentenceFault::Unreadable) => not_told(alloc, b"unreadable\n", b"", b""),
+        Ok(sentence) => explain_sentence(alloc, prepared, &sentence),
+        Err(SentenceFault::Unreadable) => refuse_input(alloc, b"unreadable\n", b"", b""),
         Err(SentenceFault::UnknownStart { name }) => {
-            not_told(alloc, b"unknown start ", name.as_slice(), b"\n")
+            refuse_input(alloc, b"unknown start ", name.as_slice(), b"\n")
         }
-        Err(SentenceFault::MissingStart) => not_told(alloc, b"missing start\n", b"", b""),
+        Err(SentenceFault::MissingStart) => refuse_input(alloc, b"missing start\n", b"", b""),
         Err(SentenceFault::UnknownToken { name }) => {
-            not_told(alloc, b"unknown token ", name.as_slice(), b"\n")
+            refuse_input(alloc, b"unknown token ", name.as_slice(), b"\n")
         }
         Err(SentenceFault::Memory) => Err(Memory),
     }
 }
 
-/// A mode that asks for the first line alone, and tells at its end what that is told; where there is none, what the empty line
-/// is told.
+/// The mode that asks for the first line alone and explains this line at its end. An input without a line is
+/// explained as an empty line is.
 #[derive(Drop)]
 struct Explaining<'a, const W: usize> {
     prepared: &'a Prepared<W>,
@@ -142,7 +146,7 @@ struct Explaining<'a, const W: usize> {
 impl<'a, const W: usize> Mode for Explaining<'a, W> {
     ghost use Rattle.std.specs.Prelude.{◌≡◌, ◌≤◌, ◌<◌, ◌^◌, length};
     ghost use Rattle.mh_top_plans.specs.Plan.{Plan, by_plan, Explains};
-    ghost use Rattle.mh_top_types.specs.Prepared.{IsFit};
+    ghost use Rattle.mh_top_types.specs.code.Prepared.{IsFit};
 
     ghost State = { Plan };
 
@@ -160,24 +164,12 @@ impl<'a, const W: usize> Mode for Explaining<'a, W> {
     }
 
     fn end<O: Sink>(self, alloc: Global, out: &mut O) -> Result<(), Stop> {
-        let told = told_line(alloc, self.prepared, self.line.as_slice())?;
-        tell(out, told)
+        let made = explain_line(alloc, self.prepared, self.line.as_slice())?;
+        write_final(out, made)
     }
 }
 
-/// What tells what the first line is told, from the empty one on.
-fn explain_by<'a, const W: usize>(alloc: Global, prepared: &'a Prepared<W>) -> Explaining<'a, W>
-    requires few { W ≤ 8 }
-    requires fit { IsFit prepared.now }
-    ensures { (W ≤ 8) × IsFit result.prepared.now × (length result.line < 2 ^ 32) × (Explains prepared.now [] ≡ Explains result.prepared.now result.line) }
-{
-    Explaining {
-        prepared,
-        line: Sequence::new(alloc),
-    }
-}
-
-/// Tells the entry of the sentence on the first line of the input, or why there is none.
+/// Explains the first line of the input.
 pub fn explain<I: Source, O: Sink, const W: usize>(
     alloc: Global,
     prepared: &Prepared<W>,
@@ -186,11 +178,14 @@ pub fn explain<I: Source, O: Sink, const W: usize>(
 ) -> Result<(), Stop>
     requires few { W ≤ 8 }
     requires fit { IsFit prepared.now }
-    ensures ran { Ran by_plan (Explains prepared.now []) (I.left input.old) (I.left input.new)
+    ensures ran { ModeRan by_plan (Explains prepared.now []) (I.left input.old) (I.left input.new)
         (O.written out.old) (O.written out.new) result }
     ensures counts { Counts (I.faults input.old) (I.faults input.new)
         (O.faults out.old) (O.faults out.new) result }
 {
-    let mode = explain_by(alloc, prepared);
+    let mode = Explaining {
+        prepared,
+        line: Sequence::new(alloc),
+    };
     drive(alloc, mode, input, out)
 }

@@ -1,4 +1,4 @@
-//! Verdicts on the input's lines.
+//! The mode that answers each line of the input with its verdict.
 ghost use Rattle.std.specs.Prelude.{◌≡◌, ◌<◌, ◌≤◌, ◌^◌, ◌++◌, List, ℕ, length, IfOk, OnOk};
 ghost use Rattle.std.specs.List.{All};
 ghost use Rattle.mh_grammar.specs.Plain.{plain_of};
@@ -6,13 +6,13 @@ ghost use Rattle.mh_engine.specs.Outcomes.{tree_ending_for};
 ghost use Rattle.mh_run.specs.Verdicts.{ending_for};
 ghost use Rattle.mh_msgfile.specs.Sentences.{vocabulary_in, vocabulary_of};
 ghost use Rattle.mh_check.specs.Compiling.{message_at};
-ghost use Rattle.mh_top_plans.specs.Modes.{Followed, Opens};
+ghost use Rattle.mh_top_plans.specs.code.Modes.{Followed, Opens};
 ghost use Rattle.mh_opts.specs.declared.jobs.Job.TheVariants.{Interpret as Interpret'};
 ghost use Rattle.mh_top_plans.specs.Plan.{Judges, IsPlanOfJob, MessagesFor};
 ghost use Rattle.mh_top_plans.specs.Files.{IsTurnOfJob, named};
-ghost use Rattle.mh_top_drive.specs.Stages.{FilesGive, ShelfCounts};
-ghost use Rattle.mh_top_drive.specs.Steps.{Counts, FileCounts};
-ghost use Rattle.mh_top_types.specs.Prepared.{IsFit};
+ghost use Rattle.mh_top_drive.specs.code.Stages.{FilesGive, ShelfCounts};
+ghost use Rattle.mh_top_drive.specs.code.Steps.{Counts, FileCounts};
+ghost use Rattle.mh_top_types.specs.code.Prepared.{IsFit};
 ghost use Rattle.mh_top_plans.specs.Verdicts.{AnswersOne, IsOutcomeText, IsVerdictText, SentenceText, message_or, outcome_text as outcome_line, refusal_text as refusal_line, verdict_text as verdict_line};
 
 use mh_check::Compiled;
@@ -29,21 +29,21 @@ use mh_top_types::Prepared;
 use mh_tree::print_tree;
 use std::alloc::Global;
 
-/// What answers each line with its verdict.
+/// The mode: by what each line is answered.
 #[derive(Drop)]
 struct Judging<'a> {
-    /// Whether what is accepted has its tree.
+    /// Whether an accepted sentence is shown with its tree.
     trees: bool,
     grammar: &'a Grammar,
     lexicon: Lexicon,
     halting: &'a Halting,
-    /// The messages of what is refused.
+    /// The messages for refused sentences, where a messages file is given.
     messages: Option<Compiled>,
     ghost numbers: { vocabulary_in lexicon ≡ vocabulary_of grammar.now },
     ghost same: { halting.now.grammar ≡ plain_of grammar.now },
 }
 
-/// Writes the message of a state, or that there is none.
+/// Writes the message of a state, or a line that says that there is none.
 fn write_message(
     alloc: Global,
     text: &mut Vec<u8>,
@@ -63,7 +63,7 @@ fn write_message(
     Ok(())
 }
 
-/// The words for a refusal in a state, and what stands behind them.
+/// The answer to a sentence that is refused in a state.
 fn refusal_text(alloc: Global, messages: &Option<Compiled>, state: u32) -> Result<Vec<u8>, Memory>
     ensures { IfOk result (λ text. text.items ≡ refusal_line messages.now state) }
 {
@@ -74,7 +74,7 @@ fn refusal_text(alloc: Global, messages: &Option<Compiled>, state: u32) -> Resul
     Ok(text)
 }
 
-/// The words for a verdict.
+/// The answer for a verdict.
 fn verdict_text(
     alloc: Global,
     messages: &Option<Compiled>,
@@ -105,7 +105,7 @@ fn verdict_answer(alloc: Global, by: &Judging<'_>, sentence: &Sentence) -> Resul
     verdict_text(alloc, &by.messages, verdict)
 }
 
-/// The words for how a run with its trees ends, and the tree.
+/// The answer for the outcome of a run with trees.
 fn outcome_text(alloc: Global, by: &Judging<'_>, outcome: &TreeOutcome) -> Result<Vec<u8>, Memory>
     ensures { IfOk result (λ text. text.items ≡ outcome_line by.now.grammar.now by.now.messages (tree_ending_for outcome.now)) }
 {
@@ -198,7 +198,7 @@ impl<'a> Mode for Judging<'a> {
     }
 }
 
-/// The messages that an order names, where it names a file of them.
+/// Reads the messages file that the order names, where the order names one.
 fn messages_for<F: Shelf, const W: usize>(
     alloc: Global,
     prepared: &Prepared<W>,
@@ -221,7 +221,7 @@ fn messages_for<F: Shelf, const W: usize>(
     }
 }
 
-/// What judges by the table, with the messages that the order names.
+/// Opens the mode, with the messages of the file that the order names.
 fn judge_by<'a, F: Shelf, const W: usize>(
     alloc: Global,
     prepared: &'a Prepared<W>,
@@ -255,7 +255,7 @@ fn judge_by<'a, F: Shelf, const W: usize>(
     }
 }
 
-/// Answers each line of the input with its verdict.
+/// Runs the mode that answers each line of the input with its verdict.
 pub fn interpret<F: Shelf, I: Source, O: Sink, const W: usize>(
     alloc: Global,
     prepared: &Prepared<W>,

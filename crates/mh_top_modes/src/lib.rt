@@ -1,12 +1,5 @@
-//! The mode that answers each line of the input with its verdict.
-//!
-//! The modes that read messages files: compiled, compared, echoed, and brought up to date.
-//!
-//! The modes that write only what follows from the table: the automaton, and the table file.
-//!
-//! The mode that serves sessions on the lines of the input.
-//!
-//! The mode that tells the entry of the first line of the input.
+//! The modes of the jobs, but for those that write what the catalogue gives: verdicts and sessions on the lines of
+//! the input, the entry of the first line, the automaton and its table file, and what is made of messages files.
 #![tactic(auto)]
 
 mod comparing;
@@ -19,12 +12,12 @@ mod serving;
 mod showing;
 mod updating;
 
-pub use comparing::{Pair, compare_errors};
+pub use comparing::compare_errors;
 pub use compiling::compile_errors;
 pub use echoing::echo_errors;
 pub use explaining::explain;
-pub use exporting::export_tables;
+pub use exporting::TableFile;
 pub use judging::interpret;
 pub use serving::run_session;
-pub use showing::show_automaton;
+pub use showing::AutomatonText;
 pub use updating::update_errors;

@@ -1,13 +1,13 @@
-//! Sessions on the input's lines.
+//! The mode that serves a session: each line of the input is a command on named branches of a parse.
 ghost use Rattle.std.specs.Prelude.{◌≡◌, ◌≤◌, []};
 ghost use Rattle.mh_grammar.specs.Plain.{plain_of};
 ghost use Rattle.mh_msgfile.specs.Sentences.{vocabulary_in, vocabulary_of};
 ghost use Rattle.mh_session_branches.specs.Answers.{Branches};
 ghost use Rattle.mh_session.specs.Standing.{StandsFor};
-ghost use Rattle.mh_top_drive.specs.Steps.{Counts};
-ghost use Rattle.mh_top_plans.specs.Modes.{Followed, Opens};
+ghost use Rattle.mh_top_drive.specs.code.Steps.{Counts};
+ghost use Rattle.mh_top_plans.specs.code.Modes.{Followed, Opens};
 ghost use Rattle.mh_top_plans.specs.Plan.{Serves};
-ghost use Rattle.mh_top_types.specs.Prepared.{IsFit};
+ghost use Rattle.mh_top_types.specs.code.Prepared.{IsFit};
 
 use mh_grammar::{Grammar, Memory};
 use mh_msgfile::Lexicon;
@@ -17,7 +17,7 @@ use mh_top_drive::{Asks, Mode, Stop, drive_opened};
 use mh_top_types::Prepared;
 use std::alloc::Global;
 
-/// What answers each line as a command on named branches.
+/// The mode: the session, and by what each line is read.
 #[derive(Drop)]
 struct Serving<'a> {
     grammar: &'a Grammar,
@@ -52,7 +52,7 @@ impl<'a> Mode for Serving<'a> {
     }
 }
 
-/// What answers the commands of a session on the table, from no names on.
+/// Opens the mode, with a session that has no names yet.
 fn serve_on<'a, const W: usize>(
     alloc: Global,
     prepared: &'a Prepared<W>,
@@ -74,7 +74,7 @@ fn serve_on<'a, const W: usize>(
     }
 }
 
-/// Answers each line of the input as a command on named branches.
+/// Runs the mode that answers each line of the input as a command of a session.
 pub fn run_session<I: Source, O: Sink, const W: usize>(
     alloc: Global,
     prepared: &Prepared<W>,

@@ -1,21 +1,20 @@
-//! A messages file brought up to date: its comment lines are made anew, and all else stays.
+//! The mode that brings a messages file up to date: its comment lines are made anew, and all else stays.
 ghost use Rattle.std.specs.Prelude.{◌≡◌, ◌≤◌, length};
 ghost use Rattle.mh_msgfile.specs.Messages.{AreOf};
 ghost use Rattle.mh_opts.specs.declared.jobs.Job.TheVariants.{UpdateErrors};
 ghost use Rattle.mh_top_plans.specs.Files.{IsTurnOfJob};
 ghost use Rattle.mh_top_plans.specs.MessagesStage.{IsUpdatedFile, IsUpdatedOf};
-ghost use Rattle.mh_top_plans.specs.Modes.{Followed, Opens, Tells};
+ghost use Rattle.mh_top_plans.specs.code.Modes.{Opens, WritesFinal};
 ghost use Rattle.mh_top_plans.specs.Plan.{IsPlanOfJob};
-ghost use Rattle.mh_top_types.specs.Prepared.{IsFit};
-ghost use Rattle.mh_top_drive.specs.Stages.{FilesGive, ShelfCounts, StageHas};
-ghost use Rattle.mh_top_drive.specs.Steps.{Counts, FileCounts};
+ghost use Rattle.mh_top_types.specs.code.Prepared.{IsFit};
+ghost use Rattle.mh_top_drive.specs.code.Stages.{FilesGive, ShelfCounts, StageHas};
 
 use mh_check::CheckFault;
 use mh_grammar::Sequence;
 use mh_msgfile::MsgFile;
-use mh_outside::{Shelf, Sink, Source};
-use mh_top_drive::{Stop, drive_opened};
-use mh_top_plans::{AtEnd, Telling, Told, no_fit, read_spelled_file};
+use mh_outside::Shelf;
+use mh_top_drive::Stop;
+use mh_top_plans::{FinalText, no_fit, read_spelled_file};
 use mh_top_types::Prepared;
 use mh_update::update;
 use std::alloc::Global;
@@ -46,7 +45,7 @@ fn updated_of<const W: usize>(
     }
 }
 
-/// What the named file becomes, brought up to date.
+/// Reads the named file, and brings it up to date.
 fn read_updated_file<F: Shelf, const W: usize>(
     alloc: Global,
     prepared: &Prepared<W>,
@@ -67,52 +66,24 @@ fn read_updated_file<F: Shelf, const W: usize>(
     }
 }
 
-/// The mode that writes what the named file becomes.
-fn update_by<F: Shelf, const W: usize>(
+/// The named file, brought up to date.
+pub fn update_errors<F: Shelf, const W: usize>(
     alloc: Global,
     prepared: &Prepared<W>,
     shelf: &mut F,
     file: &[u8],
-) -> Result<AtEnd<Telling>, Stop>
+) -> Result<FinalText, Stop>
     requires few { W ≤ 8 }
     requires fit { IsFit prepared.now }
     requires asked { F.MayAsk shelf.old file.now }
-    ensures opens { Opens Tells
+    ensures opens { Opens WritesFinal
         (IsPlanOfJob (UpdateErrors file.now) (F.files shelf.old) prepared.now)
         (IsTurnOfJob (UpdateErrors file.now) (F.files shelf.old) prepared.now) result }
     ensures counts { ShelfCounts (F.faults shelf.old) (F.faults shelf.new) result }
     ensures kept { F.files shelf.new ≡ F.files shelf.old }
 {
     match read_updated_file(alloc, prepared, shelf, file) {
-        Ok(text) => Ok(AtEnd {
-            writer: Telling {
-                told: Told::Said { text },
-            },
-        }),
+        Ok(text) => Ok(FinalText::Written { text }),
         Err(stop) => Err(stop),
     }
-}
-
-/// Writes what the named file becomes.
-pub fn update_errors<F: Shelf, I: Source, O: Sink, const W: usize>(
-    alloc: Global,
-    prepared: &Prepared<W>,
-    shelf: &mut F,
-    input: &mut I,
-    out: &mut O,
-    file: &[u8],
-) -> Result<(), Stop>
-    requires few { W ≤ 8 }
-    requires fit { IsFit prepared.now }
-    requires asked { F.MayAsk shelf.old file.now }
-    ensures ran { Followed (IsPlanOfJob (UpdateErrors file.now) (F.files shelf.old) prepared.now)
-        (IsTurnOfJob (UpdateErrors file.now) (F.files shelf.old) prepared.now)
-        (I.left input.old) (I.left input.new) (O.written out.old) (O.written out.new) result }
-    ensures counts { Counts (I.faults input.old) (I.faults input.new)
-        (O.faults out.old) (O.faults out.new) result }
-    ensures read { FileCounts (F.faults shelf.old) (F.faults shelf.new) result }
-    ensures kept { F.files shelf.new ≡ F.files shelf.old }
-{
-    let opened = update_by(alloc, prepared, shelf, file);
-    drive_opened(alloc, opened, input, out)
 }

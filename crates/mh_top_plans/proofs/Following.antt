@@ -5,10 +5,10 @@ use Rattle.std.specs.Prelude.{true, Result, Ok, Err}
 use Rattle.mh_outside.specs.Shelf.{Files}
 use Rattle.mh_opts.specs.declared.jobs.Job.{Job}
 use Rattle.mh_grammar.specs.Text.{Text}
-use Rattle.mh_top_drive.specs.Drive.{Ended, LeftIs, Ran}
-use Rattle.mh_top_drive.specs.Opening.{Driven, IsOpened}
-use Rattle.mh_top_drive.specs.Stages.{ShelfCounts}
-use Rattle.mh_top_drive.specs.Steps.{FileCounts}
+use Rattle.mh_top_drive.specs.Drive.{Ended, LeftIs}
+use Rattle.mh_top_drive.specs.code.Steps.{ModeRan, FileCounts}
+use Rattle.mh_top_drive.specs.code.Opening.{Driven, IsOpened}
+use Rattle.mh_top_drive.specs.code.Stages.{ShelfCounts}
 use Rattle.mh_top_drive.specs.Ways.{left_behind}
 use Rattle.mh_top_drive.specs.declared.stop.Cause.{Cause}
 use Rattle.mh_top_drive.specs.declared.stop.Stop.{Stop}
@@ -16,8 +16,9 @@ use Rattle.mh_top_drive.specs.declared.stop.Stop.TheVariants.{Halted, ShelfFaile
 use Rattle.mh_top_drive.proofs.Opening.{ran_read}
 use Rattle.mh_top_types.specs.Shapes.{Prepared}
 use Rattle.mh_top_plans.specs.Files.{IsTurnOfJob}
-use Rattle.mh_top_plans.specs.Modes.{Followed, IsUnopened, Opens}
-use Rattle.mh_top_plans.specs.Plan.{Plan, by_plan, IsPlanOfJob, halts}
+use Rattle.mh_top_plans.specs.code.Modes.{Followed, IsUnopened, Opens, WritesFinal}
+use Rattle.mh_top_plans.specs.declared.at_end.FinalText.{FinalText}
+use Rattle.mh_top_plans.specs.Plan.{Plan, by_plan, IsPlanOfJob, halts, writes_final}
 
 -- ---- a mode that halts at once
 
@@ -49,6 +50,19 @@ module _ {M : Type 0} (StandsFor : M → Plan → Type 0) where
   opened_read Is Names (Ok mode) in0 in1 out0 out1 n m r opens counts driven = subst (λ (k : ℕ). FileCounts n k r) (sym counts) (ran_read by_plan opens.0 in0 in1 out0 out1 n r (driven opens.0 opens.2))
   opened_read Is Names (Err stop) in0 in1 out0 out1 n m r opens counts driven = subst (FileCounts n m) (sym driven.0) (stopped_read stop n m counts)
 
+  pub opened_some : (Is : Plan → Type 0) (Names : Text → Type 0) (opened : Result M Stop) → Opens StandsFor Is Names opened → IsOpened StandsFor opened
+  opened_some Is Names (Ok mode) opens = (opens.0, opens.2)
+  opened_some Is Names (Err (Halted cause)) opens = tt
+  opened_some Is Names (Err (ShelfFailed name)) opens = tt
+  opened_some Is Names (Err OutOfMemory) opens = tt
+  opened_some Is Names (Err InputFailed) opens = opens
+  opened_some Is Names (Err WriteFailed) opens = opens
+
+-- a final text that was made is written
+pub made_driven : (made : Result FinalText Stop) (text : FinalText) (in0 in1 out0 out1 : Option Text) (r : Result (Unit {0}) Stop) → made ≡ Ok text → ModeRan by_plan (writes_final text) in0 in1 out0 out1 r → Driven by_plan WritesFinal made in0 in1 out0 out1 r
+made_driven made text in0 in1 out0 out1 r is ran =
+    subst (λ (m : Result FinalText Stop). Driven by_plan WritesFinal m in0 in1 out0 out1 r) (sym is) (λ plan same. subst (λ (p : Plan). ModeRan by_plan p in0 in1 out0 out1 r) (sym same) ran)
+
 -- ---- what was followed
 
 -- a mode was opened, and ran where it could be
@@ -56,8 +70,8 @@ module _ {M : Type 0} (StandsFor : M → Plan → Type 0) (Is : Plan → Type 0)
   pub opened_followed : (opened : Result M Stop) → Opens StandsFor Is Names opened → Driven by_plan StandsFor opened in0 in1 out0 out1 r → Followed Is Names in0 in1 out0 out1 r
   opened_followed (Ok mode) opens driven = inl (opens.0, opens.1, driven opens.0 opens.2)
   opened_followed (Err (Halted cause)) opens driven =
-      let ended : Ran by_plan (halts cause) in0 in0 out0 out0 (Err (Halted cause)) = ended_halts cause in0 out0 in
-      inl (halts cause, opens, subst (λ s. Ran by_plan (halts cause) in0 in1 out0 out1 s) (sym driven.0) (subst (λ x. Ran by_plan (halts cause) in0 in1 out0 x (Err (Halted cause))) (sym driven.2) (subst (λ x. Ran by_plan (halts cause) in0 x out0 out0 (Err (Halted cause))) (sym driven.1) ended)))
+      let ended : ModeRan by_plan (halts cause) in0 in0 out0 out0 (Err (Halted cause)) = ended_halts cause in0 out0 in
+      inl (halts cause, opens, subst (λ s. ModeRan by_plan (halts cause) in0 in1 out0 out1 s) (sym driven.0) (subst (λ x. ModeRan by_plan (halts cause) in0 in1 out0 x (Err (Halted cause))) (sym driven.2) (subst (λ x. ModeRan by_plan (halts cause) in0 x out0 out0 (Err (Halted cause))) (sym driven.1) ended)))
   opened_followed (Err OutOfMemory) opens driven = inr (subst (IsUnopened Names) (sym driven.0) tt, driven.1, driven.2)
   opened_followed (Err (ShelfFailed name)) opens driven = inr (subst (IsUnopened Names) (sym driven.0) opens, driven.1, driven.2)
   opened_followed (Err InputFailed) opens driven = absurd opens
@@ -97,5 +111,5 @@ module _ (files : Option Files) (p : Prepared) (job : Job) (is : p.order.job ≡
   of_job followed = subst (λ (j : Job). Followed (IsPlanOfJob j files p) (IsTurnOfJob j files p) in0 in1 out0 out1 r) (sym is) followed
 
   -- a mode that needs no opening ran
-  pub of_plan : (plan : Plan) → IsPlanOfJob job files p plan → Ran by_plan plan in0 in1 out0 out1 r → Followed (IsPlanOfJob p.order.job files p) (IsTurnOfJob p.order.job files p) in0 in1 out0 out1 r
+  pub of_plan : (plan : Plan) → IsPlanOfJob job files p plan → ModeRan by_plan plan in0 in1 out0 out1 r → Followed (IsPlanOfJob p.order.job files p) (IsTurnOfJob p.order.job files p) in0 in1 out0 out1 r
   of_plan plan planned ran = of_job (inl (plan, planned, ran))

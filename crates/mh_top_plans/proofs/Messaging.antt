@@ -15,7 +15,7 @@ use Rattle.mh_check.proofs.Either.{compiled_or_fault}
 use Rattle.mh_outside.specs.Shelf.{Files, Found}
 use Rattle.mh_grammar.specs.Text.{Text}
 use Rattle.mh_top_drive.specs.Causes.{Staged, Go, Halt, Then, Gives, On}
-use Rattle.mh_top_drive.specs.Stages.{FilesGive}
+use Rattle.mh_top_drive.specs.code.Stages.{FilesGive}
 use Rattle.mh_top_drive.specs.declared.stop.Cause.{Cause}
 use Rattle.mh_top_drive.specs.declared.stop.Cause.TheVariants.{Refused}
 use Rattle.mh_top_drive.specs.declared.stop.Stop.{Stop}
@@ -28,7 +28,7 @@ use Rattle.mh_top_drive.specs.declared.files.TheConstants.{FILE_LIMIT}
 use Rattle.mh_top_drive.proofs.Turns.{turn_first}
 use Rattle.mh_top_plans.specs.Files.{named}
 use Rattle.mh_top_plans.specs.MessagesStage.{AreMessages, AreMessagesOf, IsMessagesFile, Messages}
-use Rattle.mh_top_plans.specs.Modes.{Opens}
+use Rattle.mh_top_plans.specs.code.Modes.{Opens}
 use Rattle.mh_top_plans.specs.Plan.{Plan, MessagesFor, plan_by}
 use Rattle.mh_top_plans.proofs.Reading.{Reading, StagedRight, file_once, file_right, loaded_short, some_file, unread_halts}
 

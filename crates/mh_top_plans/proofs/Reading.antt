@@ -12,7 +12,7 @@ use Rattle.mh_top_drive.specs.declared.files.TheConstants.{FILE_LIMIT}
 use Rattle.mh_top_drive.proofs.Loads.{found_fits}
 use Rattle.mh_top_drive.proofs.Once.{loaded_once}
 use Rattle.mh_top_drive.proofs.Turns.{turn_first}
-use Rattle.mh_top_types.specs.Prepared.{IsFit}
+use Rattle.mh_top_types.specs.code.Prepared.{IsFit}
 use Rattle.mh_top_types.specs.Shapes.{Prepared}
 use Rattle.mh_top_plans.specs.MessagesStage.{AreMessages}
 use Rattle.mh_top_plans.proofs.Turning.{Turn, turn_of_one}

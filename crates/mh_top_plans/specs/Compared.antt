@@ -1,11 +1,12 @@
--- What two messages files are told: which states the first names and the second does not.
+-- What `--compare-errors` writes: nothing, or a line for each state that the first messages file names and the second
+-- does not. Source: the Menhir manual; the words of the lines are this project's profile.
 use Rattle.std.specs.Prelude.{ℕ, List, [], ◌∷◌}
 use Rattle.mh_update_renewed.specs.Missing.{missing_lines}
 use Rattle.mh_grammar.specs.Text.{Text}
-use Rattle.mh_top_plans.specs.declared.at_end.Told.{Told}
-use Rattle.mh_top_plans.specs.declared.at_end.Told.TheVariants.{Said, Not}
+use Rattle.mh_top_plans.specs.declared.at_end.FinalText.{FinalText}
+use Rattle.mh_top_plans.specs.declared.at_end.FinalText.TheVariants.{Written, Refusal}
 
--- nothing, where none is; else a line for each
-abbrev pub compared : Text → Text → List ℕ → Told
-compared first second [] = Said []
-compared first second (state ∷ states) = Not (missing_lines first second (state ∷ states))
+-- the final text by the states that the second file lacks
+abbrev pub compared : Text → Text → List ℕ → FinalText
+compared first second [] = Written []
+compared first second (state ∷ states) = Refusal (missing_lines first second (state ∷ states))

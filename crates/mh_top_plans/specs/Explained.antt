@@ -1,4 +1,6 @@
--- What one sentence is told: its entry, where it is refused at its last token; else why it has none.
+-- What `--interpret-error` writes for one sentence: the entry that a messages file would have for it, where the
+-- sentence is refused at its last token; else a line on err that says why it has no entry. Source: the Menhir manual;
+-- the words of the lines are this project's profile.
 use Rattle.std.specs.Prelude.{◌≡◌, ◌⊎◌, ◌+◌, ◌++◌, [], None, Some, length, codes}
 use Rattle.mh_grammar.specs.declared.types.Sentence.{Sentence}
 use Rattle.mh_tables_core.specs.Run.{Ending, Accepted, Overshot, Rejected, VerdictOf}
@@ -7,31 +9,33 @@ use Rattle.mh_report_comments.specs.Comments.{IsEntryText}
 use Rattle.mh_msgfile.specs.Sentences.{LineFound, IsSentence, IsUnreadable, NamesNoStart, LacksStart, NamesUnknown, sentence_in, vocabulary_of}
 use Rattle.mh_grammar.specs.Text.{Text}
 use Rattle.mh_top_types.specs.Shapes.{Prepared}
-use Rattle.mh_top_plans.specs.declared.at_end.Told.{Told}
-use Rattle.mh_top_plans.specs.declared.at_end.Told.TheVariants.{Said, Not}
+use Rattle.mh_top_plans.specs.declared.at_end.FinalText.{FinalText}
+use Rattle.mh_top_plans.specs.declared.at_end.FinalText.TheVariants.{Written, Refusal}
 
--- it has none, for this reason
-abbrev pub told_not : Text → Told
-told_not words = Not (codes "menhir: input: " ++ words)
+-- the refusal of the input for this reason
+abbrev pub input_refusal : Text → FinalText
+input_refusal words = Refusal (codes "menhir: input: " ++ words)
 
--- by how its run ends
-abbrev pub IsToldBy : Prepared → Sentence → Ending → Told → Type 0
-IsToldBy p s (Accepted read) told = told ≡ told_not (ending_text (Accepted read))
-IsToldBy p s (Overshot state) told = told ≡ told_not (ending_text (Overshot state))
-IsToldBy p s (Rejected at state) told =
-    ((at + 1 ≡ length s.tokens) × (text : Text) × IsEntryText p.grammar p.tabled.automaton p.tabled.halting s.start s.tokens text × (told ≡ Said text))
-    ⊎ ((at + 1 ≡ length s.tokens → ⊥) × (told ≡ told_not (early_text at)))
+-- the final text of a sentence by how its run ends
+abbrev pub IsExplainedBy : Prepared → Sentence → Ending → FinalText → Type 0
+IsExplainedBy p s (Accepted read) made = made ≡ input_refusal (ending_text (Accepted read))
+IsExplainedBy p s (Overshot state) made = made ≡ input_refusal (ending_text (Overshot state))
+IsExplainedBy p s (Rejected at state) made =
+    ((at + 1 ≡ length s.tokens) × (text : Text) × IsEntryText p.grammar p.tabled.automaton p.tabled.halting s.start s.tokens text × (made ≡ Written text))
+    ⊎ ((at + 1 ≡ length s.tokens → ⊥) × (made ≡ input_refusal (early_text at)))
 
-abbrev pub IsToldSentence : Prepared → Sentence → Told → Type 0
-IsToldSentence p s told = (how : Ending) × VerdictOf p.tabled.halting s.start s.tokens how × IsToldBy p s how told
+-- the final text of a sentence
+abbrev pub IsExplainedSentence : Prepared → Sentence → FinalText → Type 0
+IsExplainedSentence p s made = (how : Ending) × VerdictOf p.tabled.halting s.start s.tokens how × IsExplainedBy p s how made
 
-abbrev pub IsToldFound : Prepared → LineFound → Told → Type 0
-IsToldFound p (IsSentence s) told = IsToldSentence p s told
-IsToldFound p IsUnreadable told = told ≡ told_not (codes "unreadable\n")
-IsToldFound p (NamesNoStart name) told = told ≡ told_not (codes "unknown start " ++ name ++ codes "\n")
-IsToldFound p LacksStart told = told ≡ told_not (codes "missing start\n")
-IsToldFound p (NamesUnknown name) told = told ≡ told_not (codes "unknown token " ++ name ++ codes "\n")
+-- the final text of what a line spells
+abbrev pub IsExplainedFound : Prepared → LineFound → FinalText → Type 0
+IsExplainedFound p (IsSentence s) made = IsExplainedSentence p s made
+IsExplainedFound p IsUnreadable made = made ≡ input_refusal (codes "unreadable\n")
+IsExplainedFound p (NamesNoStart name) made = made ≡ input_refusal (codes "unknown start " ++ name ++ codes "\n")
+IsExplainedFound p LacksStart made = made ≡ input_refusal (codes "missing start\n")
+IsExplainedFound p (NamesUnknown name) made = made ≡ input_refusal (codes "unknown token " ++ name ++ codes "\n")
 
--- what a line is told
-abbrev pub IsTold : Prepared → Text → Told → Type 0
-IsTold p line told = IsToldFound p (sentence_in (vocabulary_of p.grammar) line) told
+-- the final text of a line
+abbrev pub IsExplained : Prepared → Text → FinalText → Type 0
+IsExplained p line made = IsExplainedFound p (sentence_in (vocabulary_of p.grammar) line) made

@@ -1,4 +1,4 @@
--- The files that a mode reads behind the warnings.
+-- The files that the mode of a job reads after the warnings, and when the turn of each comes.
 use Rattle.std.specs.Prelude.{[], ◌∷◌, List, Option, None, Some}
 use Rattle.mh_opts.specs.declared.jobs.Job.{Job}
 use Rattle.mh_opts.specs.declared.jobs.Job.TheVariants.{Interpret, CompareErrors, CompileErrors, EchoErrors, UpdateErrors}
@@ -9,11 +9,12 @@ use Rattle.mh_top_types.specs.Shapes.{Prepared}
 use Rattle.mh_top_drive.specs.Turns.{IsTurn}
 use Rattle.mh_top_plans.specs.MessagesStage.{AreMessages}
 
+-- the name of a file as a list, empty where there is none
 abbrev pub named : Option Text → List Text
 named None = []
 named (Some name) = name ∷ []
 
--- in the order in which they are read
+-- the files of a job, in the order in which they are read
 abbrev pub files_of_job : Job → Order → List Text
 files_of_job Interpret order = named order.messages
 files_of_job (CompileErrors file) order = file ∷ []
@@ -22,9 +23,10 @@ files_of_job (EchoErrors file) order = file ∷ []
 files_of_job (CompareErrors first second) order = first ∷ second ∷ []
 files_of_job job order = []
 
+-- the files of the job of an order
 abbrev pub files_of_mode : Order → List Text
 files_of_mode order = files_of_job order.job order
 
--- the turn of one of them has come: those before it spell messages of the table
+-- The turn of this file has come: the files before it were read, and spell messages that fit the table.
 abbrev pub IsTurnOfJob : Job → Option Files → Prepared → Text → Type 0
 IsTurnOfJob job files p name = IsTurn files (AreMessages p.grammar p.tabled.halting) (files_of_job job p.order) name

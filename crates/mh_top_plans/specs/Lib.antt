@@ -1,5 +1,5 @@
 pub mod Verdicts
-pub mod Told
+pub mod FinalText
 pub mod Compared
 pub mod Explained
 pub mod MessagesStage
@@ -7,4 +7,4 @@ pub mod Listing
 pub mod Sampled
 pub mod Plan
 pub mod Files
-pub mod Modes
+pub mod code

@@ -1,4 +1,5 @@
--- Messages files: read, spelled, and checked against the table.
+-- Messages files as stages of the work: a file is read, spelled, and then checked against the table or brought up to
+-- date. Source: the Menhir manual; the refusals are this project's profile.
 use Rattle.std.specs.Prelude.{◌≡◌, List, Option}
 use Rattle.mh_grammar.specs.declared.types.Grammar.{Grammar}
 use Rattle.mh_tables_core.specs.Table.{TableData}
@@ -18,35 +19,35 @@ use Rattle.mh_top_drive.specs.declared.stop.Cause.TheVariants.{Refused}
 
 -- ---- what the bytes spell
 
--- the bytes spell no messages file, and the cause has the first fault
+-- The bytes spell no messages file, and the cause has the line of their first fault.
 pub record IsFileFault (g : Grammar) (name bytes : Text) (cause : Cause) : Type 0 where
   pub fault : FileFault
   pub has : HasFault g bytes fault
   pub cause_is : cause ≡ Refused (file_line name fault)
 
--- the messages file that bytes spell
+-- the messages file that the bytes of the named file spell, or why they spell none
 abbrev pub IsMessagesFile : Grammar → Text → Text → Staged MsgFile → Type 0
 IsMessagesFile g name bytes (Go file) = MsgSpells g bytes file
 IsMessagesFile g name bytes (Halt cause) = IsFileFault g name bytes cause
 
 -- ---- what it comes to
 
--- the messages of the states, none where a state is not named
+-- for each state its message, or none
 abbrev pub Messages : Type 0
 Messages = List (Option Text)
 
--- a file that was spelled has a sentence that does not fit the table
+-- The file has a fault against the table, and the cause has the line of the first.
 pub record IsCheckFault (t : TableData) (name : Text) (file : MsgFile) (cause : Cause) : Type 0 where
   pub fault : FaultFound
   pub first : FirstFault t (sentences_of file) fault
   pub cause_is : cause ≡ Refused (check_line name fault)
 
--- the messages that a file comes to
+-- the messages of a file that was spelled, or why it does not fit the table
 abbrev pub AreMessagesOf : TableData → Text → MsgFile → Staged Messages → Type 0
 AreMessagesOf t name file (Go messages) = IsCompiled t file messages
 AreMessagesOf t name file (Halt cause) = IsCheckFault t name file cause
 
--- the messages that the bytes of a messages file come to
+-- the messages of a file by its bytes
 abbrev pub AreMessages : Grammar → TableData → Text → Text → Staged Messages → Type 0
 AreMessages g t name bytes s = Then (IsMessagesFile g name bytes) (AreMessagesOf t name) s
 
@@ -57,17 +58,18 @@ AreBoth files p first second s =
 
 -- ---- brought up to date
 
--- a sentence of the file is not refused, or before its last token
+-- Some sentence of the file is not refused, or is refused before its last token, and the cause has the line of the
+-- first.
 pub record IsUnfit (t : TableData) (name : Text) (file : MsgFile) (cause : Cause) : Type 0 where
   pub fault : FaultFound
   pub first : FirstUnfit t (sentences_of file) fault
   pub cause_is : cause ≡ Refused (check_line name fault)
 
--- a file that was spelled, with its comment lines made anew
+-- a file that was spelled, with its comment lines made anew, or why it does not fit the table
 abbrev pub IsUpdatedOf : Prepared → Text → MsgFile → Staged Text → Type 0
 IsUpdatedOf p name file (Go text) = IsUpdated p.grammar p.tabled.automaton p.tabled.halting file text
 IsUpdatedOf p name file (Halt cause) = IsUnfit p.tabled.halting name file cause
 
--- what a file becomes: it is read and spelled, and then brought up to date
+-- the named file, read, spelled, and brought up to date
 abbrev pub IsUpdatedFile : Option Files → Prepared → Text → Staged Text → Type 0
 IsUpdatedFile files p name s = Then (IsFile files (IsMessagesFile p.grammar) name) (IsUpdatedOf p name) s

@@ -1,8 +1,9 @@
-//! What modes share: each as plain data, how one that asks for no line works, and messages files, read and checked.
+//! What the modes share: the modes as plain data (in specs), those that write only at their end, and the messages
+//! files that modes read.
 #![tactic(auto)]
 
 mod at_end;
 mod messages;
 
-pub use at_end::{AtEnd, Telling, Told, Writer, saying, tell};
+pub use at_end::{FinalText, Writer, write_at_end, write_final, write_made, written};
 pub use messages::{no_fit, read_messages_file, read_spelled_file};

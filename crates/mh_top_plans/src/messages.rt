@@ -1,4 +1,4 @@
-//! Messages files: read, spelled, and checked against the table.
+//! Messages files of the modes: read from the shelf, spelled, and checked against the table.
 ghost use Rattle.std.specs.Prelude.{◌≡◌, ◌<◌, ◌≤◌, ◌^◌, List, ℕ, length, IfOk};
 ghost use Rattle.mh_grammar.specs.Plain.{plain_of, IsInRange};
 ghost use Rattle.mh_msgfile.specs.Messages.{AreOf, Tells as TellsFile};
@@ -6,8 +6,8 @@ ghost use Rattle.mh_check.specs.Compiling.{Tells};
 ghost use Rattle.mh_check.specs.Texts.{file_line, check_line};
 ghost use Rattle.mh_top_plans.specs.MessagesStage.{AreMessages, AreMessagesOf, IsMessagesFile};
 ghost use Rattle.mh_top_drive.specs.FileStage.{IsFile};
-ghost use Rattle.mh_top_types.specs.Prepared.{IsFit};
-ghost use Rattle.mh_top_drive.specs.Stages.{FilesGive, Halts, ShelfCounts, StageHas};
+ghost use Rattle.mh_top_types.specs.code.Prepared.{IsFit};
+ghost use Rattle.mh_top_drive.specs.code.Stages.{FilesGive, Halts, ShelfCounts, StageHas};
 ghost use Rattle.mh_top_drive.specs.declared.stop.Cause.TheVariants.{Refused as Refused'};
 
 use mh_check::{CheckFault, Compiled, check_fault_line, compile, file_fault_line};
@@ -19,7 +19,8 @@ use mh_top_drive::{Spelling, Stop, read_file, refusal};
 use mh_top_types::Prepared;
 use std::alloc::Global;
 
-/// Messages files of a grammar: spelled by its names, or checked against its table, too.
+/// How messages files are read for a grammar and its table: as they are spelled by the grammar's names, or as the
+/// messages that they give the states of the table.
 #[derive(Drop)]
 struct MessagesFiles<'a> {
     grammar: &'a Grammar,
@@ -27,6 +28,7 @@ struct MessagesFiles<'a> {
     ghost same: { table.now.grammar ≡ plain_of grammar.now },
 }
 
+/// The refusal of a file that spells no messages file.
 fn no_file(alloc: Global, name: &[u8], fault: &MsgFault) -> Stop
     ensures { TellsFile fault.now (λ found. Halts (Refused' (file_line name.now found)) result) }
 {
@@ -36,7 +38,7 @@ fn no_file(alloc: Global, name: &[u8], fault: &MsgFault) -> Stop
     }
 }
 
-/// The refusal of a file that was spelled, and that does not fit the table.
+/// The refusal of a messages file that does not fit the table.
 pub fn no_fit(alloc: Global, name: &[u8], fault: &CheckFault) -> Stop
     ensures { Tells fault.now (λ found. Halts (Refused' (check_line name.now found)) result) }
 {
@@ -46,7 +48,7 @@ pub fn no_fit(alloc: Global, name: &[u8], fault: &CheckFault) -> Stop
     }
 }
 
-/// The messages of a file that was spelled.
+/// The messages of the states by a file that was spelled, where the file fits the table.
 fn messages_of(
     alloc: Global,
     table: &Halting,
@@ -77,7 +79,7 @@ fn spelled_in(alloc: Global, grammar: &Grammar, name: &[u8], bytes: &[u8]) -> Re
     }
 }
 
-/// The messages of the states, by the bytes of the named file.
+/// The messages of the states by the bytes of the named file.
 fn messages_in(
     alloc: Global,
     files: &MessagesFiles<'_>,
@@ -115,7 +117,7 @@ impl Spelling<MsgFile> for MessagesFiles<'_> {
     }
 }
 
-/// The messages of the named file, against what is prepared.
+/// Reads the named messages file, and gives the messages of the states of the table.
 pub fn read_messages_file<F: Shelf, const W: usize>(
     alloc: Global,
     prepared: &Prepared<W>,
@@ -138,7 +140,7 @@ pub fn read_messages_file<F: Shelf, const W: usize>(
     read_file(alloc, shelf, &files, name)
 }
 
-/// What the named file spells, by itself.
+/// Reads the named messages file, and gives what it spells. The file is not checked against the table.
 pub fn read_spelled_file<F: Shelf, const W: usize>(
     alloc: Global,
     prepared: &Prepared<W>,

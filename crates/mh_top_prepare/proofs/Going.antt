@@ -5,7 +5,7 @@ use Rattle.mh_grammar.specs.declared.types.Grammar.{Grammar}
 use Rattle.mh_outside.specs.Shelf.{Files}
 use Rattle.mh_grammar.specs.Text.{Text}
 use Rattle.mh_top_drive.specs.Causes.{Go, Halt, Gives}
-use Rattle.mh_top_drive.specs.Stages.{FilesGive, Halts, StageHas}
+use Rattle.mh_top_drive.specs.code.Stages.{FilesGive, Halts, StageHas}
 use Rattle.mh_top_drive.specs.declared.stop.Cause.TheVariants.{Refused}
 use Rattle.mh_top_drive.specs.declared.stop.Stop.{Stop}
 use Rattle.mh_top_drive.specs.declared.stop.Stop.TheVariants.{Halted, ShelfFailed, InputFailed, WriteFailed, OutOfMemory}
@@ -16,18 +16,21 @@ use Rattle.mh_items_kernels.specs.Shapes.{Automaton}
 use Rattle.mh_items_kernels.specs.declared.kernels.StatesFault.{StatesFault}
 use Rattle.mh_items_kernels.specs.declared.kernels.StatesFault.TheVariants as automata
 use Rattle.mh_resolve_cells.specs.declared.kinds.Mode.{Mode}
+use Rattle.mh_resolve_cells.specs.declared.kinds.Mode.TheVariants as modes
+use Rattle.mh_top_prepare.specs.code.Built.{source_in}
 use Rattle.mh_tables_core.specs.declared.parts.StateParts.{StateParts}
 use Rattle.mh_tabfile_form.specs.declared.types.RawTable.{RawTable}
 use Rattle.mh_validate_valid.specs.declared.reason.Reason.{Reason}
 use Rattle.mh_validate_valid.specs.Valid.{IsInvalidAt, IsValidFor}
 use Rattle.mh_validate.specs.declared.fault.ValidFault.{ValidFault}
 use Rattle.mh_validate.specs.declared.fault.ValidFault.TheVariants as tables
-use Rattle.mh_top_prepare.specs.Faults.{RejectsBy, RejectsStates}
-use Rattle.mh_top_prepare.specs.TableStage.{IsAutomatonStage, IsResolvedStage, IsTableStage, mode_of}
+use Rattle.mh_top_prepare.specs.code.Faults.{RejectsBy, RejectsStates}
+use Rattle.mh_top_tables.specs.TableStage.{IsAutomatonStage, IsTableStage, mode_of}
+use Rattle.mh_top_tables.specs.Tabled.{IsResolvedStage}
 use Rattle.mh_top_tables.specs.Sources.{IsSource}
-use Rattle.mh_top_prepare.specs.TableTexts.{invalid_line, too_many_states}
+use Rattle.mh_top_tables.specs.TableTexts.{invalid_line, too_many_states}
 use Rattle.mh_top_types.specs.declared.front.Front.{Front}
-use Rattle.mh_top_prepare.specs.Preparing.{IsTabledFrom, IsTabledFront}
+use Rattle.mh_top_tables.specs.Preparing.{IsTabledFrom, IsTabledFront}
 use Rattle.mh_top_types.specs.Shapes.{Prepared, Tabled}
 use Rattle.mh_top_tables.specs.declared.sources.Source.{Source}
 use Rattle.mh_top_tables.specs.declared.sources.Source.TheVariants.{File}
@@ -38,6 +41,20 @@ automaton_goes source g a r is has = then_on (IsAutomatonStage source g) (IsReso
 
 pub automaton_stops : (source : Source) (g : Grammar) (stop : Stop) → StageHas {A = Automaton} (IsAutomatonStage source g) (Err stop) → StageHas {A = Tabled} (IsTableStage source g) (Err stop)
 automaton_stops source g stop has = then_stops (IsAutomatonStage source g) (IsResolvedStage (mode_of source) g) (λ other. ⊥) stop has
+
+-- ---- an automaton that is built
+
+pub both_ok : {A E : Type 0} (P Q : A → Type 0) (r : Result A E) → IfOk r P → IfOk r Q → IfOk r (λ x. P x × Q x)
+both_ok P Q (Ok x) p q = (p, q)
+both_ok P Q (Err e) p q = tt
+
+pub mode_in : (mode : Mode) → mode_of (source_in mode) ≡ mode
+mode_in modes.Merged = refl
+mode_in modes.Canonical = refl
+
+-- its table is resolved in the mode in which it is built
+pub built_goes : (mode : Mode) (g : Grammar) (a : Automaton) (r : Result Tabled Stop) → IsAutomatonStage (source_in mode) g (Go a) → StageHas (IsResolvedStage mode g a) r → StageHas (IsTableStage (source_in mode) g) r
+built_goes mode g a r is has = automaton_goes (source_in mode) g a r is (subst (λ (m : Mode). StageHas (IsResolvedStage m g a) r) (sym (mode_in mode)) has)
 
 -- an automaton with too many states
 states_stop : (source : Source) (g : Grammar) (stop : Stop) → IsAutomatonStage source g (Halt (Refused too_many_states)) → Halts (Refused too_many_states) stop → StageHas {A = Automaton} (IsAutomatonStage source g) (Err stop)

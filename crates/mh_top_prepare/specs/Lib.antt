@@ -1,6 +1,1 @@
-pub mod TableTexts
-pub mod TableFile
-pub mod TableStage
-pub mod Preparing
-pub mod TableTurns
-pub mod Faults
+pub mod code

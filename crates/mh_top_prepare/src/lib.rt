@@ -1,9 +1,8 @@
-//! The table of an order's grammar, built or from a table file.
+//! The last part of the work before the warnings: the table of the grammar, built or taken from a table file.
 #![tactic(auto)]
 
 mod prepared;
 mod table_file;
 mod tabled;
 
-pub use mh_top_tables::Source;
 pub use prepared::prepare;

@@ -1,13 +1,13 @@
-//! The table of an order's grammar. Nothing is written, and nothing of the input is taken.
+//! The order with its grammar and its table. Nothing is written, and nothing of the input is read.
 ghost use Rattle.std.specs.Prelude.{◌≡◌, ◌≤◌, ◌*◌, List, ℕ, length, IfOk, Some};
 ghost use Rattle.mh_grammar.specs.Costs.{HaveCosts};
 ghost use Rattle.mh_grammar.specs.Plain.{plain_of, IsInRange};
-ghost use Rattle.mh_top_types.specs.Prepared.{IsFit};
+ghost use Rattle.mh_top_types.specs.code.Prepared.{IsFit};
 ghost use Rattle.mh_top_tables.specs.Turns.{AsksForTables};
-ghost use Rattle.mh_top_drive.specs.Stages.{FilesGive, ShelfCounts, StageHas};
-ghost use Rattle.mh_top_tables.specs.Sources.{IsNumbered};
+ghost use Rattle.mh_top_drive.specs.code.Stages.{FilesGive, ShelfCounts, StageHas};
+ghost use Rattle.mh_top_tables.specs.code.Sources.{IsNumbered};
 ghost use Rattle.mh_validate_valid.specs.Valid.{AreNamesApart};
-ghost use Rattle.mh_top_prepare.specs.Preparing.{IsTabledFrom, IsTabledFront};
+ghost use Rattle.mh_top_tables.specs.Preparing.{IsTabledFrom, IsTabledFront};
 
 use crate::tabled::table_of;
 use mh_outside::Shelf;
@@ -16,8 +16,8 @@ use mh_top_tables::{Source, source_of};
 use mh_top_types::{Front, Prepared, PreparedWith};
 use std::alloc::Global;
 
-/// The table of an order's grammar, by where its automaton comes from. Where there is none, what was loaded is let go by one
-/// call, here and in `prepare`: the end of a scope lets go of each field by itself, which takes long to prove.
+/// The order with its grammar and its table, by where the automaton comes from. Here and in `prepare`, `drop` lets
+/// the grammar go at once, because letting go of field after field at the end of the scope takes long to prove.
 fn prepare_from<const W: usize>(
     alloc: Global,
     front: Front,
@@ -46,7 +46,7 @@ fn prepare_from<const W: usize>(
     }
 }
 
-/// The table of an order's grammar. Where the order names a table file, that is read.
+/// The order with its grammar and its table. Where the order names a table file, this is read.
 pub fn prepare<F: Shelf, const W: usize>(
     alloc: Global,
     front: Front,

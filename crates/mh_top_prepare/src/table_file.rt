@@ -1,5 +1,5 @@
 //! The refusal of a table file that is not valid for the grammar.
-ghost use Rattle.mh_top_prepare.specs.Faults.{RejectsBy};
+ghost use Rattle.mh_top_prepare.specs.code.Faults.{RejectsBy};
 
 use mh_top_drive::Stop;
 use mh_top_tables::invalid;

@@ -1,13 +1,19 @@
-//! The automaton of a grammar, built or from a table file, with its table, where every run on it ends, and the list of its conflicts.
-ghost use Rattle.std.specs.Prelude.{◌≡◌, ◌<◌, ◌≤◌, ◌*◌, ◌^◌, length, IfOk};
+//! The automaton of a grammar, built or taken from a table file, with its table, on which every run ends, and the
+//! list of its conflicts.
+ghost use Rattle.std.specs.Prelude.{◌≡◌, ◌<◌, ◌≤◌, ◌*◌, ◌^◌, length, Err, IfOk};
 ghost use Rattle.mh_grammar.specs.Costs.{HaveCosts};
 ghost use Rattle.mh_grammar.specs.Plain.{plain_of, IsInRange};
 ghost use Rattle.mh_items_kernels.specs.Automaton.{IsAutomaton};
-ghost use Rattle.mh_top_prepare.specs.Faults.{RejectsStates};
-ghost use Rattle.mh_top_prepare.specs.TableStage.{IsAutomatonStage, IsResolvedStage, IsTableStage, IsValidated};
-ghost use Rattle.mh_top_drive.specs.Stages.{StageHas};
-ghost use Rattle.mh_top_tables.specs.declared.sources.Source.TheVariants.{Canonical, File, Merged};
-ghost use Rattle.mh_top_tables.specs.Sources.{IsNumbered};
+ghost use Rattle.mh_top_prepare.specs.code.Built.{source_in};
+ghost use Rattle.mh_top_prepare.specs.code.Faults.{IsValidated, RejectsStates};
+ghost use Rattle.mh_top_tables.specs.TableStage.{IsAutomatonStage, IsTableStage};
+ghost use Rattle.mh_top_tables.specs.TableTexts.{too_many_states as too_many_states_line};
+ghost use Rattle.mh_top_tables.specs.Tabled.{IsResolvedStage};
+ghost use Rattle.mh_top_drive.specs.Causes.{Go, Halt};
+ghost use Rattle.mh_top_drive.specs.code.Stages.{StageHas};
+ghost use Rattle.mh_top_drive.specs.declared.stop.Cause.TheVariants.{Refused};
+ghost use Rattle.mh_top_tables.specs.declared.sources.Source.TheVariants.{File};
+ghost use Rattle.mh_top_tables.specs.code.Sources.{IsNumbered};
 ghost use Rattle.mh_resolve_cells.specs.States.{IsTableOf};
 ghost use Rattle.mh_resolve_cells.specs.Conflicts.{AreConflicts};
 ghost use Rattle.mh_validate_valid.specs.Valid.{AreNamesApart};
@@ -35,65 +41,45 @@ fn no_automaton(alloc: Global, fault: StatesFault) -> Stop
     }
 }
 
-/// The canonical automaton of a grammar.
-fn canonical_of<const W: usize>(alloc: Global, grammar: &Grammar) -> Result<Automaton<W>, Stop>
+/// The automaton of a grammar in a mode: merged (Pager 1977), or canonical (Knuth 1965).
+fn automaton_in<const W: usize>(
+    alloc: Global,
+    grammar: &Grammar,
+    mode: Mode,
+) -> Result<Automaton<W>, StatesFault>
     requires few { W ≤ 8 }
     requires width { length grammar.now.tokens ≤ 64 * W }
     requires range { IsInRange (plain_of grammar.now) }
-    ensures stage { StageHas (IsAutomatonStage Canonical grammar.now) result }
+    ensures made { IfOk result (λ automaton. IsAutomatonStage (source_in mode) grammar.now (Go automaton)) }
+    ensures over { result ≡ Err StatesFault.TooManyStates → IsAutomatonStage (source_in mode) grammar.now (Halt (Refused too_many_states_line)) }
     ensures automaton { IfOk result (λ automaton. IsAutomaton (plain_of grammar.now) automaton) }
 {
-    match canonical(alloc, grammar) {
-        Ok(automaton) => Ok(automaton),
-        Err(fault) => Err(no_automaton(alloc, fault)),
+    match mode {
+        Mode::Merged => merged(alloc, grammar),
+        Mode::Canonical => canonical(alloc, grammar),
     }
 }
 
-/// The merged automaton of a grammar.
-fn merged_of<const W: usize>(alloc: Global, grammar: &Grammar) -> Result<Automaton<W>, Stop>
-    requires few { W ≤ 8 }
-    requires width { length grammar.now.tokens ≤ 64 * W }
-    requires range { IsInRange (plain_of grammar.now) }
-    ensures stage { StageHas (IsAutomatonStage Merged grammar.now) result }
-    ensures automaton { IfOk result (λ automaton. IsAutomaton (plain_of grammar.now) automaton) }
-{
-    match merged(alloc, grammar) {
-        Ok(automaton) => Ok(automaton),
-        Err(fault) => Err(no_automaton(alloc, fault)),
-    }
-}
-
-/// The merged automaton with its table.
-fn merged_table<const W: usize>(alloc: Global, grammar: &Grammar) -> Result<Tabled<W>, Stop>
+/// The automaton of a grammar in a mode, with its table.
+fn built_table<const W: usize>(
+    alloc: Global,
+    grammar: &Grammar,
+    mode: Mode,
+) -> Result<Tabled<W>, Stop>
     requires few { W ≤ 8 }
     requires width { length grammar.now.tokens ≤ 64 * W }
     requires range { IsInRange (plain_of grammar.now) }
     requires costs { HaveCosts grammar.now.tokens }
-    ensures stage { StageHas (IsTableStage Merged grammar.now) result }
+    ensures stage { StageHas (IsTableStage (source_in mode) grammar.now) result }
     ensures automaton { IfOk result (λ tabled. IsAutomaton (plain_of grammar.now) tabled.automaton) }
 {
-    match merged_of(alloc, grammar) {
-        Ok(automaton) => with_table(alloc, grammar, automaton, Mode::Merged),
-        Err(stop) => Err(stop),
+    match automaton_in(alloc, grammar, mode) {
+        Ok(automaton) => with_table(alloc, grammar, automaton, mode),
+        Err(fault) => Err(no_automaton(alloc, fault)),
     }
 }
 
-/// The canonical automaton with its table.
-fn canonical_table<const W: usize>(alloc: Global, grammar: &Grammar) -> Result<Tabled<W>, Stop>
-    requires few { W ≤ 8 }
-    requires width { length grammar.now.tokens ≤ 64 * W }
-    requires range { IsInRange (plain_of grammar.now) }
-    requires costs { HaveCosts grammar.now.tokens }
-    ensures stage { StageHas (IsTableStage Canonical grammar.now) result }
-    ensures automaton { IfOk result (λ tabled. IsAutomaton (plain_of grammar.now) tabled.automaton) }
-{
-    match canonical_of(alloc, grammar) {
-        Ok(automaton) => with_table(alloc, grammar, automaton, Mode::Canonical),
-        Err(stop) => Err(stop),
-    }
-}
-
-/// The automaton that a table file names with its table.
+/// The automaton of a valid table file, with its table.
 fn with_valid<const W: usize>(
     alloc: Global,
     grammar: &Grammar,
@@ -114,7 +100,7 @@ fn with_valid<const W: usize>(
     where_halting(alloc, grammar, automaton, table, conflicts, mode)
 }
 
-/// What a table file gives, where it is valid for the grammar.
+/// What a table file says, where the file is valid for the grammar.
 fn validated<const W: usize>(
     alloc: Global,
     grammar: &Grammar,
@@ -136,7 +122,7 @@ fn validated<const W: usize>(
     }
 }
 
-/// The automaton of a table file with its table, where the file is valid for the grammar. None is built.
+/// The automaton of a table file with its table, where the file is valid for the grammar. No automaton is built.
 fn table_in<const W: usize>(
     alloc: Global,
     grammar: &Grammar,
@@ -158,8 +144,9 @@ fn table_in<const W: usize>(
     }
 }
 
-/// The automaton of a grammar with its table and its conflicts, by where it comes from. It halts with the first of these: the
-/// automaton has too many states, or its file is not valid for the grammar; a run on the table never ends.
+/// The automaton of a grammar with its table and its conflicts, by where the automaton comes from. The work halts
+/// where the automaton has too many states or its file is not valid for the grammar, and then where some run on the
+/// table never ends.
 pub(crate) fn table_of<const W: usize>(
     alloc: Global,
     source: &Source,
@@ -175,8 +162,8 @@ pub(crate) fn table_of<const W: usize>(
     ensures automaton { IfOk result (λ tabled. IsAutomaton (plain_of grammar.now) tabled.automaton) }
 {
     match source {
-        Source::Merged => merged_table(alloc, grammar),
-        Source::Canonical => canonical_table(alloc, grammar),
+        Source::Merged => built_table(alloc, grammar, Mode::Merged),
+        Source::Canonical => built_table(alloc, grammar, Mode::Canonical),
         Source::File { name, raw } => table_in(alloc, grammar, name.as_slice(), raw),
     }
 }

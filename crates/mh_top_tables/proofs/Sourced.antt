@@ -5,9 +5,9 @@ use Rattle.mh_grammar.specs.Text.{Text}
 use Rattle.mh_top_drive.specs.Causes.{Staged, Go, Halt, On, Gives}
 use Rattle.mh_tabfile_form.specs.declared.types.RawTable.{RawTable}
 use Rattle.mh_top_drive.specs.FileStage.{IsFile}
-use Rattle.mh_top_tables.specs.TableFile.{IsBuilt}
+use Rattle.mh_top_tables.specs.code.Sources.{IsBuilt, IsNumbered}
 use Rattle.mh_top_tables.specs.FileContent.{IsTableFile}
-use Rattle.mh_top_tables.specs.Sources.{IsNumbered, IsSourceBy, built_by}
+use Rattle.mh_top_tables.specs.Sources.{IsSourceBy, built_by}
 use Rattle.mh_top_tables.proofs.Sourcing.{built_numbered, read_numbered}
 use Rattle.mh_top_tables.specs.declared.sources.Source.{Source}
 use Rattle.mh_top_tables.specs.declared.sources.Source.TheVariants.{File}

@@ -5,13 +5,14 @@ use Rattle.mh_opts.specs.declared.order.Order.{Order}
 use Rattle.mh_outside.specs.Shelf.{Files}
 use Rattle.mh_grammar.specs.Text.{Text}
 use Rattle.mh_top_drive.specs.Causes.{Staged, Go, Halt, On, Gives}
-use Rattle.mh_top_drive.specs.Stages.{FilesGive}
+use Rattle.mh_top_drive.specs.code.Stages.{FilesGive}
 use Rattle.mh_top_drive.specs.declared.stop.Stop.{Stop}
 use Rattle.mh_top_drive.proofs.Binding.{names_wider, then_stops}
 use Rattle.mh_tabfile_form.specs.declared.types.RawTable.{RawTable}
 use Rattle.mh_top_drive.specs.FileStage.{IsFile}
 use Rattle.mh_top_tables.specs.FileContent.{IsTableFile}
-use Rattle.mh_top_tables.specs.Sources.{IsNumbered, IsSource, IsSourceBy, built_by}
+use Rattle.mh_top_tables.specs.code.Sources.{IsNumbered}
+use Rattle.mh_top_tables.specs.Sources.{IsSource, IsSourceBy, built_by}
 use Rattle.mh_top_tables.specs.declared.sources.Source.{Source}
 use Rattle.mh_top_tables.specs.declared.sources.Source.TheVariants.{File}
 

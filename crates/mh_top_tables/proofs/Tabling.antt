@@ -10,7 +10,7 @@ use Rattle.mh_resolve_cells.specs.declared.kinds.Mode.{Mode}
 use Rattle.mh_tables_core.specs.Table.{TableData}
 use Rattle.mh_tables_core.specs.Halting.{AlwaysHalts, LoopsAt}
 use Rattle.mh_msgfile.specs.Sentences.{token_names}
-use Rattle.mh_top_drive.specs.Stages.{StageHas, Halts as HaltsWith}
+use Rattle.mh_top_drive.specs.code.Stages.{StageHas, Halts as HaltsWith}
 use Rattle.mh_top_tables.specs.Tabled.{AreTabled, IsResolvedStage}
 use Rattle.mh_top_tables.specs.Loops.{loops_line}
 use Rattle.mh_top_drive.specs.declared.stop.Cause.TheVariants.{Refused}

@@ -1,4 +1,4 @@
--- The lines on err that tell why bytes are no table file.
+-- The lines on err where bytes are no table file (this project's profile).
 use Rattle.std.specs.Prelude.{◌++◌, codes, decimal}
 use Rattle.mh_grammar.specs.Text.{Text}
 use Rattle.mh_top_drive.specs.Text.{out_of_memory}

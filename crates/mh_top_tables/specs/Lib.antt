@@ -8,3 +8,4 @@ pub mod TableTexts
 pub mod TableFile
 pub mod TableStage
 pub mod Preparing
+pub mod code

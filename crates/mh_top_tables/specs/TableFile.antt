@@ -1,5 +1,5 @@
--- Table files: what one says, and whether it is valid for the grammar.
-use Rattle.std.specs.Prelude.{◌≡◌, ℕ, Option, ⊤}
+-- Table files that are not valid for the grammar.
+use Rattle.std.specs.Prelude.{◌≡◌, ℕ, Option}
 use Rattle.mh_grammar.specs.declared.types.Grammar.{Grammar}
 use Rattle.mh_tabfile_form.specs.declared.types.RawTable.{RawTable}
 use Rattle.mh_validate_valid.specs.declared.reason.Reason.{Reason}
@@ -8,20 +8,10 @@ use Rattle.mh_grammar.specs.Text.{Text}
 use Rattle.mh_top_drive.specs.declared.stop.Cause.{Cause}
 use Rattle.mh_top_drive.specs.declared.stop.Cause.TheVariants.{Refused}
 use Rattle.mh_top_tables.specs.TableTexts.{invalid_line}
-use Rattle.mh_top_tables.specs.declared.sources.Source.{Source}
-use Rattle.mh_top_tables.specs.declared.sources.Source.TheVariants.{Canonical, Merged, File}
-pub use Rattle.mh_top_tables.specs.FileContent.{HasTableFault, IsTableFault, IsTableFile}
-pub use Rattle.mh_top_tables.specs.Sources.{IsNumbered}
 
--- the file is not valid for the grammar, and the cause has the line that tells the first test that fails
+-- The file is not valid for the grammar, and the cause has the line of the first test that fails.
 pub record IsInvalid (name : Text) (g : Grammar) (raw : RawTable) (cause : Cause) : Type 0 where
   pub state : Option ℕ
   pub reason : Reason
   pub first : IsInvalidAt g raw state reason
   pub cause_is : cause ≡ Refused (invalid_line name state reason)
-
--- it is built
-abbrev pub IsBuilt : Source → Type 0
-IsBuilt Merged = ⊤
-IsBuilt Canonical = ⊤
-IsBuilt (File name raw) = ⊥

@@ -1,4 +1,5 @@
--- The automaton of a grammar, built or from a table file, with its table, where every run on it ends, and the list of its conflicts.
+-- The automaton of a grammar, built or taken from a table file, with its table, on which every run ends, and the list
+-- of its conflicts. Sources: Knuth 1965 (canonical), Pager 1977 (merged).
 use Rattle.std.specs.Prelude.{◌≡◌, List}
 use Rattle.mh_grammar.specs.declared.types.Grammar.{Grammar}
 use Rattle.mh_grammar.specs.Plain.{plain_of}
@@ -16,17 +17,18 @@ use Rattle.mh_top_drive.specs.declared.stop.Cause.TheVariants.{Refused}
 use Rattle.mh_top_tables.specs.declared.sources.Source.{Source}
 use Rattle.mh_top_tables.specs.declared.sources.Source.TheVariants.{Canonical, Merged, File}
 use Rattle.mh_top_tables.specs.TableFile.{IsInvalid}
+use Rattle.mh_top_tables.specs.Tabled.{IsResolvedStage}
 use Rattle.mh_top_types.specs.Shapes.{Tabled}
-pub use Rattle.mh_top_tables.specs.Sources.{IsSource, IsSourceBy, built_by}
-pub use Rattle.mh_top_tables.specs.Tabled.{LoopsFirst, AreTabled, IsResolvedStage}
 
 -- ---- the automaton
 
+-- the mode in which the table is resolved
 abbrev pub mode_of : Source → Mode
 mode_of Merged = modes.Merged
 mode_of Canonical = modes.Canonical
 mode_of (File name raw) = raw.mode
 
+-- the automaton by its source, or why the work halts: too many states, or a file that is not valid
 abbrev pub IsAutomatonStage : Source → Grammar → Staged Automaton → Type 0
 IsAutomatonStage Merged g (Go a) = (IsSwollen (plain_of g) MAX_STATES → ⊥) × IsMerged (plain_of g) a
 IsAutomatonStage Merged g (Halt cause) = IsSwollen (plain_of g) MAX_STATES × (cause ≡ Refused too_many_states)
@@ -37,5 +39,6 @@ IsAutomatonStage (File name raw) g (Halt cause) = IsInvalid name g raw cause
 
 -- ---- its table
 
+-- the automaton with its table
 abbrev pub IsTableStage : Source → Grammar → Staged Tabled → Type 0
 IsTableStage source g s = Then (IsAutomatonStage source g) (IsResolvedStage (mode_of source) g) s

@@ -1,4 +1,5 @@
--- An automaton with its table, where every run on it ends, and the list of its conflicts; or the cause why there is none.
+-- An automaton with its table, on which every run ends, and the list of its conflicts; or the refusal of a table on
+-- which some run does not.
 use Rattle.std.specs.Prelude.{◌≡◌, ℕ, Option}
 use Rattle.mh_grammar.specs.declared.types.Grammar.{Grammar}
 use Rattle.mh_items_kernels.specs.Shapes.{Automaton}
@@ -14,7 +15,7 @@ use Rattle.mh_top_drive.specs.declared.stop.Cause.{Cause}
 use Rattle.mh_top_drive.specs.declared.stop.Cause.TheVariants.{Refused}
 use Rattle.mh_top_types.specs.Shapes.{Tabled}
 
--- a run on the table never ends, and this is the cause for the first that does not
+-- Some run on the table never ends, and the cause has the line of the first.
 pub record LoopsFirst (mode : Mode) (g : Grammar) (a : Automaton) (cause : Cause) : Type 0 where
   pub found : TableData
   pub table : IsTableOf g a mode found
@@ -24,7 +25,7 @@ pub record LoopsFirst (mode : Mode) (g : Grammar) (a : Automaton) (cause : Cause
   pub loops : LoopsAt found below state look
   pub cause_is : cause ≡ Refused (loops_line (token_names g) below state look)
 
--- the automaton with its table, on which every run ends, and the list of its conflicts
+-- This is the automaton with its table, on which every run ends, and the list of its conflicts.
 pub record AreTabled (mode : Mode) (g : Grammar) (a : Automaton) (tabled : Tabled) : Type 0 where
   pub automaton : tabled.automaton ≡ a
   pub table : IsTableOf g a mode tabled.halting
@@ -32,6 +33,7 @@ pub record AreTabled (mode : Mode) (g : Grammar) (a : Automaton) (tabled : Table
   pub halts : AlwaysHalts tabled.halting
   pub resolved_in : tabled.mode ≡ mode
 
+-- the automaton with its table, or why the work halts
 abbrev pub IsResolvedStage : Mode → Grammar → Automaton → Staged Tabled → Type 0
 IsResolvedStage mode g a (Go tabled) = AreTabled mode g a tabled
 IsResolvedStage mode g a (Halt cause) = LoopsFirst mode g a cause

@@ -1,9 +1,5 @@
-//! Where the automaton of an order comes from: it is built, or a table file says it, which is read.
-//!
-//! The table of an automaton, built or read: its conflicts are resolved, and every run on it is found to end, or refused.
-//!
-//! What the stage between the grammar and the warnings gives, by definition: a table, built or from a table file, or
-//! why there is none; and the refusals where there is none.
+//! Parts of the work between the grammar and the warnings: where the automaton comes from (it is built, or a table
+//! file is read), the table of an automaton, on which every run must end, and the refusals where there is no table.
 #![tactic(auto)]
 
 mod looping;

@@ -1,6 +1,6 @@
 //! The refusal of a table on which some run never ends.
 ghost use Rattle.std.specs.Prelude.{◌≡◌, ◌<◌, length, IfOk, string_bytes, MatchOption, ⊤};
-ghost use Rattle.mh_top_drive.specs.Stages.{Halts};
+ghost use Rattle.mh_top_drive.specs.code.Stages.{Halts};
 ghost use Rattle.mh_top_drive.specs.declared.stop.Cause.TheVariants.{Refused};
 ghost use Rattle.mh_msgfile.specs.Sentences.{token_names};
 ghost use Rattle.mh_top_tables.specs.Loops.{look_text, loop_place, loops_line};
@@ -9,7 +9,7 @@ use mh_grammar::{Grammar, Token};
 use mh_top_drive::{Stop, refused};
 use std::alloc::{AllocError, Global};
 
-/// The name of the next token, where there is one.
+/// The name of the next token, or words for none.
 fn look_name(grammar: &Grammar, token: Option<Token>) -> &[u8]
     requires { MatchOption token ⊤ (λ token. token < length grammar.now.tokens) }
     ensures { result.now ≡ look_text (token_names grammar.now) token }
@@ -20,7 +20,7 @@ fn look_name(grammar: &Grammar, token: Option<Token>) -> &[u8]
     }
 }
 
-/// The state of a relative run, alone or above another.
+/// The beginning of the line: the state of a relative run, alone or above another state.
 fn place_of(alloc: Global, below: Option<u32>, state: u32) -> Result<String, AllocError>
     ensures { IfOk result (λ text. string_bytes text ≡ loop_place below state) }
 {
@@ -30,7 +30,8 @@ fn place_of(alloc: Global, below: Option<u32>, state: u32) -> Result<String, All
     }
 }
 
-/// The refusal of a table on which some run never ends: the state of that relative run, alone or above another, and the next token.
+/// The refusal of a table on which some relative run never ends, with its state, the state below where there is one,
+/// and the next token.
 pub(crate) fn loops(
     alloc: Global,
     grammar: &Grammar,

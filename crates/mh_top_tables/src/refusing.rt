@@ -1,6 +1,6 @@
 //! The refusals where there is no table.
 ghost use Rattle.std.specs.Prelude.{◌≡◌, IfOk, string_bytes};
-ghost use Rattle.mh_top_drive.specs.Stages.{Halts};
+ghost use Rattle.mh_top_drive.specs.code.Stages.{Halts};
 ghost use Rattle.mh_top_drive.specs.declared.stop.Cause.TheVariants.{Refused};
 ghost use Rattle.mh_top_tables.specs.TableTexts.{invalid_line, reason_name as reason_name_of, test_text, too_many_states as too_many_states_line};
 
@@ -15,7 +15,7 @@ pub fn too_many_states(alloc: Global) -> Stop
     refused(alloc, b"menhir: too many states\n", b"", b"")
 }
 
-/// A test as it is told.
+/// The name of a test of table files.
 fn reason_name(reason: Reason) -> &'static str
     ensures { result.now ≡ reason_name_of reason }
 {
@@ -29,7 +29,7 @@ fn reason_name(reason: Reason) -> &'static str
     }
 }
 
-/// What stands behind the name of a file that is not valid.
+/// The part of the refusal that follows the name of the file.
 fn test_in(alloc: Global, state: Option<u32>, reason: &str) -> Result<String, AllocError>
     ensures { IfOk result (λ text. string_bytes text ≡ test_text state reason.now) }
 {

@@ -1,7 +1,9 @@
-//! Where the automaton of an order comes from. A table file is read, and spelled; whether it is valid is tested behind.
+//! Where the automaton of an order comes from. A table file is read here; whether it is valid for the grammar is
+//! tested later.
 ghost use Rattle.std.specs.Prelude.{◌≡◌, Bool, List, ℕ, IfOk, Some};
-ghost use Rattle.mh_top_drive.specs.Stages.{FilesGive, ShelfCounts};
-ghost use Rattle.mh_top_tables.specs.Sources.{IsNumbered, IsSource, IsSourceBy, built_by};
+ghost use Rattle.mh_top_drive.specs.code.Stages.{FilesGive, ShelfCounts};
+ghost use Rattle.mh_top_tables.specs.code.Sources.{IsNumbered};
+ghost use Rattle.mh_top_tables.specs.Sources.{IsSource, IsSourceBy, built_by};
 ghost use Rattle.mh_top_tables.specs.Turns.{AsksForTables};
 
 use crate::table_file::TableFiles;
@@ -15,14 +17,15 @@ use std::alloc::Global;
 /// Where the automaton comes from.
 #[derive(Drop)]
 pub enum Source {
-    /// It is the merged one of the grammar.
+    /// The merged automaton of the grammar is built.
     Merged,
-    /// It is the canonical one of the grammar.
+    /// The canonical automaton of the grammar is built.
     Canonical,
-    /// It is that of the named file, which says this.
+    /// The named table file has the automaton; this is its content.
     File { name: Name, raw: RawTable },
 }
 
+/// The source of an automaton that is built.
 fn built(canonical: bool) -> Source
     ensures { result ≡ built_by canonical }
 {
@@ -33,7 +36,7 @@ fn built(canonical: bool) -> Source
     }
 }
 
-/// The automaton of the named file.
+/// The named table file as a source.
 fn file_source<F: Shelf>(alloc: Global, shelf: &mut F, name: &[u8]) -> Result<Source, Stop>
     requires asked { F.MayAsk shelf.old name.now }
     ensures source { (canonical : Bool) → FilesGive (IsSourceBy (Some name.now) canonical (F.files shelf.old)) (λ other. other ≡ name.now) result }
@@ -51,7 +54,7 @@ fn file_source<F: Shelf>(alloc: Global, shelf: &mut F, name: &[u8]) -> Result<So
     }
 }
 
-/// Where the automaton of an order comes from. A table file is read, and spelled.
+/// Where the automaton of an order comes from. Where the order names a table file, this is read.
 pub fn source_of<F: Shelf>(alloc: Global, shelf: &mut F, order: &Order) -> Result<Source, Stop>
     requires asked { AsksForTables order.now (F.MayAsk shelf.old) }
     ensures source { FilesGive (IsSource (F.files shelf.old) order.now) (λ name. order.now.tables ≡ Some name) result }

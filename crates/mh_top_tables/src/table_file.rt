@@ -1,6 +1,6 @@
-//! Table files: what one says, and the lines for one that is refused.
+//! Table files: the content that the bytes of a file spell, and the refusal of bytes that spell none.
 ghost use Rattle.std.specs.Prelude.{◌≡◌, ◌<◌, ◌^◌, ◌++◌, IfOk, codes, decimal, length, string_bytes};
-ghost use Rattle.mh_top_drive.specs.Stages.{Halts, StageHas};
+ghost use Rattle.mh_top_drive.specs.code.Stages.{Halts, StageHas};
 ghost use Rattle.mh_top_drive.specs.declared.stop.Cause.TheVariants.{Refused};
 ghost use Rattle.mh_top_tables.specs.FileContent.{IsTableFile};
 ghost use Rattle.mh_top_tables.specs.FormTexts.{table_line};
@@ -11,16 +11,17 @@ use mh_tabfile_read::{TabFault, read_tables};
 use mh_top_drive::{Spelling, Stop, refused};
 use std::alloc::{AllocError, Global};
 
-/// Table files.
+/// How table files are read.
 pub(crate) struct TableFiles;
 
-/// What stands behind a file's name.
+/// The part of the refusal that follows the name of the file.
 fn place_of(alloc: Global, line: u32) -> Result<String, AllocError>
     ensures { IfOk result (λ text. string_bytes text ≡ codes ":" ++ (decimal line ++ codes ": shape\n")) }
 {
     format!(in alloc; ":{line}: shape\n")
 }
 
+/// The refusal of a file whose line is not of the form.
 fn no_table(alloc: Global, name: &[u8], line: u32) -> Stop
     ensures { Halts (Refused (table_line name.now (TabShape line))) result }
 {
@@ -30,7 +31,7 @@ fn no_table(alloc: Global, name: &[u8], line: u32) -> Stop
     }
 }
 
-/// What the bytes of the named file say.
+/// The content that the bytes of the named file spell.
 fn raw_in(alloc: Global, name: &[u8], bytes: &[u8]) -> Result<RawTable, Stop>
     requires { length bytes.now < 2 ^ 31 }
     ensures { StageHas (IsTableFile name.now bytes.now) result }

@@ -1,10 +1,10 @@
-//! An automaton with its table and its conflicts, where every run on the table ends.
+//! An automaton with its table and its conflicts; a table on which some run never ends is refused.
 ghost use Rattle.std.specs.Prelude.{◌≤◌, ◌*◌, length};
 ghost use Rattle.mh_grammar.specs.Costs.{HaveCosts};
 ghost use Rattle.mh_grammar.specs.Plain.{plain_of, IsInRange};
 ghost use Rattle.mh_items_kernels.specs.Automaton.{IsAutomaton};
 ghost use Rattle.mh_top_tables.specs.Tabled.{IsResolvedStage};
-ghost use Rattle.mh_top_drive.specs.Stages.{StageHas};
+ghost use Rattle.mh_top_drive.specs.code.Stages.{StageHas};
 ghost use Rattle.mh_resolve_cells.specs.States.{IsTableOf};
 ghost use Rattle.mh_resolve_cells.specs.Conflicts.{AreConflicts};
 
@@ -19,7 +19,7 @@ use mh_top_drive::Stop;
 use mh_top_types::{Tabled, TabledWith};
 use std::alloc::Global;
 
-/// The automaton with its table, where every run on that ends.
+/// The automaton with this table, where every run on the table ends.
 pub fn where_halting<const W: usize>(
     alloc: Global,
     grammar: &Grammar,
@@ -52,7 +52,7 @@ pub fn where_halting<const W: usize>(
     }
 }
 
-/// The automaton with the table that the resolution gives.
+/// The automaton with the table that the resolution of its conflicts gives, where every run on the table ends.
 pub fn with_table<const W: usize>(
     alloc: Global,
     grammar: &Grammar,

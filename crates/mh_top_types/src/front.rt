@@ -1,4 +1,4 @@
-//! What comes before the table.
+//! What the work has before there is a table.
 use mh_grammar::Grammar;
 use mh_opts::Order;
 

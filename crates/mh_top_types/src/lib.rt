@@ -1,6 +1,4 @@
-//! What is loaded before there is a table: the type.
-//!
-//! What is prepared before a mode begins: the types, and what modes may rely on.
+//! The types of what the work prepares before a mode begins: the order with its grammar, and then with its table.
 #![tactic(auto)]
 
 mod front;

@@ -1,4 +1,4 @@
-//! All that comes before the warnings, as the modes see it.
+//! What is prepared before the warnings, as the modes see it.
 use crate::tabled::TabledWith;
 use mh_grammar::Grammar;
 use mh_opts::Order;
@@ -12,5 +12,5 @@ pub struct PreparedWith<L> {
     pub tabled: TabledWith<L>,
 }
 
-/// One whose sets of tokens have a width.
+/// What is prepared, with sets of tokens of a width.
 pub type Prepared<const W: usize> = PreparedWith<TokenSet<W>>;

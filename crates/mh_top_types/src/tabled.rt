@@ -5,15 +5,15 @@ use mh_resolve_cells::{Conflict, Mode};
 use mh_sets::TokenSet;
 use mh_tables_core::Halting;
 
-/// The automaton of a grammar, its table, and the list of its conflicts.
+/// The automaton of a grammar, its table, on which every run ends, and the list of its conflicts.
 #[derive(Drop)]
 pub struct TabledWith<L> {
     pub automaton: AutomatonWith<L>,
     pub halting: Halting,
     pub conflicts: Sequence<Conflict>,
-    /// The mode in which its table was resolved.
+    /// The mode in which the table was resolved.
     pub mode: Mode,
 }
 
-/// One whose sets of tokens have a width.
+/// The same with sets of tokens of a width.
 pub type Tabled<const W: usize> = TabledWith<TokenSet<W>>;

@@ -7,7 +7,7 @@ use Rattle.mh_outside.specs.declared.sink.WriteFault.{WriteFault}
 use Rattle.mh_outside.proofs.Pieces.{Appends-append}
 use Rattle.mh_grammar.specs.Text.{Text}
 use Rattle.mh_top_drive.specs.Statuses.{code_of, line_of}
-use Rattle.mh_top_warnings.specs.LastLine.{LastLine, Reported, Said, Silent, Failed, SaysLine}
+use Rattle.mh_top_warnings.specs.code.LastLine.{LastLine, Reported, Said, Silent, Failed, SaysLine}
 use Rattle.mh_top_drive.specs.declared.stop.Cause.{Cause}
 use Rattle.mh_top_drive.specs.declared.stop.Stop.{Stop}
 use Rattle.mh_top_drive.specs.declared.stop.Stop.TheVariants.{WriteFailed}

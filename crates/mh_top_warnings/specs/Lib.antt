@@ -1,2 +1,2 @@
-pub mod LastLine
 pub mod Warnings
+pub mod code

@@ -1,14 +1,14 @@
-//! The last line on err, and the status.
+//! The last line on err, and the exit status.
 ghost use Rattle.std.specs.Prelude.{◌++◌};
 ghost use Rattle.mh_outside.specs.Faults.{Counts};
 ghost use Rattle.mh_outside.specs.Sink.{WritesWhole};
 ghost use Rattle.mh_top_drive.specs.Statuses.{code_of, line_of};
-ghost use Rattle.mh_top_warnings.specs.LastLine.{Reported, SaysLine};
+ghost use Rattle.mh_top_warnings.specs.code.LastLine.{Reported, SaysLine};
 
 use mh_outside::{Sink, WriteFault, write_whole};
 use mh_top_drive::{Cause, Stop, status};
 
-/// Writes two parts, one after the other. It takes no memory.
+/// Writes two parts, one after the other. The call takes no memory.
 fn write_both<E: Sink>(err: &mut E, first: &[u8], second: &[u8]) -> Result<(), WriteFault>
     ensures bytes { WritesWhole (E.written err.old) (E.written err.new) (first.now ++ second.now) result }
     ensures counts { Counts (E.faults err.old) (E.faults err.new) result }
@@ -19,7 +19,7 @@ fn write_both<E: Sink>(err: &mut E, first: &[u8], second: &[u8]) -> Result<(), W
     }
 }
 
-/// Writes three parts, one after the other. It takes no memory.
+/// Writes three parts, one after the other. The call takes no memory.
 fn write_line<E: Sink>(
     err: &mut E,
     before: &[u8],
@@ -35,8 +35,8 @@ fn write_line<E: Sink>(
     }
 }
 
-/// Writes the last line, in three parts, and gives the status.
-pub fn say<E: Sink>(err: &mut E, before: &[u8], middle: &[u8], after: &[u8], status: u8) -> u8
+/// Writes the last line, in three parts, and gives the status: that of the line, or that of a write fault.
+fn say<E: Sink>(err: &mut E, before: &[u8], middle: &[u8], after: &[u8], status: u8) -> u8
     ensures { SaysLine status (before.now ++ middle.now ++ after.now) (E.written err.old) (E.written err.new)
         (E.faults err.old) (E.faults err.new) result }
 {
@@ -46,7 +46,7 @@ pub fn say<E: Sink>(err: &mut E, before: &[u8], middle: &[u8], after: &[u8], sta
     }
 }
 
-/// Says that a cause ended the work.
+/// Writes the line of a cause, and gives its status.
 fn say_cause<E: Sink>(err: &mut E, cause: &Cause) -> u8
     ensures { SaysLine (code_of cause.now) (line_of cause.now) (E.written err.old) (E.written err.new)
         (E.faults err.old) (E.faults err.new) result }
@@ -67,7 +67,8 @@ fn say_cause<E: Sink>(err: &mut E, cause: &Cause) -> u8
     }
 }
 
-/// Says why the work stopped.
+/// Writes the line that says why the work stopped, and gives the exit status. After a write that failed nothing is
+/// written.
 pub fn report<E: Sink>(err: &mut E, stop: Stop) -> u8
     ensures { Reported stop (E.written err.old) (E.written err.new)
         (E.faults err.old) (E.faults err.new) result }

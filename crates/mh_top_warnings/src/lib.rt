@@ -1,10 +1,9 @@
-//! What the program says on err, and its exit code: the warnings on conflicts, whether they refuse the grammar, and the last line.
+//! What the program writes on err: the warnings on conflicts, and the last line, which says why the work stopped.
+//! Whether the conflicts refuse the grammar is decided here, too.
 #![tactic(auto)]
 
-mod exit;
 mod last_line;
 mod warning;
 
-pub use exit::exit_code;
-pub use last_line::{report, say};
+pub use last_line::report;
 pub use warning::{is_refused, warn};

@@ -1,7 +1,8 @@
 //! The warnings on conflicts, and whether they refuse the grammar.
 ghost use Rattle.std.specs.Prelude.{◌≡◌, ◌≤◌, ◌&&◌};
-ghost use Rattle.mh_top_drive.specs.Steps.{OutCounts};
-ghost use Rattle.mh_top_warnings.specs.Warnings.{Warned, has_warning as has_warning_in, is_warned as is_warned_of, warnings_of};
+ghost use Rattle.mh_top_drive.specs.code.Steps.{OutCounts};
+ghost use Rattle.mh_top_warnings.specs.code.Warnings.{Warned};
+ghost use Rattle.mh_top_warnings.specs.Warnings.{has_warning as has_warning_in, is_warned as is_warned_of, warnings_of};
 
 use mh_outside::Sink;
 use mh_report::warning_text;
@@ -10,7 +11,7 @@ use mh_top_drive::{Stop, write_text};
 use mh_top_types::Prepared;
 use std::alloc::Global;
 
-/// Whether a conflict is warned of: levels do not solve it.
+/// Whether there is a warning for conflicts of a kind: not for those that levels solve.
 fn is_warned(kind: ConflictKind) -> bool
     ensures { result ≡ is_warned_of kind }
 {
@@ -21,13 +22,14 @@ fn is_warned(kind: ConflictKind) -> bool
     }
 }
 
+/// Whether there is a warning for some of these conflicts.
 fn has_warning(conflicts: &[Conflict]) -> bool
     ensures { result ≡ has_warning_in conflicts.now }
 {
     conflicts.iter().any(|conflict| is_warned(conflict.kind))
 }
 
-/// Whether the grammar is refused for its conflicts.
+/// Whether the grammar is refused for its conflicts, under `--strict`.
 pub fn is_refused<const W: usize>(prepared: &Prepared<W>) -> bool
     requires { W ≤ 8 }
     ensures { result ≡ (prepared.now.order.strict && has_warning_in prepared.now.tabled.conflicts) }

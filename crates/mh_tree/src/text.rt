@@ -2,9 +2,8 @@
 ghost use Rattle.std.specs.Prelude.{◌≡◌, ◌++◌, IfOk, OnOk};
 ghost use Rattle.mh_grammar.specs.Trees.{text_of, forest_text, forest_of};
 
-use crate::nodes::{close_node, open_node, write_leaf};
 use crate::tree::{Shape, Tree};
-use mh_grammar::{Grammar, Memory};
+use mh_grammar::{Grammar, Memory, left_side_name, token_name};
 use std::alloc::Global;
 
 /// The tree's text, which `--interpret-show-cst` of the Menhir manual asks for, on one line: a leaf is the name of its
@@ -23,11 +22,13 @@ fn write_tree(text: &mut Vec<u8>, grammar: &Grammar, tree: &Tree) -> Result<(), 
     ensures { OnOk result (text.new.items ≡ text.old.items ++ text_of grammar.now tree.now) }
 {
     match tree.shape() {
-        Shape::Leaf(token) => write_leaf(text, grammar, *token)?,
+        Shape::Leaf(token) => text.extend_from_slice(token_name(grammar, *token))?,
         Shape::Node(production, children) => {
-            open_node(text, grammar, *production)?;
+            text.push(b'[')?;
+            text.extend_from_slice(left_side_name(grammar, *production))?;
+            text.push(b':')?;
             write_children(text, grammar, children.as_slice())?;
-            close_node(text)?;
+            text.push(b']')?;
         }
     }
     Ok(())

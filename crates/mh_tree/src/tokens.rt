@@ -3,7 +3,6 @@ ghost use Rattle.std.specs.Prelude.{◌≡◌, ◌++◌, IfOk, OnOk};
 ghost use Rattle.mh_grammar.specs.Trees as spec;
 ghost use Rattle.mh_grammar.specs.Trees.{forest_yield, forest_of};
 
-use crate::nodes::put_token;
 use crate::tree::{Shape, Tree};
 use mh_grammar::{Memory, Token};
 use std::alloc::Global;
@@ -23,7 +22,7 @@ fn push_tokens(tokens: &mut Vec<Token>, tree: &Tree) -> Result<(), Memory>
     ensures { OnOk result (tokens.new.items ≡ tokens.old.items ++ spec.yield_of tree.now) }
 {
     match tree.shape() {
-        Shape::Leaf(token) => put_token(tokens, *token)?,
+        Shape::Leaf(token) => tokens.push(*token)?,
         Shape::Node(_, children) => push_children(tokens, children.as_slice())?,
     }
     Ok(())

@@ -5,7 +5,6 @@ ghost use Rattle.std.specs.List.{All};
 ghost use Rattle.mh_grammar.specs.Trees.{height_of, forest_height, Leaf, Node, forest_of};
 ghost use Rattle.mh_tree.specs.Shapes.{tree_of};
 
-use crate::nodes::height_over;
 use mh_grammar::{MAX_HEIGHT, Memory, Token};
 use std::alloc::Global;
 use std::marker::Model;
@@ -77,7 +76,7 @@ fn children_of(shape: Rc<Shape>) -> Option<Vec<Tree>>
 }
 
 impl Tree {
-    /// What stands at the root.
+    /// The root: a token, or a production with its children.
     pub(crate) fn shape(&self) -> &Shape
         ensures { tree_of result.now ≡ self.now }
     {
@@ -122,7 +121,7 @@ pub fn leaf(alloc: Global, token: Token) -> Result<Tree, Memory>
     })
 }
 
-/// Whether a node may stand over these trees: none of them has the height `MAX_HEIGHT`.
+/// Whether these trees may be the children of a node: none of them has the height `MAX_HEIGHT`.
 pub fn can_be_children(trees: &[Tree]) -> bool
     ensures { IsTrue result ↔ All (λ t. height_of t < MAX_HEIGHT) trees.now }
 {
@@ -135,7 +134,7 @@ pub fn node(alloc: Global, production: u32, children: Vec<Tree>) -> Result<Tree,
     requires { All (λ t. height_of t < MAX_HEIGHT) children.items }
     ensures { IfOk result (λ t. t ≡ Node production (forest_of children.items)) }
 {
-    let height = height_over(highest(children.as_slice()));
+    let height = highest(children.as_slice()) + 1;
     Ok(Tree {
         shape: Rc::new(alloc, Shape::Node(production, children))?,
         height,

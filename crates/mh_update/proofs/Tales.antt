@@ -29,10 +29,9 @@ use Rattle.mh_report_notation.specs.Items.{looks_after, kernel_text, item_line}
 use Rattle.mh_grammar_texts.specs.Productions.{names_after, left_side, production_text}
 use Rattle.mh_msgfile.proofs.Endings.{with_ends, IsWhole, ends_in_cr}
 use Rattle.mh_tables_core.proofs.Refusing.{state_refused}
-use Rattle.mh_report_comments.specs.Comments.{before_dot, kernel_comments, comments, IsCommentText}
-use Rattle.mh_grammar_texts.specs.Commented.{ends_in, suffix_follows, suffix_comment, reduced_before, reduced_comment, reduced_comments}
+use Rattle.mh_report_comments.specs.Comments.{before_dot, kernel_comments, comments, IsCommentText, ends_in, suffix_follows, suffix_comment, reduced_before, reduced_comment, reduced_comments}
 use Rattle.mh_grammar.specs.Text.{Text}
-use Rattle.mh_grammar_texts.specs.Kept.{is_made}
+use Rattle.mh_update_renewed.specs.Updates.{is_made}
 use Rattle.mh_update.specs.Lines.{is_inner, IsInLine, HasLineNames}
 use Rattle.mh_update.proofs.Walks.{IsMadeLine}
 

@@ -17,8 +17,7 @@ use Rattle.mh_report_comments.specs.Comments.{IsCommentText}
 use Rattle.mh_report_comments.proofs.OneText.{comments_once}
 use Rattle.mh_update_renewed.specs.declared.comment.Comment.{Comment}
 use Rattle.mh_grammar.specs.Text.{Text}
-use Rattle.mh_update_renewed.specs.Updates.{IsComment, AreComments, updated, IsUpdated}
-use Rattle.mh_grammar_texts.specs.Kept.{is_made}
+use Rattle.mh_update_renewed.specs.Updates.{IsComment, AreComments, updated, IsUpdated, is_made}
 use Rattle.mh_update.specs.Lines.{HasLineNames, HasNoCrAtEnds}
 use Rattle.mh_update.proofs.Walks.{LinePlace, Outside, Kind, kind_of, next, Content, told, put, sentences, made_remark, Walk, Ended, Dropped, Silent, Telling, grown, text_of, tales_of, again, grown_text, again_text, grown_whole, grown_kept, text_is}
 use Rattle.mh_update.proofs.Found.{sentences_are}

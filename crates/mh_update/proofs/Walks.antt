@@ -15,8 +15,7 @@ use Rattle.mh_msgfile.proofs.Again.{filter_on, is_kept_text}
 use Rattle.mh_msgfile.proofs.Endings.{with_ends, IsWhole}
 use Rattle.mh_update_renewed.specs.declared.comment.Comment.{Comment}
 use Rattle.mh_grammar.specs.Text.{Text}
-use Rattle.mh_update_renewed.specs.Updates.{updated_from}
-use Rattle.mh_grammar_texts.specs.Kept.{is_made, own_text, own_texts}
+use Rattle.mh_update_renewed.specs.Updates.{updated_from, is_made, own_text, own_texts}
 
 -- ---- places
 

@@ -1,51 +1,22 @@
 //! The comment lines of the sentences of a messages file.
-ghost use Rattle.std.specs.Prelude.{◌≡◌, ◌≤◌, ◌++◌, ◌∷◌, [], ℕ, List, flat_map, length, IfOk, MatchResult};
+ghost use Rattle.std.specs.Prelude.{◌≡◌, ◌≤◌, ◌++◌, [], ℕ, List, flat_map, length, IfOk, MatchResult};
 ghost use Rattle.std.specs.List.{AllByRecursion};
 ghost use Rattle.mh_grammar.specs.Plain.{plain_of};
 ghost use Rattle.mh_items_kernels.specs.Automaton.{IsAutomaton};
 ghost use Rattle.mh_msgfile.specs.Messages.{IsOf};
 ghost use Rattle.mh_msgfile.specs.declared.messages.MsgSentence.{MsgSentence as MsgSentence'};
-ghost use Rattle.mh_check.specs.Checks.{Breaks, FailsIn, sentences_of};
+ghost use Rattle.mh_check.specs.Checks.{Breaks, FailsIn};
 ghost use Rattle.mh_check.specs.Compiling.{Tells};
-ghost use Rattle.mh_update_renewed.specs.Updates.{AreComments, FirstUnfit, IsComment, Comments as CommentsOf};
+ghost use Rattle.mh_update_renewed.specs.Updates.{AreComments, IsComment, Comments as CommentsOf};
 
-use mh_check::CheckFault;
+use mh_check::{CheckFault, failing_state};
 use mh_grammar::{Grammar, Memory, Sequence};
-use mh_grammar_texts::is_early;
 use mh_items_kernels::Automaton;
 use mh_msgfile::{Entry, MsgSentence};
 use mh_report_comments::comment_lines;
-use mh_run::{Verdict, verdict};
 use mh_tables_core::Halting;
 use mh_update_renewed::Comment;
 use std::alloc::Global;
-
-/// Whether a sentence fails at its last token.
-fn check_sentence(alloc: Global, table: &Halting, sentence: &MsgSentence) -> Result<(), CheckFault>
-    requires { IsOf (length table.now.grammar.starts) table.now.grammar.tokens sentence.now }
-    ensures { MatchResult result (λ _. (s : ℕ) × FailsIn table.now sentence.now s) (λ fault. Tells fault (Breaks table.now [] sentence.now)) }
-{
-    let line = sentence.line;
-    let tokens = sentence.tokens.as_slice();
-    let ended = match verdict(alloc, table, sentence.start, tokens) {
-        Ok(ended) => ended,
-        Err(Memory) => return Err(CheckFault::Memory),
-    };
-    match ended {
-        Verdict::Reject { at, .. } if is_early(at, tokens.len()) => {
-            Err(CheckFault::RefusedEarly { line, at })
-        }
-        Verdict::Reject { .. } => Ok(()),
-        Verdict::Accept { .. } => Err(CheckFault::NotRefused {
-            line,
-            verdict: ended,
-        }),
-        Verdict::Overshoot { .. } => Err(CheckFault::NotRefused {
-            line,
-            verdict: ended,
-        }),
-    }
-}
 
 /// The comment of a sentence that fails.
 fn comment_of<const W: usize>(
@@ -84,8 +55,8 @@ fn checked_comment<const W: usize>(
     requires known { IsOf (length table.now.grammar.starts) table.now.grammar.tokens sentence.now }
     ensures { MatchResult result (IsComment grammar.now automaton.now table.now sentence.now) (λ fault. Tells fault (Breaks table.now [] sentence.now)) }
 {
-    match check_sentence(alloc, table, sentence) {
-        Ok(()) => match comment_of(alloc, grammar, automaton, table, sentence) {
+    match failing_state(alloc, table, sentence) {
+        Ok(_state) => match comment_of(alloc, grammar, automaton, table, sentence) {
             Ok(comment) => Ok(comment),
             Err(Memory) => Err(CheckFault::Memory),
         },

@@ -5,19 +5,62 @@ ghost use Rattle.mh_items_kernels.specs.Automaton.{IsAutomaton};
 ghost use Rattle.mh_msgfile.specs.Messages.{AreOf};
 ghost use Rattle.mh_check.specs.Checks.{sentences_of};
 ghost use Rattle.mh_check.specs.Compiling.{Tells};
-ghost use Rattle.mh_update_renewed.specs.Updates.{FirstUnfit, IsUpdated, own_texts, updated};
+ghost use Rattle.mh_update_renewed.specs.Updates.{FirstUnfit, IsUpdated, own_text, own_texts, updated};
 
 use crate::comments::all_comments;
 use mh_check::CheckFault;
 use mh_grammar::{Grammar, Memory, Name};
-use mh_grammar_texts::{lines_up_to, write_lines_behind, write_lines_up_to};
 use mh_items_kernels::Automaton;
 use mh_msgfile::MsgFile;
 use mh_tables_core::Halting;
 use mh_update_renewed::Comment;
 use std::alloc::Global;
 
-/// Writes the lines up to a sentence's, where the first ones are written, and its comment lines.
+/// Writes a line, unless the program makes this line.
+fn write_own(text: &mut Vec<u8>, line: &[u8]) -> Result<(), Memory>
+    ensures { OnOk result (text.new.items ≡ text.old.items ++ own_text line.now) }
+{
+    if !line.starts_with(b"##") {
+        text.extend_from_slice(line)?;
+        text.push(b'\n')?;
+    }
+    Ok(())
+}
+
+/// Writes the lines that the program does not make.
+fn write_all_own(text: &mut Vec<u8>, lines: &[Name]) -> Result<(), Memory>
+    ensures { OnOk result (text.new.items ≡ text.old.items ++ own_texts lines.now) }
+{
+    for line in lines {
+        write_own(text, line.as_slice())?;
+    }
+    Ok(())
+}
+
+/// The lines after the first ones.
+fn after(lines: &[Name], count: usize) -> &[Name]
+    ensures { result.now ≡ drop count lines.now }
+{
+    if count < lines.len() {
+        &lines[count..]
+    } else {
+        &lines[..0]
+    }
+}
+
+/// The first lines.
+fn first(lines: &[Name], count: usize) -> &[Name]
+    ensures { result.now ≡ take count lines.now }
+{
+    if count < lines.len() {
+        &lines[..count]
+    } else {
+        lines
+    }
+}
+
+/// Writes the lines up to that of a sentence, where the first ones are written, and the comment lines of the sentence. Lines are
+/// counted from 1.
 fn write_comment(
     text: &mut Vec<u8>,
     lines: &[Name],
@@ -26,12 +69,13 @@ fn write_comment(
 ) -> Result<(), Memory>
     ensures { OnOk result (text.new.items ≡ text.old.items ++ own_texts (take (comment.now.line - written) (drop written lines.now)) ++ comment.now.text) }
 {
-    write_lines_up_to(text, lines, written, comment.line)?;
+    let count = (comment.line as usize).saturating_sub(written);
+    write_all_own(text, first(after(lines, written), count))?;
     text.extend_from_slice(comment.text.as_slice())?;
     Ok(())
 }
 
-/// The lines that are not made anew, with comments behind those of sentences.
+/// The lines that the program does not make, and after the line of each sentence its comment lines.
 fn with_comments(alloc: Global, lines: &[Name], comments: &[Comment]) -> Result<Vec<u8>, Memory>
     ensures { IfOk result (λ text. text.items ≡ updated lines.now comments.now) }
 {
@@ -39,13 +83,13 @@ fn with_comments(alloc: Global, lines: &[Name], comments: &[Comment]) -> Result<
     let mut written = 0usize;
     for comment in comments {
         write_comment(&mut text, lines, written, comment)?;
-        written = lines_up_to(comment.line);
+        written = comment.line as usize;
     }
-    write_lines_behind(&mut text, lines, written)?;
+    write_all_own(&mut text, after(lines, written))?;
     Ok(text)
 }
 
-/// A messages file brought up to date: each of its lines that does not begin with two number signs, in order, and behind the line of
+/// A messages file brought up to date: each of its lines that does not begin with two number signs, in order, and after the line of
 /// each sentence its comment lines, by this grammar, automaton and table. Fails at the first sentence that is not refused, or before
 /// its last token; two sentences may fail in one state. `Memory` only where there was none.
 pub fn update<const W: usize>(

@@ -1,7 +1,7 @@
 -- What a messages file becomes when it is brought up to date. Source: the Menhir manual (`--update-errors`); which lines are made
 -- anew is this project's own.
-use Rattle.std.specs.Prelude.{◌≡◌, ℕ, ◌-◌, List, [], ◌∷◌, ◌++◌, take, drop, Result, Ok, Err}
-use Rattle.std.specs.List.{AllZip, Contains}
+use Rattle.std.specs.Prelude.{◌≡◌, ℕ, ◌-◌, Bool, List, [], ◌∷◌, ◌++◌, take, drop, flat_map, codes, nat_eq, if◌then◌else◌, Result, Ok, Err}
+use Rattle.std.specs.List.{AllZip, Contains, starts_with}
 use Rattle.mh_grammar.specs.declared.types.Grammar.{Grammar}
 use Rattle.mh_items_kernels.specs.Shapes.{Automaton}
 use Rattle.mh_tables_core.specs.Table.{TableData}
@@ -13,7 +13,6 @@ use Rattle.mh_check.specs.Compiling.{Tells}
 use Rattle.mh_check.specs.declared.compiling.CheckFault.{CheckFault}
 use Rattle.mh_update_renewed.specs.declared.comment.Comment.{Comment}
 use Rattle.mh_grammar.specs.Text.{Text}
-pub use Rattle.mh_grammar_texts.specs.Kept.{is_made, own_text, own_texts}
 
 -- ---- comment lines
 
@@ -27,7 +26,19 @@ AreComments g a t xs cs = AllZip (IsComment g a t) xs cs
 
 -- ---- lines
 
--- behind so many lines: those up to a sentence's, its comment lines, and so on; lines are counted from 1
+-- the program makes the lines that begin with two number signs
+abbrev pub is_made : Text → Bool
+is_made line = starts_with nat_eq line (codes "##")
+
+-- what is kept of a line: a line that the program makes is left out
+abbrev pub own_text : Text → Text
+own_text line = if is_made line then [] else line ++ 10 ∷ []
+
+-- the lines that the program does not make, each with an LF after it
+abbrev pub own_texts : List Text → Text
+own_texts lines = flat_map own_text lines
+
+-- after so many lines: those up to a sentence's, its comment lines, and so on; lines are counted from 1
 abbrev pub updated_from : ℕ → List Text → List Comment → Text
 updated_from written lines [] = own_texts (drop written lines)
 updated_from written lines (c ∷ cs) = own_texts (take (c.line - written) (drop written lines)) ++ c.text ++ updated_from c.line lines cs

@@ -1,7 +1,7 @@
 //! Comments of sentences.
 use mh_grammar::Sequence;
 
-/// What stands behind the line of a sentence.
+/// The comment lines that follow the line of a sentence.
 #[derive(Drop)]
 pub struct Comment {
     /// The number of the sentence's line, from 1.

@@ -15,8 +15,9 @@ use Rattle.mh_grammar.proofs.Lists.{contains_here, contains_there, contains_case
 use Rattle.mh_items_kernels.specs.Shapes.{Kernel}
 use Rattle.mh_items_kernels.specs.Kernels.{Holds, IsItemList}
 use Rattle.mh_items_kernels.specs.Automaton.{no_kernel, kernel_at, move_of, Moves, IsTarget}
-use Rattle.mh_items_kernels.specs.Collection.{IsBehindDot, IsMove, edge_symbols}
-use Rattle.mh_items.specs.Moves.{Move, AreMovesOf, symbols_of}
+use Rattle.mh_items_kernels.specs.code.Moving.{IsBehindDot, IsMove}
+use Rattle.mh_items_kernels.specs.Collection.{edge_symbols}
+use Rattle.mh_items.specs.code.Moves.{Move, AreMovesOf, symbols_of}
 use Rattle.mh_canon_states.proofs.Sets.{same_trans, moved_same, place_holds}
 use Rattle.mh_tabfile_form.specs.declared.types.RawEdge.{RawEdge}
 use Rattle.mh_tabfile_form.specs.declared.types.RawTable.{RawTable}
@@ -26,8 +27,8 @@ use Rattle.mh_validate_valid.proofs.OneKernel.{rest_of, none_cons}
 use Rattle.mh_validate_valid.proofs.Edged.{on_symbol, has_symbol, one_symbols, symbols_rise}
 use Rattle.mh_grammar.specs.Names.{symbol_name}
 use Rattle.mh_grammar.proofs.EdgeOrder.{edge_found, found_in}
-use Rattle.mh_validate.specs.Leading.{Leads, IsRowOf, edges_on}
-use Rattle.mh_validate_valid.specs.Finding.{Finds}
+use Rattle.mh_validate.specs.code.Leading.{Leads, IsRowOf, edges_on}
+use Rattle.mh_validate_valid.specs.code.Finding.{Finds}
 use Rattle.mh_validate.proofs.Within.{target_of, holds_move}
 use Rattle.mh_items_kernels.proofs.Dotted.{drop_from-slice_get}
 use Rattle.mh_canon_states.proofs.Edging.{behind_moved}

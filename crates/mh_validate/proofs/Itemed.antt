@@ -22,7 +22,7 @@ use Rattle.mh_resolve_cells.specs.Names.{look_name}
 use Rattle.mh_tabfile_form.specs.Written.{raw_item}
 use Rattle.mh_validate_valid.specs.Valid.{AreNamesApart}
 use Rattle.mh_validate_valid.proofs.OneKernel.{same_look, same_item}
-use Rattle.mh_validate.specs.Looking.{IsLookOf, AreLooksOf, IsItemOf, AreItemsOf, IsLast, Behind}
+use Rattle.mh_validate.specs.code.Looking.{IsLookOf, AreLooksOf, IsItemOf, AreItemsOf, IsLast, Behind}
 use Rattle.mh_validate.proofs.Reading.{read-none, read-more, read-never, read-all, behind_last, behind_all, last_pushed, last_contained}
 
 look_along : (x y z : Look) → IsLookBefore x y → IsLookBefore y z → IsLookBefore x z

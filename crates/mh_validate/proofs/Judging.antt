@@ -10,8 +10,8 @@ use Rattle.mh_items_kernels.specs.Automaton.{no_kernel, kernel_at, edges_at}
 use Rattle.mh_tables_core.specs.declared.parts.StateParts.{StateParts}
 use Rattle.mh_tables_core.specs.Table.{no_state}
 use Rattle.std.proofs.lemmas.List.{get_or_default}
-use Rattle.mh_resolve_cells.specs.States.{AreResolved, IsResolved}
-use Rattle.mh_resolve_cells.specs.code.Whole.{AreEdgesKnown, closed_state}
+use Rattle.mh_resolve_cells.specs.States.{AreResolved, IsResolved, closed_state}
+use Rattle.mh_resolve_cells.specs.code.Whole.{AreEdgesKnown}
 use Rattle.mh_resolve_cells.proofs.Tabled.{moving_symbol}
 use Rattle.mh_tabfile_form.specs.declared.types.RawTable.{RawTable}
 use Rattle.mh_tabfile_form.specs.Written.{raw_cells}
@@ -23,8 +23,8 @@ use Rattle.mh_validate.specs.declared.fault.ValidFault.{ValidFault}
 use Rattle.mh_validate.specs.declared.fault.ValidFault.TheVariants.{Invalid}
 use Rattle.mh_validate.specs.declared.validation.Valid.{Valid}
 use Rattle.mh_validate.specs.Outcome.{IsFault, IsOutcome, Gives}
-use Rattle.mh_validate.specs.Found.{AreFirstKernels}
-use Rattle.mh_validate.specs.Comparing.{AreFirstRows, AreRows, AreResolvedRows}
+use Rattle.mh_validate.specs.code.Found.{AreFirstKernels}
+use Rattle.mh_validate.specs.code.Comparing.{AreFirstRows, AreRows, AreResolvedRows}
 
 -- all kernels, where no state lacks one
 pub all_kernels : (g : Grammar) (raw : RawTable) (ks : List Kernel) → AreFirstKernels g raw ks → length raw.states ≤ length ks → AreKernels g raw ks

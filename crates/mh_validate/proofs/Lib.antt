@@ -1,5 +1,4 @@
 mod Reading
-mod Mapped
 mod Named
 mod Itemed
 mod Stating
@@ -7,6 +6,4 @@ mod FirstKernels
 pub mod Within
 pub mod Edging
 pub mod Counting
-pub mod Zipping
-mod Lacking
 mod Judging

@@ -13,7 +13,7 @@ use Rattle.mh_msgfile.proofs.Canonical.{number_is, token_at}
 use Rattle.std.proofs.lemmas.Option.{none-some, slice_get_within}
 use Rattle.std.proofs.lemmas.Slice.Eq.{bytes_eq-Decides}
 use Rattle.mh_validate_valid.specs.Valid.{AreNamesApart}
-use Rattle.mh_validate.specs.Looking.{IsLookOf}
+use Rattle.mh_validate.specs.code.Looking.{IsLookOf}
 
 -- a name is found where it stands
 found_on : (name first : List ℕ) (names : List (List ℕ)) (i k : ℕ) (c : Bool) → bytes_eq name first ≡ c → (position_from (bytes_eq name) (i + 1) names ≡ Some k → (z : ℕ) × (k ≡ i + 1 + z) × (slice_get names z ≡ Some name))

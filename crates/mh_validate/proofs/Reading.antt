@@ -7,7 +7,7 @@ use Rattle.std.proofs.lemmas.Bool.{cases_lt}
 use Rattle.mh_grammar.specs.Edges.{IsRising}
 use Rattle.mh_grammar.proofs.Lists.{contains_here, contains_there, contains_cases, contains_none, at_contains, contains_at, get_last, same_at, taken, split_at, recursion_contains, recursion-push, rising-push, rising_at, first_same}
 use Rattle.mh_validate_valid.proofs.OneKernel.{rest_of, none_cons}
-use Rattle.mh_validate.specs.Looking.{AreRead, IsLast}
+use Rattle.mh_validate.specs.code.Looking.{AreRead, IsLast}
 
 module _ {X N : Type 0} (raw_of : X → N) (Is : X → Type 0) (R : X → X → Type 0) where
   pub read-none : AreRead raw_of Is R [] []

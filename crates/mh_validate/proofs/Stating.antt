@@ -11,7 +11,7 @@ use Rattle.mh_tabfile_form.specs.declared.types.RawItem.{RawItem}
 use Rattle.mh_tabfile_form.specs.declared.types.RawTable.{RawTable}
 use Rattle.mh_validate_valid.proofs.OneKernel.{same_items}
 use Rattle.mh_validate_valid.specs.Valid.{AreNamesApart, HasKernel, IsAtEnd, raw_state}
-use Rattle.mh_validate.specs.Looking.{AreItemsOf, MayHave, IsMovedItem}
+use Rattle.mh_validate.specs.code.Looking.{AreItemsOf, MayHave, IsMovedItem}
 
 abbrev kernel_from : List KernelItem → Kernel
 kernel_from items = record { items = items }

@@ -11,7 +11,7 @@ use Rattle.mh_items_kernels.specs.Shapes.{KernelItem, Kernel, Automaton}
 use Rattle.mh_items_kernels.specs.Kernels.{Holds, HasPlace, IsItemList, IsKernelItem, IsItemBefore}
 use Rattle.mh_items_kernels.specs.Automaton.{kernel_at, move_of, IsTarget}
 use Rattle.mh_items_kernels.proofs.OneList.{place_never, item_along, heads, of_items}
-use Rattle.mh_validate_valid.specs.Within.{IsItemWithin, IsKernelWithin}
+use Rattle.mh_validate_valid.specs.code.Within.{IsItemWithin, IsKernelWithin}
 
 pub target_of : (g : PlainGrammar) (a : Automaton) (s : ℕ) (X : Symbol) (u : ℕ) (m : Kernel) → IsItemList g m → AreSame (Holds m) (move_of g a s X) → u < length a.kernels → IsKernelWithin m (kernel_at a u) → IsTarget g a s X u
 target_of g a s X u m k same known h = record {

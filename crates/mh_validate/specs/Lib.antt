@@ -1,5 +1,2 @@
-pub mod Looking
-pub mod Found
-pub mod Leading
-pub mod Comparing
 pub mod Outcome
+pub mod code

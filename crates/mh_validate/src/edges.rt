@@ -1,14 +1,13 @@
 //! The edges of a state beside the moves of its closure.
 ghost use Rattle.std.specs.Prelude.{◌≡◌, ◌<◌, ◌≤◌, ◌↔◌, length, IsTrue, IfOk};
 ghost use Rattle.std.specs.List.{AllZip};
-ghost use Rattle.mh_validate.specs.Leading.{Leads, IsRowOf, edges_on as edges_of_moves};
+ghost use Rattle.mh_validate.specs.code.Leading.{Leads, IsRowOf, edges_on as edges_of_moves};
 
-use crate::targets::is_kernel_within;
-use mh_grammar::{Edge, Grammar, Memory, Sequence};
+use mh_grammar::{Edge, Grammar, Memory, Sequence, symbol_name};
 use mh_items::Move;
 use mh_items_kernels::Kernel;
 use mh_tabfile_form::RawEdge;
-use mh_validate_valid::is_on;
+use mh_validate_valid::{is_kernel_within, is_named};
 use std::alloc::Global;
 
 fn leads<const W: usize>(
@@ -20,7 +19,7 @@ fn leads<const W: usize>(
     requires few { W ≤ 8 }
     ensures { IsTrue result ↔ Leads grammar.now kernels.now found.now raw.now }
 {
-    if !is_on(grammar, found.symbol, &raw.symbol) {
+    if !is_named(&raw.symbol, symbol_name(grammar, found.symbol)) {
         return false;
     }
     if raw.target as usize >= kernels.len() {

@@ -1,4 +1,4 @@
-//! The items that lines stand for.
+//! The items that lines spell.
 ghost use Rattle.std.specs.Prelude.{◌≡◌, ◌<◌, ◌≤◌, ◌*◌, ◌+◌, ◌↔◌, length, IsTrue, IfOk};
 ghost use Rattle.mh_grammar.specs.Plain.{plain_of, rhs_of, IsInRange};
 ghost use Rattle.std.specs.List.{Contains};
@@ -7,7 +7,7 @@ ghost use Rattle.mh_items_kernels.specs.Shapes.{KernelItem as ItemOf};
 ghost use Rattle.mh_items_kernels.specs.Kernels.{IsItemBefore};
 ghost use Rattle.mh_msgfile.specs.Sentences.{vocabulary_in, vocabulary_of};
 ghost use Rattle.mh_validate_valid.specs.Valid.{AreNamesApart};
-ghost use Rattle.mh_validate.specs.Looking.{Finds, IsItemOf, AreItemsOf};
+ghost use Rattle.mh_validate.specs.code.Looking.{Finds, IsItemOf, AreItemsOf};
 
 use crate::looks::looks_of;
 use mh_grammar::{Grammar, Memory, Sequence};
@@ -78,7 +78,7 @@ fn is_before<const W: usize>(left: &KernelItem<W>, right: &KernelItem<W>) -> boo
         || (left.production == right.production && left.dot < right.dot)
 }
 
-/// Whether an item comes behind those of a rising list.
+/// Whether an item comes after those of a rising list.
 fn is_behind<const W: usize>(items: &[KernelItem<W>], item: &KernelItem<W>) -> bool
     requires few { W ≤ 8 }
     requires rising { IsRising IsItemBefore items.now }

@@ -5,8 +5,8 @@ ghost use Rattle.mh_grammar.specs.Plain.{plain_of, IsInRange};
 ghost use Rattle.mh_items_kernels.specs.Automaton.{start_kernel};
 ghost use Rattle.mh_msgfile.specs.Sentences.{vocabulary_in, vocabulary_of};
 ghost use Rattle.mh_validate_valid.specs.Valid.{AreNamesApart, HasKernel, raw_state};
-ghost use Rattle.mh_validate.specs.Looking.{Finds, IsMovedItem, MayHave};
-ghost use Rattle.mh_validate.specs.Found.{AreFirstKernels};
+ghost use Rattle.mh_validate.specs.code.Looking.{Finds, IsMovedItem, MayHave};
+ghost use Rattle.mh_validate.specs.code.Found.{AreFirstKernels};
 
 use crate::items::items_of;
 use mh_grammar::{Grammar, Memory, Sequence};

@@ -1,9 +1,9 @@
-//! The looks that names stand for.
+//! The looks that names spell.
 ghost use Rattle.std.specs.Prelude.{◌≡◌, ◌≤◌, ◌*◌, ◌↔◌, length, IsTrue};
 ghost use Rattle.mh_grammar.specs.Edges.{IsLookBefore};
 ghost use Rattle.mh_msgfile.specs.Sentences.{vocabulary_in, vocabulary_of};
 ghost use Rattle.mh_validate_valid.specs.Valid.{AreNamesApart};
-ghost use Rattle.mh_validate.specs.Looking.{Finds, Behind, IsLookOf, AreLooksOf};
+ghost use Rattle.mh_validate.specs.code.Looking.{Finds, Behind, IsLookOf, AreLooksOf};
 
 use mh_grammar::{Grammar, Look, Name};
 use mh_msgfile::Lexicon;
@@ -37,7 +37,7 @@ fn is_before(left: Look, right: Look) -> bool
     }
 }
 
-/// Whether a look may stand behind the last one.
+/// Whether a look may come after the last one.
 fn is_behind(last: Option<Look>, look: Look) -> bool
     ensures { IsTrue result ↔ Behind last look }
 {

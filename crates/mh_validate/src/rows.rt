@@ -1,10 +1,10 @@
 //! The edges of the states, one after another.
 ghost use Rattle.std.specs.Prelude.{◌≡◌, ◌<◌, ◌≤◌, ◌*◌, [], length, IfOk, OnOk};
 ghost use Rattle.mh_grammar.specs.Plain.{plain_of, IsInRange};
-ghost use Rattle.mh_items.specs.Mover.{IsMover};
+ghost use Rattle.mh_items.specs.code.Mover.{IsMover};
 ghost use Rattle.mh_validate_valid.specs.Valid.{AreKernels, HasEdges, raw_state};
-ghost use Rattle.mh_validate_valid.specs.Finding.{Finds};
-ghost use Rattle.mh_validate.specs.Comparing.{AreFirstRows};
+ghost use Rattle.mh_validate_valid.specs.code.Finding.{Finds};
+ghost use Rattle.mh_validate.specs.code.Comparing.{AreFirstRows};
 
 use crate::edges::row_of;
 use mh_grammar::{Edge, Grammar, Memory, Sequence};

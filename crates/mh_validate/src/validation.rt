@@ -2,19 +2,17 @@
 ghost use Rattle.std.specs.Prelude.{◌≡◌, ◌<◌, ◌≤◌, ◌*◌, ◌^◌, ℕ, [], Option, Some, Err, length, IfOk, OnOk};
 ghost use Rattle.mh_grammar.specs.Costs.{HaveCosts};
 ghost use Rattle.mh_grammar.specs.Plain.{plain_of, IsInRange};
-ghost use Rattle.mh_items.specs.Closer.{IsCloser};
+ghost use Rattle.mh_items.specs.code.Closer.{IsCloser};
 ghost use Rattle.mh_items_kernels.specs.Automaton.{IsAutomaton};
 ghost use Rattle.mh_resolve_cells.specs.States.{IsTableOf};
 ghost use Rattle.mh_resolve_cells.specs.Conflicts.{AreConflicts};
 ghost use Rattle.mh_validate_valid.specs.declared.reason.Reason.{Reason as ReasonOf};
 ghost use Rattle.mh_validate_valid.specs.Valid.{AreKernels, AreNamesApart, HasHeader, HasStates, IsInvalidAt, IsValidFor, reason_of, raw_state};
 ghost use Rattle.mh_tabfile_form.specs.Written.{raw_cells};
-ghost use Rattle.mh_validate.specs.Comparing.{AreFirstRows, AreRows, AreResolvedRows};
+ghost use Rattle.mh_validate.specs.code.Comparing.{AreFirstRows, AreRows, AreResolvedRows};
 ghost use Rattle.mh_validate.specs.Outcome.{IsFault, IsOutcome};
 
-use crate::cells::{cells_at, count_told, reason};
 use crate::fault::ValidFault;
-use crate::header::has_header;
 use crate::kernels::first_kernels;
 use crate::rows::first_rows;
 use mh_grammar::{Edge, Grammar, Memory, Sequence};
@@ -24,7 +22,7 @@ use mh_resolve::{Resolution, resolve_one, resolve_states};
 use mh_resolve_cells::{Conflict, Mode};
 use mh_tabfile_form::RawTable;
 use mh_tables_core::{StateParts, Table, table_of};
-use mh_validate_valid::{Reason, first_lacking};
+use mh_validate_valid::{Reason, cells_at, count_right, has_header, wrong_lines};
 use std::alloc::Global;
 
 /// What a valid table file gives: the automaton that it names, the table of that in its mode, and its conflicts.
@@ -44,7 +42,7 @@ struct Stated<'a, const W: usize> {
     rows: &'a [Sequence<Edge>],
 }
 
-/// The parts of the first states, of so many as have edges here.
+/// The parts of the first states, up to the last of which the edges are known.
 fn fill_parts<const W: usize>(
     alloc: Global,
     grammar: &Grammar,
@@ -92,7 +90,7 @@ fn close_rows<const W: usize>(
     filled
 }
 
-/// The parts of the first states, of so many as have edges here.
+/// The parts of the first states, up to the last of which the edges are known.
 fn resolve_rows<const W: usize>(
     alloc: Global,
     grammar: &Grammar,
@@ -110,7 +108,7 @@ fn resolve_rows<const W: usize>(
     Ok(states)
 }
 
-/// The first state whose cells are wrong, or else the one behind them, whose edges are.
+/// The first state whose cells are wrong, or else the state after these, whose edges are wrong.
 fn fault_within<const W: usize>(
     alloc: Global,
     grammar: &Grammar,
@@ -130,12 +128,12 @@ fn fault_within<const W: usize>(
     let Ok(parts) = resolve_rows(alloc, grammar, stated) else {
         return ValidFault::Memory;
     };
-    let told = count_told(grammar, stated.raw, parts.as_slice());
-    if told < stated.rows.len() {
-        return wrong_at(grammar, stated.raw, told, &parts[told]);
+    let right = count_right(grammar, stated.raw, parts.as_slice());
+    if right < stated.rows.len() {
+        return wrong_at(grammar, stated.raw, right, &parts[right]);
     }
     ValidFault::Invalid {
-        state: Some(told as u32),
+        state: Some(right as u32),
         reason: Reason::Edge,
     }
 }
@@ -148,7 +146,7 @@ fn wrong_at(grammar: &Grammar, raw: &RawTable, state: usize, parts: &StateParts)
 {
     ValidFault::Invalid {
         state: Some(state as u32),
-        reason: reason(grammar, cells_at(raw, state), parts),
+        reason: wrong_lines(grammar, cells_at(raw, state), parts),
     }
 }
 
@@ -174,9 +172,9 @@ fn with_table<const W: usize>(
         return Err(ValidFault::Memory);
     };
     let Resolution { states, conflicts } = found;
-    let told = count_told(grammar, raw, states.as_slice());
-    if told < states.len() {
-        return Err(wrong_at(grammar, raw, told, &states[told]));
+    let right = count_right(grammar, raw, states.as_slice());
+    if right < states.len() {
+        return Err(wrong_at(grammar, raw, right, &states[right]));
     }
     let Ok(table) = table_of(alloc, grammar, states) else {
         return Err(ValidFault::Memory);
@@ -257,17 +255,18 @@ fn judged<const W: usize>(
     let Ok(kernels) = first_kernels(alloc, grammar, raw) else {
         return Err(ValidFault::Memory);
     };
-    match first_lacking(kernels.len(), raw.states.len()) {
-        Some(state) => Err(ValidFault::Invalid {
-            state: Some(state),
+    let found = kernels.len();
+    if found < raw.states.len() {
+        return Err(ValidFault::Invalid {
+            state: Some(found as u32),
             reason: Reason::Kernel,
-        }),
-        None => with_kernels(alloc, grammar, raw, kernels),
+        });
     }
+    with_kernels(alloc, grammar, raw, kernels)
 }
 
-/// The automaton of a table file, with its table and its conflicts, where the file is valid for the grammar; else the first test
-/// that it fails. `Memory` may come at any file.
+/// The automaton of a table file, with its table and its conflicts, where the file is valid for the grammar; else the
+/// first test that it fails. `Memory` may come at any file.
 pub fn validate<const W: usize>(
     alloc: Global,
     grammar: &Grammar,

@@ -6,3 +6,6 @@ pub mod Apart
 pub mod Once
 pub mod Pushed
 pub mod Rowing
+pub mod Lines
+pub mod Zipping
+mod Mapped

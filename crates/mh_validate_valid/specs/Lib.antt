@@ -1,5 +1,2 @@
 pub mod Valid
-pub mod Within
-pub mod Finding
-pub mod Items
-pub mod Lacking
+pub mod code

@@ -1,5 +1,5 @@
--- When a table file is valid for a grammar: four tests in order, over names. Their rules are this project's own; automata and actions
--- are those of Knuth 1965 and of the Menhir manual.
+-- When a table file is valid for a grammar: four tests in order, over names. Their rules are this project's own;
+-- automata and actions are those of Knuth 1965 and of the Menhir manual.
 use Rattle.std.specs.Prelude.{◌≡◌, ◌<◌, ◌≤◌, ◌∷◌, ℕ, List, [], map, length, Bool, true, false, if◌then◌else◌, Option, Some, None, slice_index_or, codes}
 use Rattle.std.specs.List.{AllByRecursion}
 use Rattle.mh_grammar.specs.declared.types.Symbol.{Symbol}
@@ -12,15 +12,12 @@ use Rattle.mh_grammar.specs.Names.{token_name, nonterminal_name}
 use Rattle.mh_grammar.specs.Costs.{costs_of}
 use Rattle.mh_tabfile_form.specs.Written.{raw_production, raw_item, raw_edge, raw_cells}
 use Rattle.mh_grammar.specs.Edges.{IsRising, IsEdgeBefore, find_edge}
-use Rattle.mh_items_kernels.specs.Shapes.{KernelItem}
-use Rattle.mh_items_kernels.specs.Shapes.{Kernel}
-use Rattle.mh_items_kernels.specs.Shapes.{Automaton}
+use Rattle.mh_items_kernels.specs.Shapes.{KernelItem, Kernel, Automaton}
 use Rattle.mh_items_kernels.specs.Kernels.{IsItemList}
 use Rattle.mh_items_kernels.specs.Automaton.{start_kernel, no_kernel, Moves, IsTarget}
 use Rattle.mh_tables_core.specs.declared.parts.StateParts.{StateParts}
 use Rattle.mh_tables_core.specs.Table.{no_state}
-use Rattle.mh_resolve_cells.specs.States.{IsResolved}
-use Rattle.mh_resolve_cells.specs.code.Whole.{closed_state}
+use Rattle.mh_resolve_cells.specs.States.{IsResolved, closed_state}
 use Rattle.mh_tabfile_form.specs.declared.types.RawCells.{RawCells}
 use Rattle.mh_tabfile_form.specs.declared.types.RawCells.TheVariants as cells
 use Rattle.mh_tabfile_form.specs.declared.types.RawState.{RawState}
@@ -54,7 +51,7 @@ no_raw_state = record { items = []; edges = []; cells = cells.Cells [] }
 abbrev pub raw_state : RawTable → ℕ → RawState
 raw_state raw s = slice_index_or raw.states s no_raw_state
 
--- a start production stands with the end of the stream alone
+-- a start production has the end of the stream as its only look
 abbrev pub IsAtEnd : Grammar → KernelItem → Type 0
 IsAtEnd g item = item.production < length g.starts → item.looks ≡ End ∷ []
 
@@ -66,7 +63,7 @@ pub record IsKernelAt (g : Grammar) (s : ℕ) (k : Kernel) : Type 0 where
   pub start : s < length g.starts → k ≡ start_kernel s
   pub moved : length g.starts ≤ s → AllByRecursion (λ (item : KernelItem). 0 < item.dot) k.items
 
--- the items of a state spell such a kernel
+-- the items of a state spell a kernel that the state may have
 pub record HasKernel (g : Grammar) (raw : RawTable) (s : ℕ) (k : Kernel) : Type 0 where
   pub spelled : (raw_state raw s).items ≡ map (raw_item g) k.items
   pub kernel : IsKernelAt g s k
@@ -102,7 +99,7 @@ pub record IsRight (g : Grammar) (raw : RawTable) (ks : List Kernel) (s : ℕ) (
   pub resolved : IsResolvedAt g raw ks s edges parts
   pub has_cells : (raw_state raw s).cells ≡ raw_cells g parts
 
--- which test fails where these are due and those stand and they differ: that of the cells, if cells are due or stand there
+-- which test fails where the lines found differ from those due: that of the cells, if cells are due or found
 abbrev pub has_lines : RawCells → Bool
 has_lines (cells.Cells []) = false
 has_lines (cells.Cells (c ∷ cs)) = true

@@ -1,23 +1,19 @@
-//! When a table file is valid for a grammar, and laws of that.
-//!
-//! Whether single things of a table file are what is due: the tokens and their costs, an item of a state, the symbol of an edge,
-//! the cells of a state; and which state is told to have no kernel.
+//! When a table file is valid for a grammar, laws of that, and the tests that need no memory: the header, the items of
+//! a kernel, the state that an edge leads to, and the cells or the default of a state.
 #![tactic(auto)]
 
 mod cells;
-mod costs;
-mod edges;
+mod header;
 mod items;
-mod lacking;
 mod laws;
+mod names;
 mod reason;
-mod tokens;
+mod targets;
 
-pub use cells::{is_same, is_told};
-pub use costs::has_tokens;
-pub use edges::is_on;
-pub use items::{is_end, is_item_within, is_moved};
-pub use lacking::first_lacking;
+pub use cells::{cells_at, count_right, wrong_lines};
+pub use header::has_header;
+pub use items::{is_end, is_moved};
 pub use laws::{valid_is_automaton, valid_or_invalid, validity_is_one, written_is_valid};
+pub use names::is_named;
 pub use reason::Reason;
-pub use tokens::is_named;
+pub use targets::is_kernel_within;

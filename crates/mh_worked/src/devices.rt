@@ -1,6 +1,6 @@
 //! Files, inputs and outputs that fail.
 use crate::observed::{Counted, Output, Takes};
-use crate::runs::{beside, check_cases_with, copied, given_files, release, shelf_of, words_of};
+use crate::runs::{beside, check_cases_with, copied, given_files, shelf_of, words_of};
 use mh_outside::MemShelf;
 use mh_top::menhir;
 use std::alloc::Global;
@@ -261,10 +261,10 @@ fn status_and_reads(
     let mut err = Output::new(alloc, Takes::Pieces, Vec::new(alloc));
     let status = menhir(alloc, words, &mut shelf, &mut input, &mut out, &mut err);
     let reads = input.reads;
-    release(shelf);
-    release(input);
-    release(out);
-    release(err);
+    drop(shelf);
+    drop(input);
+    drop(out);
+    drop(err);
     (status, reads)
 }
 
@@ -298,7 +298,7 @@ fn check_answers(rt: &impl Abort, alloc: Global, words: &[String]) -> Result<(),
 fn no_line_is_taken_after_a_fault(rt: HostRuntime) -> Result<(), Fail> {
     let words = words_of(rt.alloc(), "--interpret g.mly")?;
     let result = check_answers(&rt, rt.alloc(), &words);
-    release(words);
+    drop(words);
     result
 }
 

@@ -1,5 +1,5 @@
 //! Lists of errors, by merged automata, and by canonical ones where the words say so. Their sentences are of least length.
-use crate::runs::{Outcome, check_cases, check_cases_with, release, run_on};
+use crate::runs::{Outcome, check_cases, check_cases_with, run_on};
 use std::alloc::Global;
 use std::fmt::Write;
 use std::process::Abort;
@@ -273,7 +273,7 @@ fn check_row(
     let (grammar, wanted) = case.split_once('=').ok_or("a case without rows")?;
     let got = run_on(rt, alloc, words, grammar)?;
     let result = check_list(rt, alloc, &got, has_sentences, wanted);
-    release(got);
+    drop(got);
     result
 }
 
@@ -309,6 +309,6 @@ fn reductions_before_the_error(rt: HostRuntime) -> Result<(), Fail> {
     let words = "--canonical --list-errors g.mly";
     let got = run_on(&rt, rt.alloc(), words, COMPARISONS)?;
     let result = check_contents(&rt, &got.out);
-    release(got);
+    drop(got);
     result
 }

@@ -1,11 +1,10 @@
 //! Each call of each device fails in turn, in each mode. The input gives one byte at a time, and the outputs take one, so each
 //! place of a text is one call.
 use crate::observed::{Counted, Output, Takes};
-use crate::runs::{
-    Fails, beside, copied, filled, given_files, parts_of, release, shelf_of, words_of,
-};
+use crate::runs::{Fails, beside, copied, given_files, parts_of, shelf_of, words_of};
 use mh_outside::MemShelf;
 use mh_top::menhir;
+use mh_worked_files::filled;
 use std::alloc::Global;
 use std::process::Abort;
 use std::test::Fail;
@@ -108,7 +107,7 @@ fn read_row(alloc: Global, line: &str) -> Result<Row<'_>, Fail> {
         Ok(()) => row_of(words.as_slice(), said),
         Err(fail) => Err(fail),
     };
-    release(words);
+    drop(words);
     row
 }
 
@@ -178,7 +177,7 @@ fn check_call(
     let words = words_of(alloc, case.words)?;
     let (words, mut devices) = beside(words, devices_of(rt, alloc, case, row.device, call))?;
     let got = status_of(alloc, &words, &mut devices);
-    release(words);
+    drop(words);
     assert_eq!(rt;
         got,
         status,
@@ -186,7 +185,7 @@ fn check_call(
         call, row.device, case.words
     );
     check_devices(rt, &devices, out, err, row.said.as_bytes(), reads);
-    release(devices);
+    drop(devices);
     Ok(())
 }
 
@@ -231,7 +230,7 @@ fn check_parts(rt: &impl Abort, alloc: Global, parts: &[&str], rows: &str) -> Re
 fn check_case(rt: &impl Abort, alloc: Global, case: &str, rows: &str) -> Result<(), Fail> {
     let parts = parts_of(alloc, case)?;
     let result = check_parts(rt, alloc, parts.as_slice(), rows);
-    release(parts);
+    drop(parts);
     result
 }
 

@@ -1,5 +1,6 @@
 //! Verdicts on the lines of the input.
-use crate::runs::{Outcome, check_cases, put, release, run_with};
+use crate::runs::{Outcome, check_cases, run_with};
+use mh_worked_files::put;
 use std::process::Abort;
 use std::test::Fail;
 
@@ -397,7 +398,7 @@ fn three_thousand_sums(rt: HostRuntime) -> Result<(), Fail> {
         push_sum(&mut input, number);
     }
     let got = run_with(&rt, rt.alloc(), "--interpret g.mly", SUMS, &input);
-    release(input);
+    drop(input);
     check_sums(&rt, &got?);
     Ok(())
 }

@@ -1,5 +1,5 @@
-//! Worked examples, whose answers were worked out by hand: runs of the whole tool here, files and what they give under
-//! `files`, tables and what is made of them under `tables`.
+//! Worked examples of the whole tool: words and files in memory, and what the top call writes for them. Each answer was worked out by
+//! hand.
 #![tactic(auto)]
 
 #[cfg(test)]
@@ -12,8 +12,6 @@ mod errors;
 mod explained;
 #[cfg(test)]
 mod faults;
-#[cfg(test)]
-mod files;
 #[cfg(test)]
 mod interpreting;
 #[cfg(test)]
@@ -38,8 +36,6 @@ mod sessions;
 mod several_files;
 #[cfg(test)]
 mod table_files;
-#[cfg(test)]
-mod tables;
 #[cfg(test)]
 mod trees;
 #[cfg(test)]

@@ -1,8 +1,8 @@
 //! Messages files: compiled, and said of what is refused.
 use crate::runs::{
-    ONE_SENTENCE_FILE, Outcome, check_cases, check_cases_with, filled, push_file, put, release,
-    run_files, run_on,
+    ONE_SENTENCE_FILE, Outcome, check_cases, check_cases_with, push_file, run_files, run_on,
 };
+use mh_worked_files::{filled, put};
 use std::alloc::Global;
 use std::process::Abort;
 use std::test::Fail;
@@ -359,10 +359,10 @@ fn check_compiled(rt: &impl Abort, alloc: Global, list: &str, got: &Outcome) -> 
 fn check_list(rt: &impl Abort, alloc: Global, grammar: &str, list: &str) -> Result<(), Fail> {
     let messages = with_messages(alloc, list);
     let got = compiled_of(rt, alloc, grammar, &messages);
-    release(messages);
+    drop(messages);
     let got = got?;
     let result = check_compiled(rt, alloc, list, &got);
-    release(got);
+    drop(got);
     result
 }
 
@@ -373,7 +373,7 @@ fn check_round(rt: &impl Abort, alloc: Global, grammar: &str) -> Result<(), Fail
         Ok(text) => check_list(rt, alloc, grammar, text),
         Err(_) => Err(Fail::from("no text")),
     };
-    release(list);
+    drop(list);
     result
 }
 

@@ -5,6 +5,7 @@ ghost use Rattle.mh_outside.specs.Shelf.{file_at, files_of, HasDistinctNames};
 use crate::observed::{Counted, Output, Takes};
 use mh_outside::MemShelf;
 use mh_top::menhir;
+use mh_worked_files::filled;
 use std::alloc::Global;
 use std::fmt::Write;
 use std::process::Abort;
@@ -64,17 +65,6 @@ impl Fails {
             _ => return Err(Fail::from("an unknown device")),
         }
         Ok(())
-    }
-}
-
-/// Lets a value go. Where its type is known, each way out that lets it go would be long to prove.
-pub fn release<T: Drop>(_value: T) {}
-
-/// A value that was filled, where filling it did not fail.
-pub fn filled<T: Drop>(value: T, filling: Result<(), Fail>) -> Result<T, Fail> {
-    match filling {
-        Ok(()) => Ok(value),
-        Err(fail) => Err(fail),
     }
 }
 
@@ -148,10 +138,10 @@ fn run_given(
     let mut err = Output::new(alloc, Takes::Pieces, fails.err);
     let status = menhir(alloc, given, &mut shelf, &mut input, &mut out, &mut err);
     let outcome = outcome_of(alloc, status, out.written(), err.written());
-    release(shelf);
-    release(input);
-    release(out);
-    release(err);
+    drop(shelf);
+    drop(input);
+    drop(out);
+    drop(err);
     outcome
 }
 
@@ -167,13 +157,13 @@ pub fn run(
     match words_of(alloc, words) {
         Ok(given) => {
             let outcome = run_given(rt, alloc, &given, files, input, fails);
-            release(given);
+            drop(given);
             outcome
         }
         Err(fail) => {
-            release(files);
-            release(input);
-            release(fails);
+            drop(files);
+            drop(input);
+            drop(fails);
             Err(fail)
         }
     }
@@ -207,11 +197,6 @@ pub fn run_files(
 ) -> Result<Outcome, Fail> {
     let (files, input) = beside(files, copied(alloc, input))?;
     run(rt, alloc, words, files, input, Fails::none(alloc))
-}
-
-/// Adds bytes to a text. One that finds no memory lacks them, and is not what is wanted.
-pub fn put(text: &mut Vec<u8>, bytes: &[u8]) {
-    let _ = text.extend_from_slice(bytes);
 }
 
 pub fn copied(alloc: Global, bytes: &[u8]) -> Result<Vec<u8>, Fail> {
@@ -285,7 +270,7 @@ fn add_file(alloc: Global, files: &mut Vec<(Vec<u8>, Vec<u8>)>, file: &str) -> R
     let (name, short) = file.split_once('\n').ok_or("a file without a name")?;
     let text = spelled(alloc, short)?;
     let added = push_file(alloc, files, name, text.as_slice());
-    release(text);
+    drop(text);
     added
 }
 
@@ -295,8 +280,10 @@ fn add_files(
     shared: Option<&str>,
     named: &[&str],
 ) -> Result<(), Fail> {
-    if let Some(file) = shared {
-        add_file(alloc, files, file)?;
+    if let Some(shared) = shared {
+        for file in shared.split("~\n") {
+            add_file(alloc, files, file)?;
+        }
     }
     for file in named {
         add_file(alloc, files, *file)?;
@@ -304,7 +291,7 @@ fn add_files(
     Ok(())
 }
 
-/// The shared file and those of a case.
+/// The shared files and those of a case.
 pub fn given_files(
     alloc: Global,
     shared: Option<&str>,
@@ -362,7 +349,7 @@ fn check_text(
 ) -> Result<(), Fail> {
     let wanted = spelled(alloc, wanted)?;
     let is_wanted = is_wanted(found, wanted.as_slice());
-    release(wanted);
+    drop(wanted);
     assert!(rt; is_wanted, "{}\nin\n{case}", front_of(found));
     Ok(())
 }
@@ -428,7 +415,7 @@ fn check_parts(
     let head = head_of(*head)?;
     let got = run_case(rt, alloc, head, shared, named, *input)?;
     let result = check_outcome(rt, alloc, &got, (head.status, *out, *err), case);
-    release(got);
+    drop(got);
     result
 }
 
@@ -440,7 +427,7 @@ fn check_case(
 ) -> Result<(), Fail> {
     let parts = parts_of(alloc, case)?;
     let result = check_parts(rt, alloc, shared, parts.as_slice(), case);
-    release(parts);
+    drop(parts);
     result
 }
 
@@ -455,15 +442,15 @@ pub fn check_cases(rt: &impl Abort, alloc: Global, cases: &str) -> Result<(), Fa
     Ok(())
 }
 
-/// Runs each case of a text. Beside its own files each has this one, which stands behind a line with its name.
+/// Runs each case of a text. Each has these files beside its own. A line with its name is before each file, and a line `~` between two.
 pub fn check_cases_with(
     rt: &impl Abort,
     alloc: Global,
-    file: &str,
+    files: &str,
     cases: &str,
 ) -> Result<(), Fail> {
     for case in cases.split("^\n") {
-        check_case(rt, alloc, Some(file), case)?;
+        check_case(rt, alloc, Some(files), case)?;
     }
     Ok(())
 }

@@ -1,49 +1,15 @@
 //! Table files that the program writes, and tables that come from files.
 use crate::messages::ROUNDS;
 use crate::runs::{
-    ONE_SENTENCE_FILE, Outcome, check_cases, check_cases_with, filled, push_file, release,
-    run_files, run_on,
+    ONE_SENTENCE_FILE, Outcome, check_cases, check_cases_with, push_file, run_files, run_on,
+    run_with,
 };
+use mh_worked_files::{ONE_SENTENCE, ONE_SENTENCE_TABLE, filled};
 use std::alloc::Global;
 use std::process::Abort;
 use std::test::Fail;
 
-const WRITTEN: &str = "0 --write-tables g.mly
-~
-g.mly
-%token A EOF
-%start s
-%%
-s: A EOF {}
-~
-A
-~
-menhir-tables 2 merged
-tokens A EOF
-costs 1 1
-starts s
-productions 1
-s -> A EOF
-states 4
-state 0
-item 0 0 #
-edge A 1
-edge s 2
-cell A shift 1
-state 1
-item 1 1 #
-edge EOF 3
-cell EOF shift 3
-state 2
-item 0 1 #
-default accept
-state 3
-item 1 2 #
-default reduce 1
-end
-~
-^
-0 --canonical g.mly --write-tables
+const WRITTEN: &str = "0 --canonical g.mly --write-tables
 ~
 g.mly
 %token A [@cost 7]
@@ -142,34 +108,9 @@ menhir: usage: two modes
 menhir: usage: no grammar
 ";
 
-// A table that comes from a file is worked with like one that is built. Beside the files of each case stands the grammar of one
-// sentence. The last table is of version 1.
+// A table that comes from a file is worked with like one that is built. Beside the files of each case are the grammar of one
+// sentence and its table file.
 const TAKEN: &str = "0 --list-errors --tables t g.mly
-~
-t
-menhir-tables 2 merged
-tokens A EOF
-costs 1 1
-starts s
-productions 1
-s -> A EOF
-states 4
-state 0
-item 0 0 #
-edge A 1
-edge s 2
-cell A shift 1
-state 1
-item 1 1 #
-edge EOF 3
-cell EOF shift 3
-state 2
-item 0 1 #
-default accept
-state 3
-item 1 2 #
-default reduce 1
-end
 ~
 ~
 s: EOF
@@ -200,31 +141,6 @@ s: A A
 ^
 0 --tables t --interpret g.mly
 ~
-t
-menhir-tables 2 merged
-tokens A EOF
-costs 1 1
-starts s
-productions 1
-s -> A EOF
-states 4
-state 0
-item 0 0 #
-edge A 1
-edge s 2
-cell A shift 1
-state 1
-item 1 1 #
-edge EOF 3
-cell EOF shift 3
-state 2
-item 0 1 #
-default accept
-state 3
-item 1 2 #
-default reduce 1
-end
-~
 A EOF
 EOF
 A
@@ -236,31 +152,6 @@ OVERSHOOT
 ^
 0 --session --tables t g.mly
 ~
-t
-menhir-tables 2 merged
-tokens A EOF
-costs 1 1
-starts s
-productions 1
-s -> A EOF
-states 4
-state 0
-item 0 0 #
-edge A 1
-edge s 2
-cell A shift 1
-state 1
-item 1 1 #
-edge EOF 3
-cell EOF shift 3
-state 2
-item 0 1 #
-default accept
-state 3
-item 1 2 #
-default reduce 1
-end
-~
 begin a
 offer a A
 ~
@@ -268,57 +159,14 @@ a input-needed 0
 a shifting 0 A
 ~
 ^
-0 --tables t --write-tables g.mly
+1 --interpret --tables t h.mly
 ~
-t
-menhir-tables 1 merged
-tokens A EOF
-starts s
-productions 1
-s -> A EOF
-states 4
-state 0
-item 0 0 #
-edge A 1
-edge s 2
-cell A shift 1
-state 1
-item 1 1 #
-edge EOF 3
-cell EOF shift 3
-state 2
-item 0 1 #
-default accept
-state 3
-item 1 2 #
-default reduce 1
-end
+h.mly
+%token A EOF %start s %% s: A A EOF {}
 ~
 ~
-menhir-tables 2 merged
-tokens A EOF
-costs 1 1
-starts s
-productions 1
-s -> A EOF
-states 4
-state 0
-item 0 0 #
-edge A 1
-edge s 2
-cell A shift 1
-state 1
-item 1 1 #
-edge EOF 3
-cell EOF shift 3
-state 2
-item 0 1 #
-default accept
-state 3
-item 1 2 #
-default reduce 1
-end
 ~
+menhir: t: invalid: header
 ";
 
 // The file is read behind the grammar. Beside what builds a table of its own, or none, the word has no meaning.
@@ -350,40 +198,6 @@ t
 ~
 ~
 menhir: t:1: shape
-^
-1 --interpret --tables t h.mly
-~
-h.mly
-%token A EOF %start s %% s: A A EOF {}
-~
-t
-menhir-tables 2 merged
-tokens A EOF
-costs 1 1
-starts s
-productions 1
-s -> A EOF
-states 4
-state 0
-item 0 0 #
-edge A 1
-edge s 2
-cell A shift 1
-state 1
-item 1 1 #
-edge EOF 3
-cell EOF shift 3
-state 2
-item 0 1 #
-default accept
-state 3
-item 1 2 #
-default reduce 1
-end
-~
-~
-~
-menhir: t: invalid: header
 ^
 1 --interpret --tables t g.mly
 ~
@@ -496,7 +310,7 @@ fn check_table(
     let words = "--interpret --tables t g.mly";
     let got = run_beside(rt, alloc, words, grammar, table.as_bytes())?;
     let result = check_told(rt, &got, told, table);
-    release(got);
+    drop(got);
     result
 }
 
@@ -514,7 +328,7 @@ fn check_change(
         Ok(()) => check_table(rt, alloc, grammar, &table, told),
         Err(fail) => Err(fail),
     };
-    release(table);
+    drop(table);
     result
 }
 
@@ -542,7 +356,7 @@ fn check_changes(
 ) -> Result<(), Fail> {
     let written = run_on(rt, alloc, words, grammar)?;
     let result = check_lines(rt, alloc, grammar, &written.out, changes);
-    release(written);
+    drop(written);
     result
 }
 
@@ -600,11 +414,10 @@ const LOOK_CHANGES: &str = "item 0 1 #; item 0 1 INT #; menhir: t: invalid: stat
 #[test]
 fn changed_files(rt: HostRuntime) -> Result<(), Fail> {
     let alloc = rt.alloc();
-    let one = "%token A EOF %start s %% s: A EOF {}";
     check_changes(
         &rt,
         alloc,
-        one,
+        ONE_SENTENCE,
         "--write-tables g.mly",
         ONE_SENTENCE_CHANGES,
     )?;
@@ -630,7 +443,7 @@ fn run_built(
 ) -> Result<Outcome, Fail> {
     let words = format!(in alloc; "{mode}{job} g.mly")?;
     let got = run_on(rt, alloc, &words, grammar);
-    release(words);
+    drop(words);
     got
 }
 
@@ -644,7 +457,7 @@ fn run_read(
 ) -> Result<Outcome, Fail> {
     let words = format!(in alloc; "--tables t g.mly {job}")?;
     let got = run_beside(rt, alloc, &words, grammar, table);
-    release(words);
+    drop(words);
     got
 }
 
@@ -664,7 +477,7 @@ fn check_read(
 ) -> Result<(), Fail> {
     let got = run_read(rt, alloc, grammar, table, job)?;
     check_same(rt, &got, wanted);
-    release(got);
+    drop(got);
     Ok(())
 }
 
@@ -678,7 +491,7 @@ fn check_job(
 ) -> Result<(), Fail> {
     let wanted = run_built(rt, alloc, grammar, mode, job)?;
     let result = check_read(rt, alloc, grammar, table, job, &wanted);
-    release(wanted);
+    drop(wanted);
     result
 }
 
@@ -707,7 +520,7 @@ fn check_file(
     let written = run_built(rt, alloc, grammar, mode, "--write-tables")?;
     assert!(rt; written.out.starts_with(first.as_bytes()));
     let result = check_jobs(rt, alloc, grammar, mode, &written.out);
-    release(written);
+    drop(written);
     result
 }
 
@@ -737,7 +550,7 @@ fn written_and_read_again(rt: HostRuntime) -> Result<(), Fail> {
 fn check_shown(rt: &impl Abort, alloc: Global, grammar: &str, table: &[u8]) -> Result<(), Fail> {
     let shown = run_read(rt, alloc, grammar, table, "--show-automaton")?;
     assert!(rt; shown.out.starts_with(b"canonical: 10 states\n"));
-    release(shown);
+    drop(shown);
     Ok(())
 }
 
@@ -747,7 +560,49 @@ fn mode_of_the_file(rt: HostRuntime) -> Result<(), Fail> {
     let grammar = "%token C D %start s %% s: c c {} c: C c {} | D {}";
     let written = run_built(&rt, rt.alloc(), grammar, "--canonical ", "--write-tables")?;
     let result = check_shown(&rt, rt.alloc(), grammar, &written.out);
-    release(written);
+    drop(written);
+    result
+}
+
+/// Compares what was written with the table file of the grammar of one sentence.
+fn check_written(rt: &impl Abort, got: &Outcome) -> Result<(), Fail> {
+    assert_eq!(rt; str::from_utf8(&got.out)?, ONE_SENTENCE_TABLE);
+    assert!(rt; got.status == 0 && got.err.is_empty());
+    Ok(())
+}
+
+/// Writes the table of the automaton that is built. The input is not read.
+#[test]
+fn written_of_one_sentence(rt: HostRuntime) -> Result<(), Fail> {
+    let words = "--write-tables g.mly";
+    let got = run_with(&rt, rt.alloc(), words, ONE_SENTENCE, b"A\n")?;
+    let result = check_written(&rt, &got);
+    drop(got);
+    result
+}
+
+/// What is written of a table file of version 1, which has no line of costs.
+fn run_on_version_1(rt: &impl Abort, alloc: Global) -> Result<Outcome, Fail> {
+    let newer = changed(alloc, ONE_SENTENCE_TABLE, "costs 1 1", "");
+    let older = changed(
+        alloc,
+        &newer,
+        "menhir-tables 2 merged",
+        "menhir-tables 1 merged",
+    );
+    drop(newer);
+    let words = "--tables t --write-tables g.mly";
+    let got = run_beside(rt, alloc, words, ONE_SENTENCE, older.as_bytes());
+    drop(older);
+    got
+}
+
+/// A table of version 1 is written again in version 2.
+#[test]
+fn written_of_version_1(rt: HostRuntime) -> Result<(), Fail> {
+    let got = run_on_version_1(&rt, rt.alloc())?;
+    let result = check_written(&rt, &got);
+    drop(got);
     result
 }
 
@@ -756,6 +611,9 @@ fn table_files(rt: HostRuntime) -> Result<(), Fail> {
     let alloc = rt.alloc();
     check_cases(&rt, alloc, WRITTEN)?;
     check_cases(&rt, alloc, AROUND)?;
-    check_cases_with(&rt, alloc, ONE_SENTENCE_FILE, TAKEN)?;
-    check_cases_with(&rt, alloc, ONE_SENTENCE_FILE, REFUSED)
+    check_cases_with(&rt, alloc, ONE_SENTENCE_FILE, REFUSED)?;
+    let both = format!(in alloc; "{ONE_SENTENCE_FILE}~\nt\n{ONE_SENTENCE_TABLE}")?;
+    let result = check_cases_with(&rt, alloc, &both, TAKEN);
+    drop(both);
+    result
 }

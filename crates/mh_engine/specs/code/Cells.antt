@@ -1,12 +1,9 @@
 -- What the cells of a stack say.
 use Rattle.std.specs.Prelude.{ℕ, List, [], ◌∷◌, ◌++◌, length, take, drop, ◌-◌}
 use Rattle.mh_grammar.specs.Trees.{SyntaxTree}
-use Rattle.mh_engine.specs.code.Pairs.{Pairs}
+use Rattle.mh_engine.specs.Positions.{Pairs, bottom}
 use Rattle.mh_engine.specs.declared.stack.Link.{Link}
 use Rattle.mh_engine.specs.declared.stack.Link.TheVariants as link
-
-abbrev pub bottom : ℕ → Pairs
-bottom start = record { states = start ∷ []; trees = [] }
 
 -- one more pair
 abbrev pub pushed : Pairs → ℕ → SyntaxTree → Pairs

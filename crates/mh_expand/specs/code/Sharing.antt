@@ -4,7 +4,7 @@ use Rattle.std.specs.Option.{unwrap_or}
 use Rattle.std.specs.List.{All}
 use Rattle.mh_grammar.specs.Numbering.{AreDistinct}
 use Rattle.mh_rules.specs.declared.joined.Head.TheVariants.{Token}
-use Rattle.mh_rules.specs.declared.applications.Application.{Application}
+use Rattle.mh_expand.specs.declared.applications.Application.{Application}
 use Rattle.mh_expand.specs.Terms.{Term, Atom, apply_all}
 
 -- the term of a number; a number past the end has none, and is never asked for

@@ -14,7 +14,7 @@ use Rattle.mh_inline_unfold.specs.declared.sizes.Size.{Size}
 use Rattle.mh_inline_unfold.specs.Instances.{IsAlternative}
 use Rattle.mh_rules.specs.Ready.{IsPartBelow}
 use Rattle.mh_inline_unfold.specs.Unfoldings.{own, Unfolds}
-use Rattle.mh_inline.specs.Known.{AreKnown}
+use Rattle.mh_inline.specs.code.Known.{AreKnown}
 use Rattle.mh_inline.specs.Inlined.{level_of, production_of, AreProductions}
 use Rattle.mh_inline.specs.code.Keeping.{symbol_by}
 

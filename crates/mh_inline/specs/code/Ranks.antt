@@ -2,7 +2,7 @@
 use Rattle.std.specs.Prelude.{◌<◌, ◌≤◌, ℕ, List, slice_index_or}
 use Rattle.mh_rules.specs.declared.instances.Instance.{Instance}
 use Rattle.mh_inline_unfold.specs.Instances.{Inlines}
-use Rattle.mh_inline_unfold.specs.MadeOf.{IsMadeOf}
+use Rattle.mh_inline_unfold.specs.code.MadeOf.{IsMadeOf}
 
 -- what an inline instance is made of has no higher rank
 pub record IsRanked (is : List Instance) (ranks : List ℕ) (n : ℕ) : Type 0 where

@@ -7,10 +7,10 @@ use Rattle.mh_grammar.specs.declared.types.Symbol.TheVariants.{T, N}
 use Rattle.mh_grammar.specs.Plain.{PlainGrammar, IsSymbolBelow}
 use Rattle.mh_items_kernels.specs.Shapes.{KernelItem}
 use Rattle.mh_items.specs.declared.rows.Rows.{Rows}
-use Rattle.mh_items_kernels.specs.Collection.{IsMove}
-use Rattle.mh_items.specs.Moves.{Move}
+use Rattle.mh_items_kernels.specs.code.Moving.{IsMove}
+use Rattle.mh_items.specs.code.Moves.{Move}
 
--- where a symbol's row stands, and the symbol of a row
+-- the place of a symbol's row, and the symbol of a row
 abbrev pub place_of : ℕ → Symbol → ℕ
 place_of tokens (T a) = a
 place_of tokens (N n) = tokens + n

@@ -24,23 +24,12 @@ use Rattle.mh_reader_parser.specs.declared.places.Refusal.TheVariants.{Unexpecte
 use Rattle.mh_reader_parser.specs.Signs.{Read, is_capital}
 use Rattle.mh_rules.specs.Modules.{applied, alternative, no_module}
 use Rattle.mh_reader_parser.specs.Spelling.{ref_by, suffix_of, with_prec}
-use Rattle.mh_rules.specs.declared.tokens.Definition.{Definition}
-use Rattle.mh_rules.specs.declared.tokens.Definition.TheVariants as definitions
-pub use Rattle.mh_rules.specs.Tokens.{token_of}
 
 abbrev pub at : Module → Place → Reader
 at m p = record { made = m; place = p }
 
 abbrev pub goes : Module → Place → Option Reader
 goes m p = Some (at m p)
-
-abbrev pub onward : Module → Option Place → Option Reader
-onward m None = None
-onward m (Some p) = goes m p
-
-abbrev pub is_type : Sign → Bool
-is_type signs.TypeText = true
-is_type _ = false
 
 -- DECLARATIONS
 
@@ -116,9 +105,8 @@ at_parameter m _ = None
 abbrev pub with_token : Module → TokenDecl → Module
 with_token m t = record m { tokens = m.tokens ++ t ∷ [] }
 
-abbrev pub alias_by : Sign → List ℕ → Option (List ℕ)
-alias_by signs.Quoted text = Some text
-alias_by _ text = None
+abbrev pub token_of : List ℕ → Option (List ℕ) → Option ℕ → TokenDecl
+token_of name alias cost = record { name = name; alias = alias; cost = cost }
 
 abbrev pub at_token : Module → List ℕ → Option ℕ → Sign → List ℕ → Option Reader
 at_token m name c signs.Quoted text = goes m (places.TokenAliased (token_of name (Some text) c))
@@ -126,11 +114,6 @@ at_token m name c g text = at_items (with_token m (token_of name None c)) lists.
 
 abbrev pub at_aliased : Module → TokenDecl → Sign → List ℕ → Option Reader
 at_aliased m t g text = at_items (with_token m t) lists.Tokens g text
-
--- behind the lexeme that follows a token's name
-abbrev pub behind_name : Module → Definition → Sign → List ℕ → Option Reader
-behind_name m (definitions.Aliased t) g text = goes m (places.TokenAliased t)
-behind_name m (definitions.Whole t) g text = at_aliased m t g text
 
 -- RULES
 

@@ -1,11 +1,11 @@
 -- What the code keeps of a state's cells.
-use Rattle.std.specs.Prelude.{◌≡◌, ◌<◌, ◌≤◌, ◌⊎◌, ℕ, false, not, ◌||◌, ◌==◌, nat_lt, if◌then◌else◌, List, Option, Some, None, length, slice_index_or, MatchBool}
+use Rattle.std.specs.Prelude.{◌≡◌, ◌<◌, ◌≤◌, ◌⊎◌, ℕ, Bool, true, false, not, ◌||◌, ◌==◌, nat_lt, if◌then◌else◌, List, Option, Some, None, length, slice_index_or, MatchBool}
 use Rattle.std.specs.List.{All, Contains}
 use Rattle.mh_grammar.specs.declared.types.Grammar.{Grammar}
 use Rattle.mh_grammar.specs.declared.types.Look.{Look}
 use Rattle.mh_grammar.specs.declared.types.Look.TheVariants.{Token}
 use Rattle.mh_tables_core.specs.declared.parts.Action.{Action}
-use Rattle.mh_tables_core.specs.declared.parts.Action.TheVariants.{Reduce, Refuse}
+use Rattle.mh_tables_core.specs.declared.parts.Action.TheVariants.{Shift, Reduce, Refuse}
 use Rattle.mh_grammar.specs.declared.edges.Edge.{Edge}
 use Rattle.mh_items_kernels.specs.Shapes.{KernelItem}
 use Rattle.mh_items_kernels.specs.Kernels.{Holds}
@@ -22,6 +22,12 @@ use Rattle.mh_resolve_cells.specs.code.Tallies.{empty_tally, cell_from, IsDecide
 -- the state of a listed closure
 abbrev pub listed : Grammar → List KernelItem → List Edge → State
 listed g items edges = record { grammar = g; items = Holds (record { items = items }); edges = edges }
+
+-- the action refuses the token
+abbrev pub refuses : Action → Bool
+refuses Refuse = true
+refuses (Shift j) = false
+refuses (Reduce p) = false
 
 abbrev pub no_cell : Cell
 no_cell = record { action = Refuse; raw = false; kind = None }

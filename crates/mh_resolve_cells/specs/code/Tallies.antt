@@ -4,7 +4,6 @@ use Rattle.mh_tables_core.specs.declared.parts.Action.{Action}
 use Rattle.mh_tables_core.specs.declared.parts.Action.TheVariants.{Shift, Reduce, Refuse}
 use Rattle.mh_resolve_cells.specs.declared.levels.Comparison.{Comparison}
 use Rattle.mh_resolve_cells.specs.declared.levels.Comparison.TheVariants.{Reduces, Shifts, Neither, Unknown}
-pub use Rattle.mh_resolve_cells.specs.Lowest.{lower}
 use Rattle.mh_resolve_cells.specs.declared.kinds.ConflictKind.{ConflictKind}
 use Rattle.mh_resolve_cells.specs.declared.kinds.ConflictKind.TheVariants.{Solved, Unsolved, Stream}
 use Rattle.mh_resolve_cells.specs.declared.cells.Cell.{Cell}
@@ -13,6 +12,11 @@ use Rattle.mh_resolve_cells.specs.Cells.{IsForShift, Stays, Takes, IsConflict, I
 
 abbrev pub empty_tally : Tally
 empty_tally = record { lowest = None; some = false; two = false; shifts = true; unknown = false }
+
+-- the lowest production, with one more
+abbrev pub lower : Option ℕ → ℕ → ℕ
+lower None p = p
+lower (Some q) p = if nat_lt p q then p else q
 
 abbrev pub is_other : Option ℕ → ℕ → Bool
 is_other None p = false

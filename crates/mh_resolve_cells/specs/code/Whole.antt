@@ -1,6 +1,5 @@
 -- What the code gives of a whole state.
-use Rattle.std.specs.Prelude.{◌≡◌, ◌<◌, ◌↔◌, ℕ, Bool, nat_lt, if◌then◌else◌, List, Option, Some, None, length, MatchOption, IsTrue}
-use Rattle.mh_grammar.specs.declared.types.Grammar.{Grammar}
+use Rattle.std.specs.Prelude.{◌≡◌, ◌<◌, ◌↔◌, ℕ, Bool, true, false, nat_lt, if◌then◌else◌, List, Option, Some, None, length, MatchOption, IsTrue}
 use Rattle.mh_grammar.specs.declared.types.Look.{Look}
 use Rattle.mh_grammar.specs.declared.types.Look.TheVariants.{End}
 use Rattle.mh_tables_core.specs.declared.parts.Action.{Action}
@@ -8,20 +7,17 @@ use Rattle.mh_tables_core.specs.declared.parts.Action.TheVariants.{Reduce, Refus
 use Rattle.mh_tables_core.specs.declared.parts.Fallback.{Fallback}
 use Rattle.mh_tables_core.specs.declared.parts.Fallback.TheVariants as fallbacks
 use Rattle.mh_grammar.specs.declared.edges.Edge.{Edge}
-use Rattle.mh_items_kernels.specs.Shapes.{Kernel}
-use Rattle.mh_items_kernels.specs.Kernels.{Holds}
-use Rattle.mh_grammar.specs.ItemSets.{Close}
-use Rattle.mh_grammar.specs.Plain.{plain_of, IsLookBelow}
+use Rattle.mh_grammar.specs.Plain.{IsLookBelow}
 use Rattle.mh_grammar.specs.Edges.{find_edge}
 use Rattle.mh_grammar.specs.declared.types.Symbol.TheVariants.{T}
 use Rattle.mh_resolve_cells.specs.declared.cells.Cell.{Cell}
-pub use Rattle.mh_resolve_cells.specs.code.Fitting.{kept_of}
 use Rattle.mh_resolve_cells.specs.States.{State, Raw, IsStreamConflict, IsForErrors}
 use Rattle.mh_resolve_cells.specs.code.Rows.{AreCells, IsDecidedOn}
 
--- the state of a kernel
-abbrev pub closed_state : Grammar → Kernel → List Edge → State
-closed_state g kernel edges = record { grammar = g; items = Close (plain_of g) (Holds kernel); edges = edges }
+-- the action at the end of the stream is dropped where it conflicts
+abbrev pub kept_of : Bool → Action → Action
+kept_of true last = Refuse
+kept_of false last = last
 
 -- the reduction that fills cells without raw action, where there is no default
 abbrev pub IsFiller : State → Option ℕ → Option ℕ → Type 0

@@ -1,7 +1,7 @@
 -- The form of a line as the code finds it.
 use Rattle.std.specs.Prelude.{Bool, true, false, List, [], ◌∷◌, Option, Some, None, Result, Ok, Err, ◌≡◌, ⊤}
 use Rattle.std.specs.Borrow.{Bor}
-use Rattle.mh_lex.specs.Words.{is_word}
+use Rattle.mh_lex_bytes.specs.Words.{is_word}
 use Rattle.mh_msgfile.specs.Sentences.{pieces}
 use Rattle.mh_grammar.specs.Text.{Text}
 use Rattle.mh_session_branches.specs.Lines.{Form, BeginOnly, BeginAt, OfferTo, ResumeOf, ForkTo, ShowOf, TreeOf, ForgetOf, Said, Asks, NamesNoStart, LacksStart, NamesNoToken}

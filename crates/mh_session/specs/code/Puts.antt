@@ -4,8 +4,8 @@ use Rattle.std.specs.Map.{update}
 use Rattle.mh_tables_core.specs.Table.{TableData}
 use Rattle.mh_engine.specs.Positions.{Position}
 use Rattle.mh_grammar.specs.Text.{Text}
-use Rattle.mh_session_branches.specs.Renamed.{same, at_name}
-use Rattle.mh_session.specs.code.Moments.{Moment}
+use Rattle.mh_session_branches.specs.Names.{same, at_name}
+use Rattle.mh_session.specs.Moments.{Moment}
 
 -- all positions are of one table
 abbrev pub AreOf : TableData → List (Text × Position) → Type 0

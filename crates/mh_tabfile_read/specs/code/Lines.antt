@@ -1,5 +1,5 @@
--- Bytes as lines, and what reading them line by line tells.
-use Rattle.std.specs.Prelude.{◌≡◌, ◌+◌, ◌==◌, ℕ, Bool, true, false, if◌then◌else◌, List, [], ◌∷◌, ◌++◌, map, length, Option, Some, None, Result, Ok, Err, codes}
+-- Bytes as lines, and what reading them line by line gives.
+use Rattle.std.specs.Prelude.{◌≡◌, ◌+◌, ◌==◌, ℕ, Bool, true, false, not, ◌&&◌, if◌then◌else◌, List, [], ◌∷◌, ◌++◌, map, length, Option, Some, None, Result, Ok, Err, codes}
 use Rattle.std.specs.List.{slice_split}
 use Rattle.mh_resolve_cells.specs.declared.kinds.Mode.{Mode}
 use Rattle.mh_tabfile_form.specs.declared.types.RawTable.{RawTable}
@@ -7,8 +7,8 @@ use Rattle.mh_tabfile_read.specs.declared.places.Reader.{Reader}
 use Rattle.mh_tabfile_read.specs.declared.reading.TabFault.{TabFault}
 use Rattle.mh_tabfile_read.specs.declared.reading.TabFault.TheVariants as faults
 use Rattle.mh_tabfile_form.specs.Form.{Line, Begins}
-pub use Rattle.mh_tabfile_form.specs.Versions.{is_other_number}
-use Rattle.mh_tabfile_read.specs.code.Words.{same_word, number_of, mode_of}
+use Rattle.mh_tabfile_read.specs.code.Numbers.{number_of}
+use Rattle.mh_tabfile_read.specs.code.Words.{same_word, mode_of}
 use Rattle.mh_tabfile_read.specs.code.Machine.{run, start, finish}
 
 abbrev pub words_of : List ℕ → Line
@@ -21,8 +21,18 @@ abbrev pub is_mode : Option Mode → Bool
 is_mode None = false
 is_mode (Some m) = true
 
+-- a number is read that is neither 1 nor 2
+abbrev pub is_other_number : Option ℕ → Bool
+is_other_number None = false
+is_other_number (Some n) = not (n == 1) && not (n == 2)
+
 abbrev pub are_other : List ℕ → List ℕ → List ℕ → Bool
 are_other w v m = if same_word w (codes "menhir-tables") then (if is_other_number (number_of v) then is_mode (mode_of m) else false) else false
+
+-- the first line, of the parts that end with LFs and of what is after the last LF
+abbrev pub first_line : List (List ℕ) → List ℕ
+first_line [] = []
+first_line (part ∷ parts) = part
 
 unfoldable pub is_other_head : Line → Bool
 is_other_head [] = false

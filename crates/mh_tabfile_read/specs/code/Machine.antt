@@ -3,7 +3,8 @@ use Rattle.std.specs.Prelude.{◌≡◌, ◌+◌, ◌-◌, ℕ, Bool, ◌==◌, 
 use Rattle.mh_tabfile_form.specs.Form.{Line}
 use Rattle.mh_tabfile_read.specs.declared.advance.Refusal.{Refusal}
 use Rattle.mh_tabfile_read.specs.declared.advance.Refusal.TheVariants.{Unexpected, Memory}
-use Rattle.mh_tabfile_read.specs.code.Words.{◌>>=◌, kind_of, count_of, names_of, numbers_of, number_of, mode_of, production_of, item_of, edge_of, cell_of, fallback_of}
+use Rattle.mh_tabfile_read.specs.code.Numbers.{number_of}
+use Rattle.mh_tabfile_read.specs.code.Words.{◌>>=◌, kind_of, count_of, names_of, numbers_of, mode_of, production_of, item_of, edge_of, cell_of, fallback_of}
 use Rattle.mh_resolve_cells.specs.declared.kinds.Mode.TheVariants.{Merged}
 use Rattle.mh_tables_core.specs.declared.parts.Fallback.{Fallback}
 use Rattle.mh_tabfile_form.specs.declared.types.RawProduction.{RawProduction}

@@ -2,8 +2,7 @@
 use Rattle.std.specs.Prelude.{◌≡◌, ℕ, Bool, true, false, ◌&&◌, nat_eq, if◌then◌else◌, List, [], ◌∷◌, ◌++◌, Option, Some, None, codes, Result, Ok, Err}
 use Rattle.std.specs.List.{list_all}
 use Rattle.std.specs.Cmp.Lexicographic.{pointwise}
-pub use Rattle.mh_tabfile_form.specs.Numbers.{is_digit, value_from, has_zero_first, small_value}
-unfoldable pub use Rattle.mh_tabfile_form.specs.Numbers.{number_of}
+use Rattle.mh_tabfile_read.specs.code.Numbers.{number_of}
 use Rattle.mh_tabfile_form.specs.Form.{Line}
 use Rattle.mh_tabfile_read.specs.declared.advance.Refusal.{Refusal}
 use Rattle.mh_tabfile_read.specs.declared.advance.Refusal.TheVariants.{Unexpected, Memory}
@@ -63,7 +62,7 @@ count_of [] = None
 count_of (n ∷ []) = number_of n
 count_of (n ∷ m ∷ ws) = None
 
--- The words behind the first one.
+-- The words after the first one.
 
 unfoldable pub production_of : Line → Option RawProduction
 production_of [] = None

@@ -10,8 +10,7 @@ use Rattle.mh_tables_core.specs.Halting.{IsLook, Clear, look_list}
 use Rattle.mh_tables.specs.declared.passages.Passage.{Passage}
 use Rattle.mh_tables.specs.declared.passages.Course.{Course}
 use Rattle.mh_tables.specs.declared.passages.Course.TheVariants as courses
-use Rattle.mh_run.specs.declared.passing.TheConstants.{MAX_BOUND}
-use Rattle.mh_tables.specs.declared.passages.TheConstants.{MAX_TRIED}
+use Rattle.mh_tables.specs.declared.passages.TheConstants.{MAX_BOUND, MAX_TRIED}
 use Rattle.mh_tables.specs.code.Relative.{StopsWithin}
 
 -- symbols have places: tokens come first
@@ -24,11 +23,12 @@ symbol_count t = t.grammar.tokens + t.grammar.nonterminals
 
 -- ---- what the run of a state alone comes to
 
--- it makes so many reductions, which are few, and they leave this stack
+-- it makes `count` reductions, which are few, and they leave this stack
 abbrev pub StopsAt : TableData → ℕ → Option ℕ → List ℕ → ℕ → Type 0
 StopsAt t s look stack count = StopsWithin t None s look MAX_TRIED stack count
 
--- how the relative runs go whose upper state's run leaves a stack: what is reduced next takes off a state more, or just the stack
+-- how the relative runs go whose upper state's run leaves a stack: what is reduced next takes off a state more, or just
+-- the stack
 abbrev pub GoesSo : TableData → List ℕ → List ℕ → Course → Type 0
 GoesSo t left stack courses.Ends = (p : ℕ) → move_of t (top_of stack) left ≡ Reduces p → length stack < length (rhs_of t.grammar p)
 GoesSo t left stack (courses.Passes A) = (p : ℕ) × (move_of t (top_of stack) left ≡ Reduces p) × (length (rhs_of t.grammar p) ≡ length stack) × (lhs_of t.grammar p ≡ A)
@@ -60,7 +60,7 @@ KeepsAll old new = (p : Passage) → Contains old p → Contains new p
 abbrev pub HasPassage : List Passage → ℕ → ℕ → ℕ → Type 0
 HasPassage ps from to count = Contains ps (record { from = from; to = to; count = count })
 
--- a passage says that nothing is told of the runs above an edge on a symbol
+-- a passage says that nothing is known of the runs above an edge on a symbol
 abbrev pub IsUnclear : List Passage → ℕ → Type 0
 IsUnclear ps from = (p : Passage) × Contains ps p × (p.from ≡ from) × (MAX_BOUND ≤ p.count)
 
@@ -101,10 +101,10 @@ pub record AreAll (t : TableData) (ps : List Passage) : Type 0 where
 
 -- ---- bounds
 
--- a bound that tells something is high enough for a passage
+-- a bound of at most `MAX_BOUND` is high enough for a passage
 abbrev pub IsLifted : List ℕ → Passage → Type 0
 IsLifted bounds p = slice_index bounds p.from ≤ MAX_BOUND → p.count + 1 + slice_index bounds p.to ≤ slice_index bounds p.from
 
--- no run above an edge loops, where the bound of the edge's symbol tells something
+-- no run above an edge loops, where the bound of the edge's symbol is at most `MAX_BOUND`
 abbrev pub AreSettled : TableData → List ℕ → Type 0
 AreSettled t bounds = (r u : ℕ) (x : Symbol) → edge_of t r x ≡ Some u → slice_index bounds (symbol_place t x) ≤ MAX_BOUND → Clear t (Some r) u

@@ -8,7 +8,7 @@ pub collect-requires : goal.collect-requires
 collect-requires g c = (search rules, (c.requires.few, (c.requires.width, (c.requires.range, (c.in_ok-kernels.ensures.ok, c.new-edges.ensures.items)))))
 
 pub returns-in_ok-into_list-in-Ok-clause-ok : goal.returns-in_ok-into_list-in-Ok-clause-ok
-returns-in_ok-into_list-in-Ok-clause-ok g c = rw (c.automaton_of.ensures, c.in_ok-into_list-in-Ok.ensures) c.in-Ok.ensures.ok
+returns-in_ok-into_list-in-Ok-clause-ok g c = rw (c.from_vec.ensures, c.from_vec-in-Ok.ensures, c.in_ok-into_list-in-Ok.ensures) c.in-Ok.ensures.ok
 
 pub returns-in_ok-into_list-in-Ok-clause-exact : goal.returns-in_ok-into_list-in-Ok-clause-exact
 returns-in_ok-into_list-in-Ok-clause-exact g c =
@@ -16,4 +16,4 @@ returns-in_ok-into_list-in-Ok-clause-exact g c =
 
 pub returns-in_ok-into_list-in-Ok-clause-automaton : goal.returns-in_ok-into_list-in-Ok-clause-automaton
 returns-in_ok-into_list-in-Ok-clause-automaton g c =
-    rw (c.automaton_of.ensures, c.in_ok-into_list-in-Ok.ensures) (IsAutomaton-canonical (plain_of c.args.grammar.now) (record { kernels = c.collect.new.kernels.set.keys; edges = c.collect.new.edges.items }) c.in-Ok.ensures.ok c.in-Ok.ensures.few)
+    rw (c.from_vec.ensures, c.from_vec-in-Ok.ensures, c.in_ok-into_list-in-Ok.ensures) (IsAutomaton-canonical (plain_of c.args.grammar.now) (record { kernels = c.collect.new.kernels.set.keys; edges = c.collect.new.edges.items }) c.in-Ok.ensures.ok c.in-Ok.ensures.few)

@@ -1,6 +1,6 @@
 use Rattle.std.proofs.Common.{◌≡◌, length, ap, arith, rules}
 use Rattle.mh_grammar.specs.Plain.{plain_of}
-use Rattle.mh_items.specs.Moves.{symbols_of}
+use Rattle.mh_items.specs.code.Moves.{symbols_of}
 use Rattle.mh_canon_states.proofs.Building.{Building-start, Building-step}
 use Rattle.mh_canon_states.proofs.Finished.{IsCanonical-done}
 use Rattle.mh_canon.proofs.collection.collect.Goals as goal

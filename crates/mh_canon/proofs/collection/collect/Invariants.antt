@@ -1,6 +1,6 @@
 use Rattle.std.proofs.Common.{◌≤◌, ◌-◌, length, vec_len}
 use Rattle.mh_grammar.specs.Plain.{plain_of}
-use Rattle.mh_items.specs.Mover.{IsMover}
+use Rattle.mh_items.specs.code.Mover.{IsMover}
 use Rattle.mh_canon_states.specs.declared.limits.TheConstants.{MAX_STATES}
 use Rattle.mh_canon_states.proofs.Building.{Building}
 use Rattle.mh_canon.proofs.collection.collect.Given as goal

@@ -4,7 +4,7 @@ use Rattle.std.proofs.lemmas.List.Elements.{All-get_or}
 use Rattle.std.proofs.lemmas.Option.{slice_get-get_or}
 use Rattle.std.proofs.lemmas.Result.{IfOk-weaker}
 use Rattle.mh_grammar.specs.Plain.{plain_of}
-use Rattle.mh_canon_states.specs.Found.{IsState}
+use Rattle.mh_canon_states.specs.code.Found.{IsState}
 use Rattle.mh_canon_states.proofs.States.{IsSource-close}
 use Rattle.mh_canon.proofs.collection.edges_of.Goals as goal
 

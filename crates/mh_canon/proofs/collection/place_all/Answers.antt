@@ -20,8 +20,8 @@ loop-found-preserved g c =
     c.loop-found.yielded c.loop-found.found-iterator c.loop-found.yielded_by c.next.result c.next.new.self c.in-Some.found c.in-Some.is c.next.ensures.steps in
     let placed = c.in-Ok.ensures.ok in
     record {
-      placed = rw c.in_ok-push-in-Ok.ensures.items (placed-more (plain_of c.args.grammar.now) c.args.moves.items c.loop-found.yielded c.args.kernels.now.set.keys c.loop-found.kernels.set.keys c.place.new.kernels.set.keys c.loop-found.row.items c.in-Some.found c.in-Ok.target c.loop-found.invariant.placed turn placed.0);
-      few = Placed-few c.loop-found.kernels.set.keys c.place.new.kernels.set.keys c.in-Some.found.kernel c.in-Ok.target MAX_STATES placed.0 c.loop-found.invariant.few placed.1;
+      placed = rw c.in_ok-push-in-Ok.ensures.items (placed-more (plain_of c.args.grammar.now) c.args.moves.items c.loop-found.yielded c.args.kernels.now.set.keys c.loop-found.kernels.set.keys c.place.new.self.set.keys c.loop-found.row.items c.in-Some.found c.in-Ok.target c.loop-found.invariant.placed turn placed.0);
+      few = Placed-few c.loop-found.kernels.set.keys c.place.new.self.set.keys c.in-Some.found.kernel c.in-Ok.target MAX_STATES placed.0 c.loop-found.invariant.few placed.1;
     }
 
 pub returns-in-Err-clause-over : goal.returns-in-Err-clause-over
@@ -30,7 +30,7 @@ returns-in-Err-clause-over g c same closed source are =
     c.loop-found.yielded c.loop-found.found-iterator c.loop-found.yielded_by c.next.result c.next.new.self c.in-Some.found c.in-Some.is c.next.ensures.steps in
     let fault : c.in-Err.fault ≡ TooManyStates = cc in
     let placed = c.in-Err.ensures.over (ap Err fault) in
-    placed-over (plain_of c.args.grammar.now) c.args.moves.items c.loop-found.yielded c.args.kernels.now.set.keys c.loop-found.kernels.set.keys c.place.new.kernels.set.keys c.loop-found.row.items c.in-Some.found placed.0 c.loop-found.invariant.placed turn placed.1 MAX_STATES c.requires.states placed.2 closed source are
+    placed-over (plain_of c.args.grammar.now) c.args.moves.items c.loop-found.yielded c.args.kernels.now.set.keys c.loop-found.kernels.set.keys c.place.new.self.set.keys c.loop-found.row.items c.in-Some.found placed.0 c.loop-found.invariant.placed turn placed.1 MAX_STATES c.requires.states placed.2 closed source are
 
 pub returns-clause-ok : goal.returns-clause-ok
 returns-clause-ok g c =

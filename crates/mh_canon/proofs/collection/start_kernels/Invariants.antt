@@ -1,4 +1,4 @@
-use Rattle.mh_canon_states.specs.Found.{AreStarts}
+use Rattle.mh_items_kernels.specs.Collection.{AreStarts}
 use Rattle.mh_canon.proofs.collection.start_kernels.Given as goal
 
 abbrev pub invariant-loop-start : goal.invariant-loop-start

@@ -1,6 +1,7 @@
 use Rattle.std.proofs.Common.{◌∙◌, ℕ, List, Option, map, ap, sym, subst, Ok, Err}
 use Rattle.mh_check.specs.Checks.{FirstFault}
-use Rattle.mh_check.specs.Compiling.{IsCompiled, PlacesAll, Tells}
+use Rattle.mh_check.specs.Compiling.{IsCompiled, Tells}
+use Rattle.mh_check.specs.code.Places.{PlacesAll}
 use Rattle.mh_msgfile.specs.declared.messages.MsgSentence.{MsgSentence}
 use Rattle.mh_msgfile.specs.declared.messages.Entry.{Entry}
 use Rattle.mh_check.proofs.Files.{is_compiled, sentences_are}

@@ -1,6 +1,7 @@
 use Rattle.std.proofs.Common.{◌+◌, ◌++◌, ◌∷◌, [], List, take, drop, subst}
 use Rattle.mh_check.specs.Checks.{FirstFault}
-use Rattle.mh_check.specs.Compiling.{Item, item, items_of, sentences_in, Tells}
+use Rattle.mh_check.specs.Compiling.{Tells}
+use Rattle.mh_check.specs.code.Places.{Item, item, items_of, sentences_in}
 use Rattle.mh_check.proofs.Placing.{fault_more}
 use Rattle.mh_check.proofs.Files.{sentence_split, none_placed, one_placed, all_placed}
 use Rattle.mh_check.proofs.places.place_entry.Goals as goal

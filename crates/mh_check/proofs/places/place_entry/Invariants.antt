@@ -1,5 +1,5 @@
 use Rattle.std.proofs.Common.{◌≡◌, ◌++◌, List, length, take}
-use Rattle.mh_check.specs.Compiling.{Item, items_of, Placed}
+use Rattle.mh_check.specs.code.Places.{Item, items_of, Placed}
 use Rattle.mh_check.proofs.places.place_entry.Given as goal
 
 abbrev pub invariant-loop-sentence : goal.invariant-loop-sentence

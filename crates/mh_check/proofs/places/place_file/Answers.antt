@@ -1,6 +1,7 @@
 use Rattle.std.proofs.Common.{◌+◌, ◌++◌, List, take, take_all, drop, subst, sym}
 use Rattle.mh_check.specs.Checks.{FirstFault}
-use Rattle.mh_check.specs.Compiling.{Item, items_of, items_from, sentences_in, Tells, Placed}
+use Rattle.mh_check.specs.Compiling.{Tells}
+use Rattle.mh_check.specs.code.Places.{Item, items_of, items_from, sentences_in, Placed}
 use Rattle.mh_msgfile.specs.declared.messages.Entry.{Entry}
 use Rattle.mh_msgfile.specs.declared.messages.MsgSentence.{MsgSentence}
 use Rattle.mh_check.proofs.Placing.{fault_more}

@@ -1,5 +1,5 @@
 use Rattle.std.proofs.Common.{◌≡◌, length, take}
-use Rattle.mh_check.specs.Compiling.{items_from, Placed}
+use Rattle.mh_check.specs.code.Places.{items_from, Placed}
 use Rattle.mh_check.proofs.places.place_file.Given as goal
 
 abbrev pub invariant-loop-number : goal.invariant-loop-number

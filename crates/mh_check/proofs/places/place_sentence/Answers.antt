@@ -1,11 +1,8 @@
-use Rattle.std.proofs.Common.{◌<◌, ◌++◌, ◌∷◌, [], length, subst, sym, arith}
+use Rattle.std.proofs.Common.{◌<◌, ◌++◌, ◌∷◌, [], length, Some, None, arith}
 use Rattle.mh_check.specs.Checks.{Breaks, FirstFault}
-use Rattle.mh_check.specs.Compiling.{item, place_of, sentences_in, Placed}
-use Rattle.mh_check.proofs.Placing.{shares, placed_more, breaks, told_more, was_free, was_taken}
+use Rattle.mh_check.specs.code.Places.{item, place_of, sentences_in, Placed}
+use Rattle.mh_check.proofs.Placing.{shares, placed_more, breaks, told_more, at_place}
 use Rattle.mh_check.proofs.places.place_sentence.Goals as goal
-
-pub put_once-requires : goal.put_once-requires
-put_once-requires c = omega (arith, c.in-Ok.ensures.known, c.requires.size)
 
 pub returns-in-Err-clause-places : goal.returns-in-Err-clause-places
 returns-in-Err-clause-places c = λ done placed.
@@ -19,11 +16,10 @@ returns-in-Some-clause-places c = λ done placed.
     let here = item c.args.entry c.args.sentence.now in
     let within : c.in-Ok.state < length c.args.places.now.items = omega (arith, c.in-Ok.ensures.known, c.requires.size) in
     shares c.args.table.now done here c.in-Ok.state c.args.places.now.items placed c.in-Ok.ensures.fails within c.in-Some.earlier
-    (was_taken c.args.places.now.items c.put_once.new.places.items c.in-Ok.state (place_of here) c.in-Some.earlier c.put_once.result c.put_once.ensures.places c.in-Some.is)
+    (at_place c.args.places.now.items c.in-Ok.state (Some c.in-Some.earlier) c.index.result.now c.index.ensures within c.in-Some.is)
 
 pub returns-in-None-clause-places : goal.returns-in-None-clause-places
 returns-in-None-clause-places c = λ done placed.
     let here = item c.args.entry c.args.sentence.now in
     let within : c.in-Ok.state < length c.args.places.now.items = omega (arith, c.in-Ok.ensures.known, c.requires.size) in
-    let free = was_free c.args.places.now.items c.put_once.new.places.items c.in-Ok.state (place_of here) c.put_once.result c.put_once.ensures.places c.in-None.is in
-    subst (Placed c.args.table.now (done ++ here ∷ [])) (sym free.1) (placed_more c.args.table.now done here c.in-Ok.state c.args.places.now.items placed c.in-Ok.ensures.fails within free.0)
+    placed_more c.args.table.now done here c.in-Ok.state c.args.places.now.items placed c.in-Ok.ensures.fails within (at_place c.args.places.now.items c.in-Ok.state None c.index.result.now c.index.ensures within c.in-None.is)

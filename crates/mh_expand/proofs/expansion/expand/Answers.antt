@@ -1,9 +1,9 @@
 use Rattle.std.proofs.lemmas.Result.{IfOk-weaker}
 use Rattle.mh_rules.specs.Ready.{IsExpandedReady}
-use Rattle.mh_rules.specs.declared.fault.ExpandFault.{ExpandFault}
+use Rattle.mh_expand.specs.declared.fault.ExpandFault.{ExpandFault}
 use Rattle.mh_expand.specs.Expansion.{IsExpanded, IsFirstFault}
 use Rattle.mh_expand.specs.Sentences.{HasSameSentences}
-use Rattle.mh_expand.specs.Whole.{IsExpandedWhole}
+use Rattle.mh_expand.specs.code.Whole.{IsExpandedWhole}
 use Rattle.mh_expand.proofs.expansion.expand.Goals as goal
 
 pub returns-clause-ok : goal.returns-clause-ok

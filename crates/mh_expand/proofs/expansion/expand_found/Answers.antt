@@ -3,7 +3,7 @@ use Rattle.indexmap.specs.IndexMap.{get}
 use Rattle.mh_grammar.specs.Numbering.{Names}
 use Rattle.mh_rules.specs.declared.instances.Expanded.{Expanded}
 use Rattle.mh_expand.specs.Expansion.{IsExpanded, start_terms}
-use Rattle.mh_expand.specs.Whole.{IsExpandedWhole}
+use Rattle.mh_expand.specs.code.Whole.{IsExpandedWhole}
 use Rattle.mh_expand.specs.code.Sharing.{terms_of, terms_at}
 use Rattle.mh_expand.specs.code.Searching.{IsSearch, WentStarts}
 use Rattle.mh_expand.proofs.Shared.{terms_of-distinct}

@@ -1,7 +1,7 @@
 use Rattle.std.proofs.Common.{map, subst, get_or, ◌∙◌, arith}
 use Rattle.std.proofs.lemmas.List.{take_all}
 use Rattle.mh_rules.specs.declared.joined.Head.TheVariants.{Rule}
-use Rattle.mh_rules.specs.declared.applications.Application.{Application}
+use Rattle.mh_expand.specs.declared.applications.Application.{Application}
 use Rattle.mh_expand.specs.Expansion.{Fails, Causes, start_term}
 use Rattle.mh_expand.specs.code.Sharing.{terms_of}
 use Rattle.mh_expand.proofs.Steps.{start_below, start_head, starts_none, starts_more, starts_fail}

@@ -1,7 +1,7 @@
 use Rattle.std.proofs.Common.{◌≡◌, ◌<◌, length, arith, inl, inr}
 use Rattle.std.proofs.lemmas.List.{length_push}
 use Rattle.mh_expand.specs.code.Sharing.{terms_of, term_at}
-use Rattle.mh_rules.specs.declared.fault.ExpandFault.TheVariants.{Expansion}
+use Rattle.mh_expand.specs.declared.fault.ExpandFault.TheVariants.{Expansion}
 use Rattle.mh_expand.specs.Expansion.{IsFault}
 use Rattle.mh_expand.proofs.Shared.{get_term, terms_of-distinct}
 use Rattle.mh_expand.proofs.Found.{Finds-old, Finds-new, IsFault-new, Causes-from}

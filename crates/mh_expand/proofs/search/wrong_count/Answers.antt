@@ -2,8 +2,5 @@ use Rattle.mh_expand.proofs.Found.{wrong_count}
 use Rattle.mh_expand.specs.code.Sharing.{terms_of, term_at}
 use Rattle.mh_expand.proofs.search.wrong_count.Goals as goal
 
-pub returns-in-Ok : goal.returns-in-Ok
-returns-in-Ok c = λ before. wrong_count c.args.joined.now before (term_at (terms_of c.args.terms.now.nodes.keys) c.args.number) 16777216 c.in-Ok.name c.count_fault.result c.requires.count c.in-Ok.ensures c.count_fault.ensures
-
-pub returns-in-Err : goal.returns-in-Err
-returns-in-Err c = λ before. tt
+pub returns-in-Some : goal.returns-in-Some
+returns-in-Some c = λ before. wrong_count c.args.joined.now before (term_at (terms_of c.args.terms.now.nodes.keys) c.args.number) 16777216 c.in-Ok.name c.in-Some.instance c.requires.count c.in-Ok.ensures c.in-Some.is

@@ -1,4 +1,4 @@
-use Rattle.mh_facts.specs.Left.{IsByLeftTo}
+use Rattle.mh_facts.specs.code.Left.{IsByLeftTo}
 use Rattle.mh_facts.proofs.left.by_left_side.Given as goal
 
 abbrev pub invariant-loop-production : goal.invariant-loop-production

@@ -1,5 +1,5 @@
 use Rattle.std.proofs.Common.{take}
-use Rattle.mh_inline_unfold.specs.MadeOf.{IsIn}
+use Rattle.mh_inline_unfold.specs.code.MadeOf.{IsIn}
 use Rattle.mh_inline.specs.code.Found.{Adds}
 use Rattle.mh_inline.proofs.cycles.add_alternatives.Given as goal
 

@@ -1,6 +1,6 @@
 use Rattle.std.proofs.Common.{length, refl}
 use Rattle.std.proofs.lemmas.Option.{slice_get_read}
-use Rattle.mh_inline.specs.LastUse.{IsLastUse}
+use Rattle.mh_inline.specs.code.LastUse.{IsLastUse}
 use Rattle.mh_inline.proofs.Moved.{one_of, larger_one}
 use Rattle.mh_inline.proofs.moving.last_use.Goals as goal
 

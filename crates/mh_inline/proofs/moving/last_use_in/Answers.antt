@@ -1,7 +1,7 @@
 use Rattle.std.proofs.Common.{get_or}
 use Rattle.std.proofs.lemmas.Option.{slice_get-get_or}
 use Rattle.mh_rules.specs.declared.instances.Part.TheVariants.{Token}
-use Rattle.mh_inline.specs.LastUse.{IsLastIn}
+use Rattle.mh_inline.specs.code.LastUse.{IsLastIn}
 use Rattle.mh_inline.proofs.Moved.{one_in, larger_one}
 use Rattle.mh_inline.proofs.moving.last_use_in.Goals as goal
 

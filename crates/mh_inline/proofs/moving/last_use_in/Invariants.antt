@@ -1,5 +1,5 @@
 use Rattle.std.specs.Option.{IfSome}
-use Rattle.mh_inline.specs.LastUse.{IsLastIn}
+use Rattle.mh_inline.specs.code.LastUse.{IsLastIn}
 use Rattle.mh_inline.proofs.moving.last_use_in.Given as goal
 
 abbrev pub invariant-loop-producer : goal.invariant-loop-producer

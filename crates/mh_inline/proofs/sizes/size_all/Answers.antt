@@ -1,5 +1,5 @@
 use Rattle.std.proofs.Common.{ap}
-use Rattle.mh_inline_unfold.specs.Sizes.{unsized_count}
+use Rattle.mh_inline_unfold.specs.code.Sizes.{unsized_count}
 use Rattle.mh_inline.proofs.Ordering.{measure_falls}
 use Rattle.mh_inline.proofs.sizes.size_all.Goals as goal
 

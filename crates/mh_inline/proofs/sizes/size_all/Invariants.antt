@@ -1,5 +1,5 @@
 use Rattle.std.proofs.Common.{◌≡◌, ◌+◌, false, if◌then◌else◌}
-use Rattle.mh_inline_unfold.specs.Sizes.{AreSettled, IsSizing, unsized_count}
+use Rattle.mh_inline_unfold.specs.code.Sizes.{AreSettled, IsSizing, unsized_count}
 use Rattle.mh_inline.proofs.sizes.size_all.Given as goal
 
 abbrev pub invariant-loop-changed : goal.invariant-loop-changed

@@ -1,4 +1,4 @@
-use Rattle.mh_inline_unfold.specs.Sizes.{IsSizing}
+use Rattle.mh_inline_unfold.specs.code.Sizes.{IsSizing}
 use Rattle.mh_inline.proofs.sizes.size_in_order.Given as goal
 
 abbrev pub invariant-loop-number : goal.invariant-loop-number

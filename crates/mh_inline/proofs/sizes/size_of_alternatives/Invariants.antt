@@ -1,5 +1,5 @@
 use Rattle.std.proofs.Common.{take}
-use Rattle.mh_inline_unfold.specs.Sizes.{AreEachSized, IsEachSize}
+use Rattle.mh_inline_unfold.specs.code.Sizes.{AreEachSized, IsEachSize}
 use Rattle.mh_inline.proofs.sizes.size_of_alternatives.Given as goal
 
 abbrev pub invariant-loop-production : goal.invariant-loop-production

@@ -1,5 +1,5 @@
 use Rattle.std.proofs.Common.{take}
-use Rattle.mh_inline_unfold.specs.Sizes.{AreSized, IsSideSize}
+use Rattle.mh_inline_unfold.specs.code.Sizes.{AreSized, IsSideSize}
 use Rattle.mh_inline.proofs.sizes.size_of_side.Given as goal
 
 abbrev pub invariant-loop-part : goal.invariant-loop-part

@@ -1,7 +1,7 @@
 use Rattle.std.proofs.Common.{◌-◌, sym, ap, ◌∙◌, arith, inl, inr, subst}
 use Rattle.std.proofs.lemmas.Bool.{cases_eq, or_parts}
 use Rattle.mh_inline_unfold.specs.declared.sizes.Sizing.{Sizing}
-use Rattle.mh_inline_unfold.specs.Sizes.{IsSettled, unsized_count}
+use Rattle.mh_inline_unfold.specs.code.Sizes.{IsSettled, unsized_count}
 use Rattle.mh_inline.proofs.Ordering.{more_step}
 use Rattle.mh_inline.proofs.sizes.size_once.Goals as goal
 

@@ -1,5 +1,5 @@
 use Rattle.std.proofs.Common.{◌≡◌, ◌<◌, ◌≤◌, ◌+◌, ℕ, true, false, length}
-use Rattle.mh_inline_unfold.specs.Sizes.{IsSettled, IsSizing, unsized_count}
+use Rattle.mh_inline_unfold.specs.code.Sizes.{IsSettled, IsSizing, unsized_count}
 use Rattle.mh_inline.proofs.sizes.size_once.Given as goal
 
 abbrev pub invariant-loop-done : goal.invariant-loop-done

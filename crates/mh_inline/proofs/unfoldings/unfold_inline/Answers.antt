@@ -1,5 +1,5 @@
 use Rattle.std.proofs.Common.{◌∙◌, arith, subst}
-use Rattle.mh_inline.specs.Uses.{AreLast}
+use Rattle.mh_inline.specs.code.Uses.{AreLast}
 use Rattle.mh_inline.proofs.Lasting.{order_within, KnowsNeeded-start, KnowsNeeded-all}
 use Rattle.mh_inline.proofs.unfoldings.unfold_inline.Goals as goal
 

@@ -1,10 +1,9 @@
 use Rattle.std.proofs.Common.{◌≡◌, ◌<◌, Some, length, refl, sym, ◌∙◌, subst}
 use Rattle.std.proofs.lemmas.Bool.{false≢true}
 use Rattle.std.proofs.lemmas.Option.{slice_get_read, get_or_from_slice_get}
-use Rattle.mh_inline_unfold.specs.Sizes.{IsWithin}
-use Rattle.mh_inline_unfold.proofs.Same.{part_same, each_same}
+use Rattle.mh_inline_unfold.specs.code.Sizes.{IsWithin}
+use Rattle.mh_inline_unfold.proofs.Same.{part_same, each_same, some_ready}
 use Rattle.mh_inline_unfold.proofs.Producers.{inline_instance}
-use Rattle.mh_inline_unfold.proofs.Same.{some_ready}
 use Rattle.mh_inline.proofs.Building.{size_small, each_known, each_of_part}
 use Rattle.mh_inline.proofs.Moved.{lacks_same}
 use Rattle.mh_inline.proofs.unfoldings.unfold_one.Goals as goal

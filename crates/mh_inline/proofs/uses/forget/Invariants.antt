@@ -1,4 +1,4 @@
-use Rattle.mh_inline.specs.Uses.{Forgets}
+use Rattle.mh_inline.specs.code.Uses.{Forgets}
 use Rattle.mh_inline.proofs.uses.forget.Given as goal
 
 abbrev pub invariant-loop-number : goal.invariant-loop-number

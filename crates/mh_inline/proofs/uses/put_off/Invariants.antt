@@ -1,6 +1,6 @@
 use Rattle.std.proofs.Common.{take}
 use Rattle.std.specs.List.{Contains}
-use Rattle.mh_inline.specs.Uses.{PutsOff}
+use Rattle.mh_inline.specs.code.Uses.{PutsOff}
 use Rattle.mh_inline.proofs.uses.put_off.Given as goal
 
 abbrev pub invariant-loop-number : goal.invariant-loop-number

@@ -1,6 +1,5 @@
 use Rattle.std.proofs.Common.{take}
-use Rattle.mh_inline_unfold.specs.MadeOf.{IsIn}
-use Rattle.mh_inline_unfold.specs.MadeOf.{Lists}
+use Rattle.mh_inline_unfold.specs.code.MadeOf.{IsIn, Lists}
 use Rattle.mh_inline_unfold.proofs.inlined.list_alternatives.Given as goal
 
 abbrev pub invariant-loop-production : goal.invariant-loop-production

@@ -1,6 +1,5 @@
 use Rattle.std.proofs.Common.{take}
-use Rattle.mh_inline_unfold.specs.MadeOf.{IsAmong}
-use Rattle.mh_inline_unfold.specs.MadeOf.{Lists}
+use Rattle.mh_inline_unfold.specs.code.MadeOf.{IsAmong, Lists}
 use Rattle.mh_inline_unfold.proofs.inlined.list_side.Given as goal
 
 abbrev pub invariant-loop-part : goal.invariant-loop-part

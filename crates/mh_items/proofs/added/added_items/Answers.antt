@@ -2,7 +2,7 @@ use Rattle.std.proofs.Common.{◌≡◌, ◌<◌, ◌≤◌, ◌-◌, [], length
 use Rattle.std.proofs.lemmas.List.{get_or_read}
 use Rattle.mh_grammar.specs.Plain.{plain_of, IsProductionBelow}
 use Rattle.mh_sets.specs.Sets.{IsSet}
-use Rattle.mh_items.specs.Asked.{looks_at}
+use Rattle.mh_items.specs.code.Asked.{looks_at}
 use Rattle.mh_items.proofs.Listing.{AddedSoFar-push, added_of, next_number}
 use Rattle.mh_grammar.proofs.Lists.{all_at}
 use Rattle.mh_items.proofs.added.added_items.Goals as goal
@@ -51,7 +51,7 @@ loop-number-preserved _ c =
     let at = rw c.from.ensures at c.index.ensures in
     let looks : c.copied.result ≡ looks_at s n = c.copied.ensures ∙ get_or_read s.looks.items n c.index.result.now within at [] in
     let set : IsSet _ c.copied.result = rw looks (c.requires.table.sets n [] within) in
-    rw (c.in_ok-push.ensures.items, c.first_item.ensures)
+    rw c.in_ok-push.ensures.items
     (AddedSoFar-push g c.requires.range w.0 w.1 s c.requires.table xs c.loop-number.items.items i (get_or xs i 0) n w.2 (rw c.as_slice-number-items.ensures.value c.in_ok-numbers.ensures.rising) c.loop-number.invariant next.at is.0 is.1
     c.copied.result set looks)
 

@@ -2,8 +2,8 @@ use Rattle.std.proofs.Common.{List, take, sym, subst, ◌∙◌, rules}
 use Rattle.mh_grammar.specs.Plain.{plain_of}
 use Rattle.mh_items_kernels.specs.Shapes.{KernelItem}
 use Rattle.mh_items_kernels.specs.Kernels.{IsKernelItem}
-use Rattle.mh_items.specs.Asked.{Adds}
-use Rattle.mh_items.specs.Wanted.{IsSeedOf}
+use Rattle.mh_items.specs.code.Asked.{Adds}
+use Rattle.mh_items.specs.code.Wanted.{IsSeedOf}
 use Rattle.mh_grammar.proofs.Lists.{taken, all_at}
 use Rattle.mh_items.proofs.Growing.{Adds-none}
 use Rattle.mh_items.proofs.Seeding.{seeds_none, seeds_step}

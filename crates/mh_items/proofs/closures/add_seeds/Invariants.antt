@@ -1,7 +1,7 @@
 use Rattle.std.proofs.Common.{take}
 use Rattle.mh_grammar.specs.Plain.{plain_of}
-use Rattle.mh_items.specs.Asked.{Adds}
-use Rattle.mh_items.specs.Wanted.{IsSeedOf}
+use Rattle.mh_items.specs.code.Asked.{Adds}
+use Rattle.mh_items.specs.code.Wanted.{IsSeedOf}
 use Rattle.mh_items.proofs.closures.add_seeds.Given as goal
 
 abbrev pub invariant-loop-item : goal.invariant-loop-item

@@ -3,8 +3,8 @@ use Rattle.std.proofs.lemmas.List.Elements.{All-from_recursion}
 use Rattle.std.proofs.lemmas.Result.{IfOk-weaker}
 use Rattle.mh_grammar.specs.Plain.{plain_of}
 use Rattle.mh_items_kernels.specs.Kernels.{IsKernelItem}
-use Rattle.mh_items.specs.Asked.{Adds, AreQueued, AreAwake}
-use Rattle.mh_items.specs.Wanted.{IsSeedOf, AreWanted}
+use Rattle.mh_items.specs.code.Asked.{Adds, AreQueued, AreAwake}
+use Rattle.mh_items.specs.code.Wanted.{IsSeedOf, AreWanted}
 use Rattle.mh_items.proofs.Seeding.{seeds_are, seeds_awake}
 use Rattle.mh_items.proofs.Listing.{closure_of_union}
 use Rattle.mh_items.proofs.closures.closure_over.Goals as goal

@@ -1,5 +1,5 @@
 use Rattle.std.proofs.Common.{◌≡◌, ◌+◌, false, not, length, count_by, vec_len, if◌then◌else◌}
-use Rattle.mh_items_kernels.specs.Empties.{AreEmpties}
+use Rattle.mh_items_kernels.specs.code.Empties.{AreEmpties}
 use Rattle.mh_items.proofs.empties.empties.Given as goal
 
 abbrev pub invariant-loop-changed : goal.invariant-loop-changed

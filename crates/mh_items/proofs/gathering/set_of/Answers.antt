@@ -2,7 +2,7 @@ use Rattle.std.proofs.Common.{ℕ, ◌↔◌, List, take, get_or, sym, subst}
 use Rattle.std.specs.List.{Contains}
 use Rattle.std.proofs.lemmas.List.{take_all, take_more}
 use Rattle.mh_grammar.specs.declared.types.Look.{Look}
-use Rattle.mh_items.specs.Firsts.{IsTokenOf}
+use Rattle.mh_items.specs.code.Links.{IsTokenOf}
 use Rattle.mh_items.proofs.Gathered.{token_step}
 use Rattle.mh_items.proofs.gathering.set_of.Goals as goal
 

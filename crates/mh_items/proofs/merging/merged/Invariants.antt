@@ -1,6 +1,6 @@
 use Rattle.std.proofs.Common.{◌+◌, ◌-◌, length}
 use Rattle.mh_grammar.specs.Plain.{plain_of}
-use Rattle.mh_items.specs.Merging.{IsMerged}
+use Rattle.mh_items.specs.code.Merging.{IsMerged}
 use Rattle.mh_items.proofs.merging.merged.Given as goal
 
 abbrev pub invariant-items : goal.invariant-items

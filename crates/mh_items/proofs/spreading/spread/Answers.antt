@@ -6,7 +6,7 @@ use Rattle.mh_grammar.specs.Plain.{PlainGrammar, plain_of}
 use Rattle.mh_items.specs.declared.asked.Asked.{Asked}
 use Rattle.mh_items.specs.declared.first_sets.Firsts.{Firsts}
 use Rattle.mh_items.specs.Firsts.{AreFirsts}
-use Rattle.mh_items.specs.Asked.{looks_at}
+use Rattle.mh_items.specs.code.Asked.{looks_at}
 use Rattle.mh_items.proofs.Wanting.{SpreadSoFar, SpreadSoFar-start, SpreadSoFar-step, fewer, table_mid, wanted_of, all_asleep, next_known}
 use Rattle.mh_items.proofs.spreading.spread.Goals as goal
 

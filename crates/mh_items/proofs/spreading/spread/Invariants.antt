@@ -1,6 +1,6 @@
 use Rattle.std.proofs.Common.{◌-◌}
 use Rattle.mh_grammar.specs.Plain.{plain_of}
-use Rattle.mh_items.specs.Asked.{room}
+use Rattle.mh_items.specs.code.Asked.{room}
 use Rattle.mh_items.proofs.Wanting.{SpreadSoFar}
 use Rattle.mh_items.proofs.spreading.spread.Given as goal
 

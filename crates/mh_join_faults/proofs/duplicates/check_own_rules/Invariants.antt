@@ -1,6 +1,6 @@
 use Rattle.std.proofs.Common.{take, drop}
 use Rattle.mh_join_names.specs.Faults.{own_names}
-use Rattle.mh_join_names.specs.Maps.{is_public_in}
+use Rattle.mh_join_names.specs.code.Maps.{is_public_in}
 use Rattle.mh_join_faults.proofs.Seeing.{Seen}
 use Rattle.mh_join_faults.proofs.duplicates.check_own_rules.Given as goal
 

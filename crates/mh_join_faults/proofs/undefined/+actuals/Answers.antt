@@ -2,7 +2,7 @@ use Rattle.std.specs.List.{flat_map}
 use Rattle.mh_rules.specs.declared.modules.Actual.TheViews.{out-Actual}
 use Rattle.std.proofs.Common.{subst}
 use Rattle.mh_join_names.specs.Faults.{Finds, meant_by, undefined, undefined_in_actual}
-use Rattle.mh_join_names.specs.Maps.{meanings_in, formals_in}
+use Rattle.mh_join_names.specs.code.Maps.{meanings_in, formals_in}
 use Rattle.mh_join_names.proofs.Actuals.{actual_out}
 use Rattle.mh_join_names.proofs.Finding.{IsFirst, first_then, finds_then, finds_more, finds_err}
 use Rattle.mh_join_faults.proofs.undefined.+actuals.Goals as goal

@@ -2,7 +2,7 @@ use Rattle.std.proofs.Common.{ℕ, Option, subst}
 use Rattle.std.specs.List.{flat_map}
 use Rattle.mh_grammar.specs.Text.{Text}
 use Rattle.mh_join_names.specs.Faults.{Finds, meant_by, undefined_in_alternative}
-use Rattle.mh_join_names.specs.Maps.{meanings_in}
+use Rattle.mh_join_names.specs.code.Maps.{meanings_in}
 use Rattle.mh_join_names.proofs.Lists.{fun_ext}
 use Rattle.mh_join_faults.proofs.undefined.check_rule.Goals as goal
 

@@ -1,7 +1,7 @@
 use Rattle.std.proofs.Common.{take}
 use Rattle.std.specs.List.{flat_map}
 use Rattle.mh_join_names.specs.Names.{alias_of}
-use Rattle.mh_join_names.specs.Puts.{Puts}
+use Rattle.mh_join_names.specs.code.Puts.{Puts}
 use Rattle.mh_join_gather.proofs.aliases.put_aliases.Given as goal
 
 abbrev pub invariant-loop-file : goal.invariant-loop-file

@@ -1,6 +1,6 @@
 use Rattle.std.proofs.Common.{ap, ◌∙◌}
 use Rattle.std.specs.Prelude.{◌||◌, ◌==◌, not}
-use Rattle.mh_join_names.specs.Definers.{elsewhere_by}
+use Rattle.mh_join_names.specs.code.Definers.{elsewhere_by}
 use Rattle.mh_join_gather.proofs.Defining.{Defines-one}
 use Rattle.mh_join_gather.proofs.definers.add_definer.Goals as goal
 

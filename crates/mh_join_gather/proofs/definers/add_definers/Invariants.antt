@@ -1,7 +1,7 @@
 use Rattle.std.proofs.Common.{take}
 use Rattle.std.specs.List.{list_any}
 use Rattle.mh_join_names.specs.Names.{same}
-use Rattle.mh_join_names.specs.Definers.{Defines}
+use Rattle.mh_join_names.specs.code.Definers.{Defines}
 use Rattle.mh_join_gather.proofs.definers.add_definers.Given as goal
 
 abbrev pub invariant-loop-rule : goal.invariant-loop-rule

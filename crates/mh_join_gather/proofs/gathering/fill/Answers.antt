@@ -1,5 +1,5 @@
 use Rattle.std.proofs.Common.{ap, ◌∙◌}
-use Rattle.mh_join_names.specs.Numbering.{outlines_of}
+use Rattle.mh_join_names.specs.code.Numbering.{outlines_of}
 use Rattle.mh_join_gather.proofs.Meaning.{has_meanings}
 use Rattle.mh_join_gather.proofs.gathering.fill.Goals as goal
 

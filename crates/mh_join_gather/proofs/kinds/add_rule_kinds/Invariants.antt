@@ -1,7 +1,7 @@
 use Rattle.std.proofs.Common.{◌∷◌, [], take}
 use Rattle.std.specs.List.{flat_map}
 use Rattle.mh_join_names.specs.declared.kinds.Kind.TheVariants as kinds
-use Rattle.mh_join_names.specs.Puts.{Puts}
+use Rattle.mh_join_names.specs.code.Puts.{Puts}
 use Rattle.mh_join_gather.proofs.kinds.add_rule_kinds.Given as goal
 
 abbrev pub invariant-loop-rule : goal.invariant-loop-rule

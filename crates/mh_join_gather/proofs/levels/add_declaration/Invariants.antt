@@ -2,7 +2,7 @@ use Rattle.std.proofs.Common.{take}
 use Rattle.std.specs.List.{flat_map}
 use Rattle.std.specs.HashMap.{get}
 use Rattle.mh_join_names.specs.Names.{same, with_level, name_by}
-use Rattle.mh_join_names.specs.Puts.{Puts}
+use Rattle.mh_join_names.specs.code.Puts.{Puts}
 use Rattle.mh_join_gather.proofs.levels.add_declaration.Given as goal
 
 abbrev pub invariant-loop-reference : goal.invariant-loop-reference

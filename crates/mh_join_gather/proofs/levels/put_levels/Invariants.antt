@@ -2,7 +2,7 @@ use Rattle.std.proofs.Common.{take}
 use Rattle.std.specs.List.{flat_map, enumerate_from}
 use Rattle.std.specs.HashMap.{get}
 use Rattle.mh_join_names.specs.Names.{same, levels_in}
-use Rattle.mh_join_names.specs.Puts.{Puts}
+use Rattle.mh_join_names.specs.code.Puts.{Puts}
 use Rattle.mh_join_gather.proofs.levels.put_levels.Given as goal
 
 abbrev pub invariant-loop-at : goal.invariant-loop-at

@@ -2,7 +2,7 @@ use Rattle.std.proofs.Common.{ℕ, ◌∷◌, [], Option, Some, None, ap, subst,
 use Rattle.std.specs.Prelude.{◌||◌, if◌then◌else◌}
 use Rattle.std.specs.List.{list_any}
 use Rattle.mh_join_names.specs.Names.{same}
-use Rattle.mh_join_names.specs.Numbering.{outline_by, outline_in, Numbers}
+use Rattle.mh_join_names.specs.code.Numbering.{outline_by, outline_in, Numbers}
 use Rattle.mh_join_gather.proofs.Numbers.{Numbers-none, Numbers-more, IsOwner-in}
 use Rattle.mh_join_gather.proofs.numbering.add_each.Goals as goal
 

@@ -1,5 +1,5 @@
 use Rattle.std.proofs.Common.{map, take, Some}
-use Rattle.mh_join_names.specs.Numbering.{outline_by, Numbers}
+use Rattle.mh_join_names.specs.code.Numbering.{outline_by, Numbers}
 use Rattle.mh_join_gather.proofs.numbering.add_prelude.Given as goal
 
 abbrev pub invariant-loop-rule : goal.invariant-loop-rule

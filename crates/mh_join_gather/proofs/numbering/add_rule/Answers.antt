@@ -1,6 +1,6 @@
 use Rattle.std.proofs.Common.{refl, sym, ap, ◌∙◌}
 use Rattle.std.specs.Prelude.{not, is_some}
-use Rattle.mh_join_names.specs.Numbering.{outline_by}
+use Rattle.mh_join_names.specs.code.Numbering.{outline_by}
 use Rattle.mh_join_gather.proofs.Numbers.{none_from, Numbers-add, Numbers-keep}
 use Rattle.mh_join_gather.proofs.numbering.add_rule.Goals as goal
 

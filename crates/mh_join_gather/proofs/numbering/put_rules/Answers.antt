@@ -3,7 +3,7 @@ use Rattle.std.specs.List.{flat_map}
 use Rattle.std.proofs.lemmas.List.{take_all}
 use Rattle.mh_join_names.specs.declared.numbering.Numbering.{Numbering}
 use Rattle.mh_join_names.specs.Names.{files, same_rule, insert_all}
-use Rattle.mh_join_names.specs.Numbering.{outline_by, outlines_in}
+use Rattle.mh_join_names.specs.code.Numbering.{outline_by, outlines_in}
 use Rattle.mh_join_gather.proofs.Numbers.{Numbered-empty, Numbers-none, Numbers-enum_more, insert_all-append}
 use Rattle.mh_join_gather.proofs.numbering.put_rules.Goals as goal
 

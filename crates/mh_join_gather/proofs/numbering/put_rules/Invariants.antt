@@ -1,6 +1,6 @@
 use Rattle.std.proofs.Common.{take}
 use Rattle.std.specs.List.{flat_map, enumerate_from}
-use Rattle.mh_join_names.specs.Numbering.{outlines_in, Numbers}
+use Rattle.mh_join_names.specs.code.Numbering.{outlines_in, Numbers}
 use Rattle.mh_join_gather.proofs.numbering.put_rules.Given as goal
 
 abbrev pub invariant-loop-at : goal.invariant-loop-at

@@ -1,9 +1,8 @@
-use Rattle.std.proofs.Common.{length, arith}
-use Rattle.std.proofs.Common.{false, [], ap, ◌≡◌, sym, ◌∙◌}
+use Rattle.std.proofs.Common.{length, arith, false, [], ap, ◌≡◌, sym, ◌∙◌}
 use Rattle.std.specs.List.{flat_map}
 use Rattle.mh_join_names.specs.Faults.{refs, meant_by, undefined_in_actual}
 use Rattle.mh_join_names.specs.Joining.{resolved}
-use Rattle.mh_join_names.specs.Maps.{meanings_in, formals_in}
+use Rattle.mh_join_names.specs.code.Maps.{meanings_in, formals_in}
 use Rattle.mh_join_names.proofs.Actuals.{size_out, size_item}
 use Rattle.mh_join_names.proofs.Resolving.{stands_head, stands_args, resolved_with, nil_at, somes_more}
 use Rattle.mh_join_parts.proofs.building.+actuals.Goals as goal

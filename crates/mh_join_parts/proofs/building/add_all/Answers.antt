@@ -1,6 +1,6 @@
 use Rattle.std.specs.List.{flat_map}
 use Rattle.mh_join_names.specs.Names.{files, definitions_in, prelude_definitions}
-use Rattle.mh_join_names.specs.Maps.{meanings_in}
+use Rattle.mh_join_names.specs.code.Maps.{meanings_in}
 use Rattle.mh_join_parts.proofs.Adding.{Adds-append}
 use Rattle.mh_join_parts.proofs.building.add_all.Goals as goal
 

@@ -1,15 +1,12 @@
-use Rattle.std.proofs.Common.{arith, ◌+◌}
+use Rattle.std.proofs.Common.{arith, ◌+◌, subst, List}
 use Rattle.mh_join_names.specs.Names.{definitions_in}
-use Rattle.mh_join_parts.specs.Standing.{unresolved_in_file}
-use Rattle.mh_join_names.specs.Maps.{meanings_in}
+use Rattle.mh_join_parts.specs.code.Standing.{unresolved_in_file, Adds}
+use Rattle.mh_join_names.specs.code.Maps.{meanings_in}
 use Rattle.mh_join_names.proofs.Resolving.{nil_enum_at}
 use Rattle.mh_join_parts.proofs.Adding.{Adds-nothing, Adds-enum_more}
 use Rattle.std.specs.List.{flat_map, enumerate_from}
-use Rattle.std.proofs.Common.{subst}
 use Rattle.std.proofs.lemmas.List.{take_all}
-use Rattle.mh_join_parts.specs.Standing.{Adds}
 use Rattle.mh_rules.specs.declared.modules.Module.{Module}
-use Rattle.std.proofs.Common.{List}
 use Rattle.mh_join_parts.proofs.building.add_files.Goals as goal
 
 pub loop-at-init : goal.loop-at-init

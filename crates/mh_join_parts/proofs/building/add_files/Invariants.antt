@@ -1,8 +1,8 @@
 use Rattle.std.proofs.Common.{take}
 use Rattle.std.specs.List.{flat_map, enumerate_from}
 use Rattle.mh_join_names.specs.Names.{definitions_in}
-use Rattle.mh_join_parts.specs.Standing.{Adds}
-use Rattle.mh_join_names.specs.Maps.{meanings_in}
+use Rattle.mh_join_parts.specs.code.Standing.{Adds}
+use Rattle.mh_join_names.specs.code.Maps.{meanings_in}
 use Rattle.mh_join_parts.proofs.building.add_files.Given as goal
 
 abbrev pub invariant-loop-at : goal.invariant-loop-at

@@ -1,7 +1,7 @@
 use Rattle.std.proofs.Common.{Some, map, sym, ap, ◌∙◌}
 use Rattle.mh_join_names.specs.Faults.{meant_by, undefined_in_on_error}
 use Rattle.mh_join_names.specs.Joining.{all_of, all_resolved}
-use Rattle.mh_join_names.specs.Maps.{meanings_in, formals_in}
+use Rattle.mh_join_names.specs.code.Maps.{meanings_in, formals_in}
 use Rattle.mh_join_names.proofs.Resolving.{nil_at, somes_more, all_somes}
 use Rattle.mh_join_parts.proofs.building.add_on_error.Goals as goal
 

@@ -1,5 +1,5 @@
 use Rattle.std.proofs.Common.{Some, take}
-use Rattle.mh_join_names.specs.Maps.{meanings_in}
+use Rattle.mh_join_names.specs.code.Maps.{meanings_in}
 use Rattle.mh_join_parts.proofs.Adding.{AddsRules}
 use Rattle.mh_join_parts.proofs.building.add_prelude.Given as goal
 

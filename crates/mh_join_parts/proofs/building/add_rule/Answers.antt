@@ -1,5 +1,5 @@
 use Rattle.std.proofs.Common.{◌∙◌, get_or, sym, ap, refl}
-use Rattle.mh_join_names.specs.Maps.{meanings_in}
+use Rattle.mh_join_names.specs.code.Maps.{meanings_in}
 use Rattle.mh_join_parts.proofs.Adding.{Adds-at, none_past}
 use Rattle.mh_join_parts.proofs.building.add_rule.Goals as goal
 

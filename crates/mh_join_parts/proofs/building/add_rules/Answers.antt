@@ -1,11 +1,10 @@
 use Rattle.std.proofs.Common.{ℕ, ◌∷◌, [], Option, Some, None, ap, subst, ◌∙◌}
 use Rattle.std.specs.Prelude.{◌||◌, if◌then◌else◌}
 use Rattle.std.specs.List.{list_any}
-use Rattle.mh_join_parts.specs.Standing.{Adds}
+use Rattle.mh_join_parts.specs.code.Standing.{Adds, unresolved_in_rule}
 use Rattle.std.proofs.lemmas.List.{take_all}
 use Rattle.mh_join_names.specs.Names.{same, owner_in}
-use Rattle.mh_join_parts.specs.Standing.{unresolved_in_rule}
-use Rattle.mh_join_names.specs.Maps.{meanings_in}
+use Rattle.mh_join_names.specs.code.Maps.{meanings_in}
 use Rattle.mh_join_names.proofs.Resolving.{nil_at}
 use Rattle.mh_join_parts.proofs.Adding.{AddsRules-none, AddsRules-more}
 use Rattle.mh_join_parts.proofs.building.add_rules.Goals as goal

@@ -1,8 +1,8 @@
 use Rattle.std.proofs.Common.{List, ◌∙◌, sym, subst, arith}
 use Rattle.std.proofs.lemmas.List.{take_at}
 use Rattle.mh_rules.specs.declared.joined.JoinedRule.{JoinedRule}
-use Rattle.mh_join_names.specs.Maps.{meanings_in, elsewhere_in}
-use Rattle.mh_join_parts.specs.Standing.{Adds, definitions_by}
+use Rattle.mh_join_names.specs.code.Maps.{meanings_in, elsewhere_in}
+use Rattle.mh_join_parts.specs.code.Standing.{Adds, definitions_by}
 use Rattle.mh_join_parts.proofs.Adding.{AreRules-from}
 use Rattle.mh_join_parts.proofs.building.joined_rules.Goals as goal
 

@@ -1,6 +1,6 @@
 use Rattle.mh_grammar.proofs.Lists.{mapped_more}
 use Rattle.mh_join_names.specs.Joining.{rule_without}
-use Rattle.mh_join_names.specs.Maps.{elsewhere_in}
+use Rattle.mh_join_names.specs.code.Maps.{elsewhere_in}
 use Rattle.mh_join_parts.proofs.building.put_outlines.Goals as goal
 
 pub loop-outline-preserved : goal.loop-outline-preserved

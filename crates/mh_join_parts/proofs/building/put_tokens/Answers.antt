@@ -1,7 +1,7 @@
 use Rattle.std.proofs.Common.{◌∙◌}
 use Rattle.mh_grammar.proofs.Lists.{mapped_more}
 use Rattle.mh_join_names.specs.Joining.{token_info}
-use Rattle.mh_join_names.specs.Maps.{meanings_in}
+use Rattle.mh_join_names.specs.code.Maps.{meanings_in}
 use Rattle.mh_join_parts.proofs.building.put_tokens.Goals as goal
 
 pub loop-name-preserved : goal.loop-name-preserved

@@ -1,5 +1,5 @@
 use Rattle.std.proofs.Common.{map, take}
-use Rattle.mh_msgfile.specs.Sentences.{AreNumbers}
+use Rattle.mh_msgfile.specs.code.LineSteps.{AreNumbers}
 use Rattle.mh_msgfile.proofs.lexicon.number_tokens.Given as goal
 
 abbrev pub invariant-loop-number : goal.invariant-loop-number

@@ -1,7 +1,8 @@
 use Rattle.std.proofs.Common.{◌≡◌, ◌+◌, ◌≤◌, length}
 use Rattle.std.specs.List.{list_all}
-use Rattle.mh_lex.specs.Words.{is_word}
-use Rattle.mh_msgfile.specs.Sentences.{pieces, vocabulary_in, tokens_of, behind_unknown}
+use Rattle.mh_lex_bytes.specs.Words.{is_word}
+use Rattle.mh_msgfile.specs.code.LineSteps.{behind_unknown}
+use Rattle.mh_msgfile.specs.Sentences.{pieces, vocabulary_in, tokens_of}
 use Rattle.mh_msgfile.proofs.sentence.put_tokens.Given as goal
 
 abbrev pub invariant-loop-name : goal.invariant-loop-name

@@ -1,7 +1,7 @@
 use Rattle.std.proofs.Common.{ap}
 use Rattle.clap.specs.Words.{found_of, rows_of}
 use Rattle.mh_opts.specs.App.{options}
-use Rattle.mh_opts.specs.Asking.{asked_in}
+use Rattle.mh_opts.specs.code.Asking.{asked_in}
 use Rattle.mh_opts.proofs.Chosen.{one_more}
 use Rattle.mh_opts.proofs.words.modes_of.Goals as goal
 

@@ -1,7 +1,7 @@
 use Rattle.std.proofs.Common.{ap, sym, ◌∙◌}
 use Rattle.clap.specs.Words.{found_of, rows_of}
 use Rattle.mh_opts.specs.App.{options}
-use Rattle.mh_opts.specs.Asking.{only_of}
+use Rattle.mh_opts.specs.code.Asking.{only_of}
 use Rattle.mh_opts.specs.Orders.{mode_in}
 use Rattle.mh_opts.proofs.Chosen.{answers, only_is}
 use Rattle.mh_opts.proofs.words.only_mode.Goals as goal

@@ -1,6 +1,6 @@
 use Rattle.std.proofs.Common.{map, ap, ◌∙◌}
 use Rattle.std.proofs.lemmas.List.{take_all}
-use Rattle.mh_pager.specs.Indexed.{bare}
+use Rattle.mh_pager_steps.specs.code.Cores.{bare}
 use Rattle.mh_grammar.proofs.Lists.{mapped_more}
 use Rattle.mh_pager.proofs.index.without_looks.Goals as goal
 

@@ -1,5 +1,5 @@
 use Rattle.std.proofs.Common.{◌<◌, ◌∷◌, ◌++◌, [], length, ap, ◌∙◌, arith, rules}
-use Rattle.mh_pager.specs.Worklist.{work_of}
+use Rattle.mh_pager.specs.code.Worklist.{work_of}
 use Rattle.mh_pager.proofs.Worklists.{AreBegun-none, AreBegun-push}
 use Rattle.mh_pager.proofs.listed.begin.Goals as goal
 

@@ -1,5 +1,5 @@
-use Rattle.mh_pager.specs.Worklist.{work_of, IsKept}
-use Rattle.mh_pager_steps.specs.Steps.{AreBegun}
+use Rattle.mh_pager.specs.code.Worklist.{work_of, IsKept}
+use Rattle.mh_pager_steps.specs.code.Lists.{AreBegun}
 use Rattle.mh_pager.proofs.listed.begin.Given as goal
 
 abbrev pub invariant-loop-start : goal.invariant-loop-start

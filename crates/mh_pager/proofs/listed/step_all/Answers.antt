@@ -1,7 +1,7 @@
 use Rattle.std.proofs.Common.{◌≡◌, ◌∷◌, ◌∙◌, rules}
 use Rattle.mh_grammar.specs.Plain.{plain_of}
 use Rattle.mh_canon_states.specs.declared.limits.TheConstants.{MAX_STATES}
-use Rattle.mh_pager.specs.Worklist.{work_of}
+use Rattle.mh_pager.specs.code.Worklist.{work_of}
 use Rattle.mh_pager.proofs.Worklists.{IsList-start, IsList-step, list_ready, list_weight, few_starts}
 use Rattle.mh_pager.proofs.listed.step_all.Goals as goal
 

@@ -1,9 +1,9 @@
 use Rattle.std.proofs.Common.{◌≤◌, length}
 use Rattle.mh_grammar.specs.Plain.{plain_of}
 use Rattle.mh_canon_states.specs.declared.limits.TheConstants.{MAX_STATES}
-use Rattle.mh_pager.specs.Worklist.{work_of, IsKept}
-use Rattle.mh_pager_steps.specs.Steps.{IsList}
-use Rattle.mh_items.specs.Mover.{IsMover}
+use Rattle.mh_pager.specs.code.Worklist.{work_of, IsKept}
+use Rattle.mh_pager_steps.specs.code.Lists.{IsList}
+use Rattle.mh_items.specs.code.Mover.{IsMover}
 use Rattle.mh_pager.proofs.Weights.{weight}
 use Rattle.mh_pager.proofs.listed.step_all.Given as goal
 

@@ -2,18 +2,16 @@ use Rattle.std.proofs.Common.{arith, rules}
 use Rattle.std.proofs.lemmas.Result.{on_ok_weaker}
 use Rattle.mh_grammar.specs.Plain.{plain_of}
 use Rattle.mh_canon_states.specs.declared.limits.TheConstants.{MAX_STATES}
-use Rattle.mh_pager.specs.Worklist.{work_of}
+use Rattle.mh_pager.specs.code.Worklist.{work_of}
 use Rattle.mh_pager_steps.proofs.Finishing.{starts_within, AreClosed-list, IsMerged-list, few_list}
 use Rattle.mh_pager.proofs.Worklists.{of_list}
 use Rattle.mh_pager.proofs.merging.fill.Goals as goal
 
-pub kept_first-requires-clause-within : goal.kept_first-requires-clause-within
-kept_first-requires-clause-within g c = rw (c.as_slice-rows.ensures.value, c.len-starts.ensures) (starts_within (plain_of c.args.grammar.now) (work_of c.args.worklist.now) c.requires.list c.requires.done)
-
-pub kept_first-requires-clause-few : goal.kept_first-requires-clause-few
-kept_first-requires-clause-few g c =
+pub kept_first-requires : goal.kept_first-requires
+kept_first-requires g c =
     let ready = of_list (plain_of c.args.grammar.now) (work_of c.args.worklist.now) c.requires.list in
-    rw c.as_slice-rows.ensures.value (omega (arith, ready.len, c.requires.few))
+    let within = starts_within (plain_of c.args.grammar.now) (work_of c.args.worklist.now) c.requires.list c.requires.done in
+    rw c.len-starts.ensures (omega (arith, within, ready.len, c.requires.few))
 
 pub reach-requires-clause-starts : goal.reach-requires-clause-starts
 reach-requires-clause-starts g c = rw (c.as_slice-rows.ensures.value, c.len-starts.ensures) (starts_within (plain_of c.args.grammar.now) (work_of c.args.worklist.now) c.requires.list c.requires.done)

@@ -2,7 +2,7 @@ use Rattle.std.proofs.Common.{◌≡◌, Err, ap}
 use Rattle.mh_grammar.specs.Plain.{plain_of}
 use Rattle.mh_items_kernels.specs.declared.kernels.StatesFault.TheVariants.{TooManyStates}
 use Rattle.mh_canon_states.specs.declared.limits.TheConstants.{MAX_STATES}
-use Rattle.mh_pager.specs.Worklist.{work_of}
+use Rattle.mh_pager.specs.code.Worklist.{work_of}
 use Rattle.mh_pager_steps.proofs.Finishing.{not_over}
 use Rattle.mh_pager.proofs.merging.merged_over.Goals as goal
 

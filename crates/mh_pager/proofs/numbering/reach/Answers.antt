@@ -6,8 +6,8 @@ use Rattle.mh_pager.proofs.numbering.reach.Goals as goal
 pub states-init : goal.states-init
 states-init c = rw (c.requires.first, c.requires.none) (Reaching-start c.args.starts c.args.rows.now c.requires.starts)
 
-pub renamed-requires-clause-targets : goal.renamed-requires-clause-targets
-renamed-requires-clause-targets c =
+pub renamed-requires : goal.renamed-requires
+renamed-requires c =
     let keys = c.states.states.keys in
     let i = c.len-in-states-2.result in
     let e : i ≡ length c.states.edges = c.len-in-states-2.ensures in
@@ -15,7 +15,12 @@ renamed-requires-clause-targets c =
     let n = get_or c.as_slice.result.now i 0 in
     let at = next_state keys c.as_slice.result.now c.states.edges i c.as_slice.ensures.keys e l in
     let row = c.index-rows-state.result in
-    rw c.as_slice-in-states.ensures (c.requires.closed.targets n row (next_row c.args.starts c.args.rows.now keys c.states.edges c.states.invariant n row at c.index-rows-state.is))
+    record {
+      count = length c.args.rows.now;
+      few = c.requires.few;
+      below = c.states.invariant.below;
+      targets = rw c.as_slice-in-states.ensures (c.requires.closed.targets n row (next_row c.args.starts c.args.rows.now keys c.states.edges c.states.invariant n row at c.index-rows-state.is));
+    }
 
 pub states-smaller : goal.states-smaller
 states-smaller c =

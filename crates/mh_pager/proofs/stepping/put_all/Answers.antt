@@ -4,7 +4,7 @@ use Rattle.std.proofs.lemmas.Iterator.Adapters.{YieldsList-from_vec}
 use Rattle.mh_grammar.specs.Plain.{plain_of}
 use Rattle.mh_items_kernels.specs.declared.kernels.StatesFault.TheVariants.{TooManyStates}
 use Rattle.mh_canon_states.specs.declared.limits.TheConstants.{MAX_STATES}
-use Rattle.mh_pager.specs.Worklist.{work_of}
+use Rattle.mh_pager.specs.code.Worklist.{work_of}
 use Rattle.mh_pager.proofs.Readying.{put_ready}
 use Rattle.mh_pager.proofs.Turning.{put-start, put-more, put-over, found-valid}
 use Rattle.mh_pager.proofs.stepping.put_all.Goals as goal

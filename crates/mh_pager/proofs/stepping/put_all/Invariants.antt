@@ -1,8 +1,8 @@
 use Rattle.std.proofs.Common.{◌≤◌, length}
 use Rattle.mh_grammar.specs.Plain.{plain_of}
 use Rattle.mh_canon_states.specs.declared.limits.TheConstants.{MAX_STATES}
-use Rattle.mh_pager.specs.Worklist.{work_of, IsKept}
-use Rattle.mh_pager_steps.specs.Steps.{IsReady}
+use Rattle.mh_pager.specs.code.Worklist.{work_of, IsKept}
+use Rattle.mh_pager_steps.specs.code.Lists.{IsReady}
 use Rattle.mh_pager.proofs.Turning.{PutSoFar}
 use Rattle.mh_pager.proofs.stepping.put_all.Given as goal
 

@@ -6,8 +6,8 @@ use Rattle.mh_grammar.proofs.Lists.{contains_here}
 use Rattle.mh_items_kernels.specs.Collection.{targets_of}
 use Rattle.mh_items_kernels.specs.declared.kernels.StatesFault.TheVariants.{TooManyStates}
 use Rattle.mh_canon_states.specs.declared.limits.TheConstants.{MAX_STATES}
-use Rattle.mh_pager.specs.Stepping.{with_first}
-use Rattle.mh_pager.specs.Worklist.{work_of}
+use Rattle.mh_pager.specs.code.Stepping.{with_first}
+use Rattle.mh_pager.specs.code.Worklist.{work_of}
 use Rattle.mh_pager_steps.proofs.Only.{all_put_longer}
 use Rattle.mh_pager.proofs.Readying.{taken_ready}
 use Rattle.mh_pager.proofs.Rowing.{step_made, step_over, row_ready}

@@ -1,4 +1,4 @@
-use Rattle.mh_reach.specs.Reaching.{AreBest}
+use Rattle.mh_reach.specs.code.Best.{AreBest}
 use Rattle.mh_reach.proofs.best.all_best.Given as goal
 
 abbrev pub invariant-loop-state : goal.invariant-loop-state

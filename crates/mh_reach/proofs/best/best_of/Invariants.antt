@@ -1,4 +1,4 @@
-use Rattle.mh_reach.specs.Reaching.{BestBelow}
+use Rattle.mh_reach.specs.code.Best.{BestBelow}
 use Rattle.mh_reach.proofs.best.best_of.Given as goal
 
 abbrev pub invariant-loop-token : goal.invariant-loop-token

@@ -1,8 +1,8 @@
 use Rattle.std.proofs.Common.{subst, sym}
 use Rattle.mh_tables_core.specs.Table.{TableData}
-use Rattle.mh_facts.specs.Classes.{IsClasses}
-use Rattle.mh_reach_found.specs.Spots.{ArrivedIn}
-use Rattle.mh_reach.specs.Reaching.{IsReach}
+use Rattle.mh_facts.specs.code.Classes.{IsClasses}
+use Rattle.mh_reach_found.specs.code.Spots.{ArrivedIn}
+use Rattle.mh_reach.specs.code.Best.{IsReach}
 use Rattle.mh_reach.proofs.Costing.{are_cheap, are_told, is_reach}
 use Rattle.mh_reach.proofs.best.reach_by.Goals as goal
 

@@ -1,13 +1,19 @@
-use Rattle.std.proofs.Common.{refl, inl, inr}
-use Rattle.mh_reach.proofs.Choosing.{first_same}
+use Rattle.std.proofs.Common.{◌≡◌, arith, refl, inl, inr}
+use Rattle.mh_reach.proofs.Choosing.{left_first, right_first}
 use Rattle.mh_reach.proofs.best.sooner_of.Goals as goal
 
-pub returns-in-Left : goal.returns-in-Left
-returns-in-Left c = inl (refl, inl c.in-Left.ensures)
+pub returns-then-left-right : goal.returns-then-left-right
+returns-then-left-right c = inl (refl, inl c.if-left-right.true)
 
-pub returns-in-Right : goal.returns-in-Right
-returns-in-Right c = inr (refl, inl c.in-Right.ensures)
+pub returns-then-right-left : goal.returns-then-right-left
+returns-then-right-left c = inr (refl, inl c.if-right-left.true)
 
-pub returns-in_ok-behind-in-Neither : goal.returns-in_ok-behind-in-Neither
-returns-in_ok-behind-in-Neither c =
-    first_same c.args.table.now c.args.found.now.store c.args.arrivals.now.spots c.args.left c.args.right c.sooner.result c.in_ok-behind-in-Neither.behind c.in-Neither.ensures c.in_ok-behind-in-Neither.ensures c.sooner.ensures.behind c.sooner.ensures.ahead
+pub returns-then-branch : goal.returns-then-branch
+returns-then-branch c =
+    let same : c.args.left.cost ≡ c.args.right.cost = (let a = c.if-left-right.false in let b = c.if-right-left.false in omega arith) in
+    right_first c.args.table.now c.args.found.now.store c.args.arrivals.now.spots c.args.left c.args.right _ same c.in_ok-is_later.ensures c.if-branch.true
+
+pub returns-else-branch : goal.returns-else-branch
+returns-else-branch c =
+    let same : c.args.left.cost ≡ c.args.right.cost = (let a = c.if-left-right.false in let b = c.if-right-left.false in omega arith) in
+    left_first c.args.table.now c.args.found.now.store c.args.arrivals.now.spots c.args.left c.args.right _ same c.in_ok-is_later.ensures c.if-branch.false

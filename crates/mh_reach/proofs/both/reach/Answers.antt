@@ -1,6 +1,6 @@
 use Rattle.std.proofs.Common.{subst}
 use Rattle.mh_tables_core.specs.Table.{TableData}
-use Rattle.mh_facts.specs.Classes.{IsClasses}
+use Rattle.mh_facts.specs.code.Classes.{IsClasses}
 use Rattle.mh_reach.proofs.both.reach.Goals as goal
 
 pub reach_over-requires : goal.reach_over-requires

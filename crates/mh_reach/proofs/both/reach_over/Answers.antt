@@ -1,7 +1,7 @@
 use Rattle.std.proofs.Common.{subst, sym}
 use Rattle.mh_tables_core.specs.Table.{TableData}
-use Rattle.mh_facts.specs.Classes.{IsClasses}
-use Rattle.mh_reach_arrivals.specs.Arriving.{ArrivedIn}
+use Rattle.mh_facts.specs.code.Classes.{IsClasses}
+use Rattle.mh_reach_found.specs.code.Spots.{ArrivedIn}
 use Rattle.mh_reach.proofs.both.reach_over.Goals as goal
 
 pub search-requires : goal.search-requires

@@ -1,6 +1,6 @@
 use Rattle.std.proofs.Common.{◌≡◌, ◌<◌, ◌≤◌, arith, refl, sym, ◌∙◌, None, Some}
 use Rattle.mh_reach_found.specs.declared.arrivals.Step.TheVariants as steps
-use Rattle.mh_reach_found.specs.Spots.{heights_of, height_by}
+use Rattle.mh_reach_found.specs.code.Spots.{heights_of, height_by}
 use Rattle.mh_reach_found.proofs.Walking.{arrived_at, ends_walk, shift_walk, way_walk, inner_word, lower}
 use Rattle.mh_reach.proofs.sentences.walk.Goals as goal
 

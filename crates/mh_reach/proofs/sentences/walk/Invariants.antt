@@ -1,8 +1,8 @@
 use Rattle.std.proofs.Common.{◌≡◌, ◌++◌, Some}
 use Rattle.std.specs.Prelude.{reverse}
-use Rattle.mh_facts.specs.Least.{Label}
-use Rattle.mh_facts.specs.Tales.{Tale}
-use Rattle.mh_reach_found.specs.Spots.{Journey, heights_of}
+use Rattle.mh_facts.specs.code.Least.{Label}
+use Rattle.mh_facts.specs.code.Tales.{Tale}
+use Rattle.mh_reach_found.specs.code.Spots.{Journey, heights_of}
 use Rattle.mh_reach_found.proofs.Walking.{LeadsTo}
 use Rattle.mh_reach.proofs.sentences.walk.Given as goal
 

@@ -2,7 +2,7 @@ use Rattle.std.proofs.Common.{◌≡◌, ◌<◌, ◌++◌, ◌∷◌, [], inl, 
 use Rattle.std.specs.Prelude.{reverse}
 use Rattle.std.proofs.lemmas.Bool.{cases_lt}
 use Rattle.std.proofs.lemmas.List.{nil_from_length}
-use Rattle.mh_facts.specs.Tales.{sizes_of}
+use Rattle.mh_facts.specs.code.Tales.{sizes_of}
 use Rattle.mh_reach.proofs.Spelled.{Tells, next_on, next_less, tells_begin, tells_end, words_pop, size_of_all}
 use Rattle.mh_reach.proofs.spell.spell.Goals as goal
 

@@ -1,6 +1,6 @@
 use Rattle.std.proofs.Common.{◌≡◌, ℕ, List, ◌++◌, Some}
 use Rattle.std.specs.Prelude.{reverse}
-use Rattle.mh_facts.specs.Tales.{Tale, sizes_of}
+use Rattle.mh_facts.specs.code.Tales.{Tale, sizes_of}
 use Rattle.mh_reach.proofs.Spelled.{Tells, size_of_all}
 use Rattle.mh_reach.proofs.spell.spell.Given as goal
 

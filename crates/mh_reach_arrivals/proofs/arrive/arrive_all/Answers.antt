@@ -1,5 +1,5 @@
 use Rattle.std.proofs.Common.{◌≤◌, ◌+◌, [], arith, length}
-use Rattle.mh_facts.specs.Orders.{cap}
+use Rattle.mh_facts.specs.Costs.{cap}
 use Rattle.mh_reach_arrivals.proofs.Arriving.{arrive_ends, none_over}
 use Rattle.mh_reach_arrivals.proofs.arrive.arrive_all.Goals as goal
 

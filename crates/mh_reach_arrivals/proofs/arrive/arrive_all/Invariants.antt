@@ -1,5 +1,5 @@
 use Rattle.std.proofs.Common.{[]}
-use Rattle.mh_reach_arrivals.specs.Arriving.{GoodIn}
+use Rattle.mh_reach_arrivals.specs.code.Arriving.{GoodIn}
 use Rattle.mh_reach_arrivals.proofs.arrive.arrive_all.Given as goal
 
 abbrev pub invariant-loop-cost : goal.invariant-loop-cost

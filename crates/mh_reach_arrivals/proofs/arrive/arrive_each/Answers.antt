@@ -2,7 +2,7 @@ use Rattle.std.proofs.Common.{◌<◌, ◌≤◌, List, arith, drop, length, len
 use Rattle.std.proofs.Math.ListN.{drop_of_length-le}
 use Rattle.std.proofs.lemmas.List.{take_rest}
 use Rattle.mh_reach_arrivals.specs.declared.comings.Coming.{Coming}
-use Rattle.mh_reach_arrivals.specs.Arriving.{ReadyIn}
+use Rattle.mh_reach_arrivals.specs.code.Arriving.{ReadyIn}
 use Rattle.mh_reach_arrivals.proofs.Levels.{level_done}
 use Rattle.mh_reach_words.proofs.Listing.{rest_after}
 use Rattle.mh_reach_arrivals.proofs.arrive.arrive_each.Goals as goal

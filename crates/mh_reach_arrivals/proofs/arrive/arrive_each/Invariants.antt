@@ -1,5 +1,5 @@
 use Rattle.std.proofs.Common.{drop}
-use Rattle.mh_reach_arrivals.specs.Arriving.{ReadyIn}
+use Rattle.mh_reach_arrivals.specs.code.Arriving.{ReadyIn}
 use Rattle.mh_reach_arrivals.proofs.arrive.arrive_each.Given as goal
 
 abbrev pub invariant-loop-place : goal.invariant-loop-place

@@ -1,6 +1,6 @@
 use Rattle.std.proofs.Common.{◌<◌, ◌++◌, ◌∷◌, [], arith, drop, inl, sym}
 use Rattle.mh_facts.specs.code.Rows.{Gains}
-use Rattle.mh_reach_arrivals.specs.Arriving.{ComesNext, GoesOn, ReadyAt}
+use Rattle.mh_reach_arrivals.specs.code.Arriving.{ComesNext, GoesOn, ReadyAt}
 use Rattle.mh_reach_arrivals.proofs.Arriving.{arrival_for, arrive_settles}
 use Rattle.mh_reach_arrivals.proofs.Levels.{level_drained, level_pushed}
 use Rattle.mh_reach_arrivals.proofs.Spotting.{unreached, unreached_less}

@@ -1,5 +1,5 @@
 use Rattle.std.proofs.Common.{drop}
-use Rattle.mh_reach_arrivals.specs.Arriving.{InOrderIn}
+use Rattle.mh_reach_arrivals.specs.code.Arriving.{InOrderIn}
 use Rattle.mh_reach_arrivals.proofs.Spotting.{unreached}
 use Rattle.mh_reach_arrivals.proofs.arrive.arrive_one.Given as goal
 

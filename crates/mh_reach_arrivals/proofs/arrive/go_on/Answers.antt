@@ -3,8 +3,8 @@ use Rattle.std.specs.Global.{Vec}
 use Rattle.std.proofs.lemmas.Result.{on_ok_weaker}
 use Rattle.mh_facts.specs.declared.work.Whole.{Whole}
 use Rattle.mh_facts.specs.code.Rows.{row_of, Among}
-use Rattle.mh_facts.specs.Classes.{place_of}
-use Rattle.mh_reach_arrivals.specs.Arriving.{StepsShift, StepsWay}
+use Rattle.mh_facts.specs.code.Classes.{place_of}
+use Rattle.mh_reach_arrivals.specs.code.Arriving.{StepsShift, StepsWay}
 use Rattle.mh_facts.proofs.Rowing.{row_is}
 use Rattle.mh_facts.proofs.Gaining.{gains_then}
 use Rattle.mh_reach_arrivals.proofs.arrive.go_on.Goals as goal

@@ -1,7 +1,7 @@
 use Rattle.std.proofs.Common.{◌≡◌, None}
 use Rattle.mh_reach_found.proofs.Queueing.{draws_none, draws_one, drop_done}
-use Rattle.mh_reach_found.specs.Spots.{arrival_at}
-use Rattle.mh_reach_arrivals.specs.Arriving.{IsDone}
+use Rattle.mh_reach_found.specs.code.Spots.{arrival_at}
+use Rattle.mh_reach_arrivals.specs.code.Arriving.{IsDone}
 use Rattle.mh_reach_arrivals.proofs.Stepping.{none_there, some_there}
 use Rattle.mh_reach_arrivals.proofs.arrive.next_coming.Goals as goal
 

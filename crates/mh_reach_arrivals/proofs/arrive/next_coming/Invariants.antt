@@ -1,7 +1,7 @@
 use Rattle.std.proofs.Common.{length}
 use Rattle.mh_facts.specs.code.Rows.{row_of}
 use Rattle.mh_reach_found.proofs.Queueing.{Thinned}
-use Rattle.mh_reach_arrivals.specs.Arriving.{IsDone}
+use Rattle.mh_reach_arrivals.specs.code.Arriving.{IsDone}
 use Rattle.mh_reach_arrivals.proofs.arrive.next_coming.Given as goal
 
 abbrev pub invariant-items : goal.invariant-items

@@ -1,7 +1,7 @@
 use Rattle.std.proofs.Common.{◌≡◌, arith, length, []}
 use Rattle.mh_facts.specs.code.Rows.{Among}
-use Rattle.mh_facts.specs.Classes.{list_at}
-use Rattle.mh_reach_arrivals.specs.Arriving.{StartsOn}
+use Rattle.mh_facts.specs.code.Classes.{list_at}
+use Rattle.mh_reach_arrivals.specs.code.Arriving.{StartsOn}
 use Rattle.mh_facts.proofs.Gaining.{below_begins, below_goes}
 use Rattle.mh_reach_arrivals.proofs.arrive.starts.Goals as goal
 

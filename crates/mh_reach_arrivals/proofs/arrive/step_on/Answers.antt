@@ -2,7 +2,7 @@ use Rattle.std.proofs.Common.{◌≡◌, [], ◌∷◌, sym, ◌∙◌}
 use Rattle.std.proofs.lemmas.Result.{on_ok_weaker}
 use Rattle.mh_grammar.specs.declared.types.Symbol.TheVariants.{T}
 use Rattle.mh_tables_core.specs.Run.{Shifts, move_of}
-use Rattle.mh_facts.specs.Classes.{rep_of}
+use Rattle.mh_facts.specs.code.Classes.{rep_of}
 use Rattle.mh_facts.proofs.Edging.{shift_target}
 use Rattle.mh_reach_arrivals.proofs.Stepping.{along_gains}
 use Rattle.mh_reach_arrivals.proofs.arrive.step_on.Goals as goal

@@ -1,6 +1,6 @@
 use Rattle.mh_tables_core.specs.Table.{state_at}
 use Rattle.mh_facts.specs.code.Rows.{Gains}
-use Rattle.mh_reach_arrivals.specs.Arriving.{StepsEdge}
+use Rattle.mh_reach_arrivals.specs.code.Arriving.{StepsEdge}
 use Rattle.mh_facts.proofs.Gaining.{First}
 use Rattle.mh_reach_arrivals.proofs.arrive.step_shifts.Given as goal
 

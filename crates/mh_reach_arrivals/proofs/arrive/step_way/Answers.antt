@@ -1,8 +1,8 @@
 use Rattle.std.proofs.Common.{◌+◌}
 use Rattle.std.proofs.lemmas.Result.{on_ok_weaker}
 use Rattle.std.specs.Prelude.{min}
-use Rattle.mh_facts.specs.Orders.{cap}
-use Rattle.mh_reach_arrivals.specs.Arriving.{StepsWay}
+use Rattle.mh_facts.specs.Costs.{cap}
+use Rattle.mh_reach_arrivals.specs.code.Arriving.{StepsWay}
 use Rattle.mh_facts.proofs.Gaining.{gains_none, gains_only}
 use Rattle.mh_reach_arrivals.proofs.arrive.step_way.Goals as goal
 

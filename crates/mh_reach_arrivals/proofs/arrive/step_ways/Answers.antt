@@ -1,6 +1,6 @@
 use Rattle.std.proofs.Common.{arith}
 use Rattle.std.proofs.lemmas.List.Elements.{Contains-get_or}
-use Rattle.mh_reach_arrivals.specs.Arriving.{StepsWay}
+use Rattle.mh_reach_arrivals.specs.code.Arriving.{StepsWay}
 use Rattle.mh_facts.proofs.Gaining.{first_next, first_all}
 use Rattle.mh_reach_arrivals.proofs.arrive.step_ways.Goals as goal
 

@@ -1,5 +1,5 @@
 use Rattle.mh_facts.specs.code.Rows.{Gains}
-use Rattle.mh_reach_arrivals.specs.Arriving.{StepsWay}
+use Rattle.mh_reach_arrivals.specs.code.Arriving.{StepsWay}
 use Rattle.mh_facts.proofs.Gaining.{First}
 use Rattle.mh_reach_arrivals.proofs.arrive.step_ways.Given as goal
 

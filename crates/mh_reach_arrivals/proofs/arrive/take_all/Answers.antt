@@ -1,5 +1,5 @@
 use Rattle.mh_reach_found.proofs.Queueing.{drawn_none, drawn_more, drawn_all}
-use Rattle.mh_reach_arrivals.specs.Arriving.{IsDone}
+use Rattle.mh_reach_arrivals.specs.code.Arriving.{IsDone}
 use Rattle.mh_reach_arrivals.proofs.arrive.take_all.Goals as goal
 
 pub items-init : goal.items-init

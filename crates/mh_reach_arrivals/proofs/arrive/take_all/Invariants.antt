@@ -1,6 +1,6 @@
 use Rattle.std.proofs.Common.{length}
 use Rattle.mh_facts.specs.code.Rows.{row_of}
-use Rattle.mh_reach_arrivals.specs.Arriving.{TakesComings}
+use Rattle.mh_reach_arrivals.specs.code.Arriving.{TakesComings}
 use Rattle.mh_reach_arrivals.proofs.arrive.take_all.Given as goal
 
 abbrev pub invariant-items : goal.invariant-items

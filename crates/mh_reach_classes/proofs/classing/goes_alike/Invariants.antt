@@ -1,4 +1,4 @@
-use Rattle.mh_reach_classes.specs.Classing.{AreAlike}
+use Rattle.mh_reach_classes.specs.code.Classing.{AreAlike}
 use Rattle.mh_reach_classes.proofs.classing.goes_alike.Given as goal
 
 abbrev pub invariant-loop-token : goal.invariant-loop-token

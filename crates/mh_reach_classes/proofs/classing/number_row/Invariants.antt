@@ -1,5 +1,5 @@
 use Rattle.std.proofs.Common.{◌≤◌}
-use Rattle.mh_reach_classes.specs.Classing.{IsRow}
+use Rattle.mh_reach_classes.specs.code.Classing.{IsRow}
 use Rattle.mh_reach_classes.proofs.classing.number_row.Given as goal
 
 abbrev pub invariant-loop-token : goal.invariant-loop-token

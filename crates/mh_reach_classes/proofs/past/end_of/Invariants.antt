@@ -1,5 +1,5 @@
 use Rattle.std.proofs.Common.{◌<◌, length}
-use Rattle.mh_facts.specs.Least.{IsEnd}
+use Rattle.mh_facts.specs.code.Least.{IsEnd}
 use Rattle.mh_reach_classes.proofs.past.end_of.Given as goal
 
 abbrev pub invariant-loop-place : goal.invariant-loop-place

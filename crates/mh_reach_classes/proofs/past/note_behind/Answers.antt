@@ -1,8 +1,8 @@
 use Rattle.std.proofs.Common.{ℕ, ◌≡◌, sym, ◌∙◌}
 use Rattle.mh_grammar.specs.declared.types.Symbol.TheVariants.{N}
 use Rattle.mh_grammar.specs.Plain.{IsProductionFor}
-use Rattle.mh_facts.specs.Left.{left_at}
-use Rattle.mh_reach_classes.specs.Past.{PastOn, PastBehind}
+use Rattle.mh_facts.specs.code.Left.{left_at}
+use Rattle.mh_reach_classes.specs.code.Past.{PastOn, PastBehind}
 use Rattle.mh_facts.proofs.Collecting.{collects_by}
 use Rattle.mh_reach_classes.proofs.past.note_behind.Goals as goal
 

@@ -1,6 +1,6 @@
 use Rattle.std.proofs.Common.{arith}
 use Rattle.std.proofs.lemmas.List.Elements.{Contains-get_or}
-use Rattle.mh_reach_classes.specs.Past.{PastOne}
+use Rattle.mh_reach_classes.specs.code.Past.{PastOne}
 use Rattle.mh_facts.proofs.Collecting.{firsts_begin, firsts_next, firsts_all}
 use Rattle.mh_reach_classes.proofs.past.note_each.Goals as goal
 

@@ -1,5 +1,5 @@
 use Rattle.mh_facts.specs.code.Rows.{Collects}
-use Rattle.mh_reach_classes.specs.Past.{PastOne}
+use Rattle.mh_reach_classes.specs.code.Past.{PastOne}
 use Rattle.mh_facts.proofs.Collecting.{FirstOf}
 use Rattle.mh_reach_classes.proofs.past.note_each.Given as goal
 

@@ -4,7 +4,7 @@ use Rattle.std.proofs.lemmas.List.Elements.{Contains-get_or}
 use Rattle.mh_grammar.specs.declared.types.Symbol.TheVariants.{T}
 use Rattle.mh_grammar.specs.declared.edges.Edge.{Edge}
 use Rattle.mh_tables_core.specs.Table.{state_at}
-use Rattle.mh_reach_classes.specs.Past.{PastBehind}
+use Rattle.mh_reach_classes.specs.code.Past.{PastBehind}
 use Rattle.mh_facts.proofs.Collecting.{firsts_begin, firsts_next, firsts_all}
 use Rattle.mh_facts.proofs.Edging.{edge_leads}
 use Rattle.mh_reach_classes.proofs.past.note_in.Goals as goal

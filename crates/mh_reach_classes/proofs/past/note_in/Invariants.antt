@@ -1,6 +1,6 @@
 use Rattle.mh_tables_core.specs.Table.{state_at}
 use Rattle.mh_facts.specs.code.Rows.{Collects}
-use Rattle.mh_reach_classes.specs.Past.{PastBehind}
+use Rattle.mh_reach_classes.specs.code.Past.{PastBehind}
 use Rattle.mh_facts.proofs.Collecting.{FirstOf}
 use Rattle.mh_reach_classes.proofs.past.note_in.Given as goal
 

@@ -1,9 +1,9 @@
 use Rattle.std.proofs.Common.{◌≡◌, refl, ◌∙◌, length}
 use Rattle.mh_grammar.specs.Plain.{rhs_of}
-use Rattle.mh_facts.specs.Least.{IsEnd}
+use Rattle.mh_facts.specs.code.Least.{IsEnd}
 use Rattle.mh_facts.proofs.Bound.{one_end}
 use Rattle.mh_reach_classes.specs.declared.past.Reduction.{Reduction}
-use Rattle.mh_reach_classes.specs.Past.{PastOne}
+use Rattle.mh_reach_classes.specs.code.Past.{PastOne}
 use Rattle.mh_facts.proofs.Collecting.{collects_by}
 use Rattle.mh_reach_classes.proofs.past.note_one.Goals as goal
 

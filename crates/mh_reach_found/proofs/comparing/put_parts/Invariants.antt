@@ -1,8 +1,8 @@
 use Rattle.std.proofs.Common.{List, ℕ, Option}
 use Rattle.mh_tables_core.specs.Table.{TableData}
 use Rattle.mh_facts.specs.declared.store.FactKey.{FactKey}
-use Rattle.mh_facts.specs.Least.{Label}
-use Rattle.mh_reach_found.specs.Spots.{Journey, LabelBy, heights_of, height_by}
+use Rattle.mh_facts.specs.code.Least.{Label}
+use Rattle.mh_reach_found.specs.code.Spots.{Journey, LabelBy, heights_of, height_by}
 use Rattle.mh_reach_found.proofs.Tracing.{Rest}
 use Rattle.mh_reach_found.proofs.comparing.put_parts.Given as goal
 

@@ -1,6 +1,6 @@
 use Rattle.std.proofs.Common.{◌+◌}
-use Rattle.mh_facts.specs.Tales.{sizes_of}
-use Rattle.mh_reach_found.specs.Tails.{AreShared, weight}
+use Rattle.mh_facts.specs.code.Tales.{sizes_of}
+use Rattle.mh_reach_found.specs.code.Tails.{AreShared, weight}
 use Rattle.mh_reach_found.proofs.tails.is_later.Given as goal
 
 abbrev pub invariant-parts : goal.invariant-parts

@@ -1,5 +1,5 @@
 use Rattle.std.proofs.Common.{◌≡◌, arith, length, []}
-use Rattle.mh_facts.specs.Rules.{IsEmptyItem}
+use Rattle.mh_facts.specs.code.Rules.{IsEmptyItem}
 use Rattle.mh_facts.proofs.Gaining.{below_begins, below_goes}
 use Rattle.mh_reach_paths.proofs.begins.begin_all.Goals as goal
 

@@ -1,8 +1,8 @@
 use Rattle.std.proofs.Common.{ℕ, ◌≡◌, sym, ◌∙◌}
 use Rattle.mh_grammar.specs.declared.types.Symbol.TheVariants.{N}
 use Rattle.mh_facts.specs.code.Rows.{Among}
-use Rattle.mh_facts.specs.Left.{left_at}
-use Rattle.mh_reach_paths.specs.Begins.{BeginsOn, BeginsBehind}
+use Rattle.mh_facts.specs.code.Left.{left_at}
+use Rattle.mh_reach_paths.specs.code.Begins.{BeginsOn, BeginsBehind}
 use Rattle.mh_facts.proofs.Gaining.{gains_by}
 use Rattle.mh_reach_paths.proofs.begins.begin_behind.Goals as goal
 

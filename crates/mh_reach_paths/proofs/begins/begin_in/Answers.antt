@@ -4,8 +4,8 @@ use Rattle.std.proofs.lemmas.List.Elements.{Contains-get_or}
 use Rattle.mh_grammar.specs.declared.types.Symbol.TheVariants.{T}
 use Rattle.mh_grammar.specs.declared.edges.Edge.{Edge}
 use Rattle.mh_tables_core.specs.Table.{state_at}
-use Rattle.mh_facts.specs.Classes.{list_at}
-use Rattle.mh_reach_paths.specs.Begins.{BeginsBehind}
+use Rattle.mh_facts.specs.code.Classes.{list_at}
+use Rattle.mh_reach_paths.specs.code.Begins.{BeginsBehind}
 use Rattle.mh_facts.proofs.Gaining.{first_next, first_all}
 use Rattle.mh_facts.proofs.Edging.{edge_leads, known_nonterminal}
 use Rattle.mh_reach_paths.proofs.Beginning.{begin_gains}

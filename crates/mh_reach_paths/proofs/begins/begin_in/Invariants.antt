@@ -1,7 +1,7 @@
 use Rattle.mh_tables_core.specs.Table.{state_at}
 use Rattle.mh_facts.specs.code.Rows.{Gains}
-use Rattle.mh_facts.specs.Classes.{list_at}
-use Rattle.mh_reach_paths.specs.Begins.{BeginsBehind}
+use Rattle.mh_facts.specs.code.Classes.{list_at}
+use Rattle.mh_reach_paths.specs.code.Begins.{BeginsBehind}
 use Rattle.mh_facts.proofs.Gaining.{First}
 use Rattle.mh_reach_paths.proofs.begins.begin_in.Given as goal
 

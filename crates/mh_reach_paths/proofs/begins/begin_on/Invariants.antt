@@ -1,5 +1,5 @@
 use Rattle.mh_facts.specs.code.Rows.{Gains}
-use Rattle.mh_reach_paths.specs.Begins.{BeginsOn}
+use Rattle.mh_reach_paths.specs.code.Begins.{BeginsOn}
 use Rattle.mh_facts.proofs.Gaining.{First}
 use Rattle.mh_reach_paths.proofs.begins.begin_on.Given as goal
 

@@ -1,5 +1,5 @@
 use Rattle.std.proofs.Common.{arith}
-use Rattle.mh_reach_paths.specs.Begins.{EmptyOn}
+use Rattle.mh_reach_paths.specs.code.Begins.{EmptyOn}
 use Rattle.mh_facts.proofs.Gaining.{first_next, first_all}
 use Rattle.mh_reach_paths.proofs.begins.begin_one.Goals as goal
 

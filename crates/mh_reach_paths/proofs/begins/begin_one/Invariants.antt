@@ -1,5 +1,5 @@
 use Rattle.mh_facts.specs.code.Rows.{Gains}
-use Rattle.mh_reach_paths.specs.Begins.{EmptyOn}
+use Rattle.mh_reach_paths.specs.code.Begins.{EmptyOn}
 use Rattle.mh_facts.proofs.Gaining.{First}
 use Rattle.mh_reach_paths.proofs.begins.begin_one.Given as goal
 

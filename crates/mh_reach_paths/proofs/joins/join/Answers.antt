@@ -1,7 +1,7 @@
 use Rattle.std.proofs.Common.{◌+◌}
 use Rattle.std.specs.Prelude.{min}
-use Rattle.mh_facts.specs.Orders.{cap}
-use Rattle.mh_facts.specs.Rules.{FollowsWay}
+use Rattle.mh_facts.specs.Costs.{cap}
+use Rattle.mh_facts.specs.code.Rules.{FollowsWay}
 use Rattle.mh_facts.proofs.Gaining.{gains_none, gains_only}
 use Rattle.mh_reach_paths.proofs.joins.join.Goals as goal
 

@@ -1,6 +1,6 @@
 use Rattle.std.proofs.Common.{arith}
 use Rattle.std.proofs.lemmas.List.Elements.{Contains-get_or}
-use Rattle.mh_facts.specs.Rules.{FollowsWay}
+use Rattle.mh_facts.specs.code.Rules.{FollowsWay}
 use Rattle.mh_facts.proofs.Gaining.{first_next, first_all}
 use Rattle.mh_reach_paths.proofs.joins.join_paths.Goals as goal
 

@@ -1,5 +1,5 @@
 use Rattle.mh_facts.specs.code.Rows.{Gains}
-use Rattle.mh_facts.specs.Rules.{FollowsWay}
+use Rattle.mh_facts.specs.code.Rules.{FollowsWay}
 use Rattle.mh_facts.proofs.Gaining.{First}
 use Rattle.mh_reach_paths.proofs.joins.join_paths.Given as goal
 

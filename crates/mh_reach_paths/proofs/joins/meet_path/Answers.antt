@@ -3,7 +3,7 @@ use Rattle.std.specs.Global.{Vec}
 use Rattle.mh_facts.specs.declared.work.Path.{Path}
 use Rattle.mh_facts.specs.declared.work.Whole.{Whole}
 use Rattle.mh_facts.specs.code.Rows.{row_of}
-use Rattle.mh_facts.specs.Classes.{place_of}
+use Rattle.mh_facts.specs.code.Classes.{place_of}
 use Rattle.mh_facts.proofs.Rowing.{row_is, files}
 use Rattle.mh_reach_paths.proofs.joins.meet_path.Goals as goal
 

@@ -5,8 +5,8 @@ use Rattle.mh_grammar.specs.Plain.{lhs_of}
 use Rattle.mh_facts.specs.declared.work.Path.{Path}
 use Rattle.mh_facts.specs.declared.work.Whole.{Whole}
 use Rattle.mh_facts.specs.code.Rows.{row_of}
-use Rattle.mh_facts.specs.Classes.{place_of}
-use Rattle.mh_facts.specs.Rules.{Goes}
+use Rattle.mh_facts.specs.code.Classes.{place_of}
+use Rattle.mh_facts.specs.code.Rules.{Goes}
 use Rattle.mh_facts.specs.code.Rows.{Files}
 use Rattle.mh_facts.proofs.Rowing.{row_is, files}
 use Rattle.mh_reach_paths.proofs.Meeting.{adds_known, adds_new}

@@ -1,8 +1,8 @@
 use Rattle.std.proofs.Common.{◌≡◌, ◌<◌, ◌+◌, ap, ◌∙◌, arith, length, get_or, take}
 use Rattle.std.proofs.lemmas.List.{take_all}
-use Rattle.mh_facts.specs.Classes.{list_at}
-use Rattle.mh_reach_paths.specs.Adding.{Adds}
-use Rattle.mh_facts.specs.Rules.{whole_of}
+use Rattle.mh_facts.specs.code.Classes.{list_at}
+use Rattle.mh_reach_paths.specs.code.Adding.{Adds}
+use Rattle.mh_facts.specs.code.Rules.{whole_of}
 use Rattle.mh_reach_paths.proofs.Taking.{take_more}
 use Rattle.mh_reach_paths.proofs.Meeting.{meets_none, meets_more}
 use Rattle.mh_reach_paths.proofs.joins.meet_whole.Goals as goal

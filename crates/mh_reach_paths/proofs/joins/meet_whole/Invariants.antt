@@ -1,6 +1,6 @@
 use Rattle.std.specs.Prelude.{take}
-use Rattle.mh_facts.specs.Classes.{list_at}
-use Rattle.mh_reach_paths.specs.Adding.{MeetsOn}
+use Rattle.mh_facts.specs.code.Classes.{list_at}
+use Rattle.mh_reach_paths.specs.code.Adding.{MeetsOn}
 use Rattle.mh_reach_paths.proofs.joins.meet_whole.Given as goal
 
 abbrev pub invariant-loop-next : goal.invariant-loop-next

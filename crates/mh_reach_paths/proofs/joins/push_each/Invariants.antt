@@ -1,5 +1,5 @@
 use Rattle.mh_facts.specs.code.Rows.{Gains}
-use Rattle.mh_reach_paths.specs.Adding.{WithNext}
+use Rattle.mh_reach_paths.specs.code.Adding.{WithNext}
 use Rattle.mh_facts.proofs.Gaining.{First}
 use Rattle.mh_reach_paths.proofs.joins.push_each.Given as goal
 

@@ -1,9 +1,9 @@
 use Rattle.std.proofs.Common.{◌≡◌, [], ◌∷◌, sym, refl, ◌∙◌}
 use Rattle.mh_grammar.specs.declared.types.Symbol.TheVariants.{T}
 use Rattle.mh_tables_core.specs.Run.{Shifts, move_of}
-use Rattle.mh_facts.specs.Classes.{rep_of}
+use Rattle.mh_facts.specs.code.Classes.{rep_of}
 use Rattle.mh_facts.specs.declared.store.Back.TheVariants as backs
-use Rattle.mh_facts.specs.Rules.{further}
+use Rattle.mh_facts.specs.code.Rules.{further}
 use Rattle.mh_facts.proofs.Edging.{shift_target}
 use Rattle.mh_reach_paths.proofs.Shifting.{shift_gains}
 use Rattle.mh_reach_paths.proofs.joins.shift.Goals as goal

@@ -1,4 +1,4 @@
-use Rattle.mh_reach_paths.specs.Numbering.{AreMade}
+use Rattle.mh_reach_paths.specs.code.Numbering.{AreMade}
 use Rattle.mh_reach_paths.proofs.numbering.all_made.Given as goal
 
 abbrev pub invariant-loop-item : goal.invariant-loop-item

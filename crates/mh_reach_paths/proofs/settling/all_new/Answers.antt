@@ -1,4 +1,4 @@
-use Rattle.mh_reach_paths.specs.Good.{IsDone}
+use Rattle.mh_reach_paths.specs.code.Good.{IsDone}
 use Rattle.mh_reach_found.proofs.Queueing.{drawn_none, drawn_more, drawn_all}
 use Rattle.mh_reach_paths.proofs.settling.all_new.Goals as goal
 

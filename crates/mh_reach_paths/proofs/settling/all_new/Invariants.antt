@@ -1,6 +1,6 @@
 use Rattle.std.proofs.Common.{length}
 use Rattle.mh_facts.specs.code.Rows.{row_of}
-use Rattle.mh_reach_paths.specs.Good.{AllNew}
+use Rattle.mh_reach_paths.specs.code.Good.{AllNew}
 use Rattle.mh_reach_paths.proofs.settling.all_new.Given as goal
 
 abbrev pub invariant-items : goal.invariant-items

@@ -1,5 +1,5 @@
 use Rattle.std.proofs.Common.{◌≡◌, ◌≤◌, ◌+◌, refl, arith}
-use Rattle.mh_facts.specs.Orders.{cap}
+use Rattle.mh_facts.specs.Costs.{cap}
 use Rattle.mh_reach_paths.proofs.Turns.{search_done, search_ends}
 use Rattle.mh_reach_paths.proofs.Ranks.{before_all}
 use Rattle.mh_reach_paths.proofs.settling.search.Goals as goal

@@ -1,8 +1,8 @@
 use Rattle.std.proofs.Common.{◌≡◌, ◌++◌, ◌∷◌, [], None, true, false, sym, ◌∙◌}
 use Rattle.mh_facts.specs.Stored.{fact_at}
 use Rattle.mh_facts.specs.code.Rows.{Taken}
-use Rattle.mh_reach_found.specs.Found.{IsStored}
-use Rattle.mh_reach_paths.specs.Good.{IsDone}
+use Rattle.mh_reach_found.specs.code.Found.{IsStored}
+use Rattle.mh_reach_paths.specs.code.Good.{IsDone}
 use Rattle.mh_reach_found.proofs.Queueing.{draws_none, draws_one, drop_done}
 use Rattle.mh_facts.proofs.Wording.{some_there}
 use Rattle.mh_reach_paths.proofs.Turns.{fact_of}

@@ -1,6 +1,6 @@
 use Rattle.std.proofs.Common.{◌≡◌, length}
 use Rattle.mh_facts.specs.code.Rows.{row_of}
-use Rattle.mh_reach_paths.specs.Good.{IsDone}
+use Rattle.mh_reach_paths.specs.code.Good.{IsDone}
 use Rattle.mh_reach_found.proofs.Queueing.{Thinned}
 use Rattle.mh_reach_paths.proofs.settling.settle_next.Given as goal
 

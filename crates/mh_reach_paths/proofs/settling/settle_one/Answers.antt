@@ -1,8 +1,8 @@
 use Rattle.std.proofs.Common.{sym, ◌<◌, ◌+◌, refl, ◌++◌, ◌∷◌, [], None, Some, inl, drop}
 use Rattle.mh_facts.specs.declared.work.Work.{Work}
-use Rattle.mh_reach_paths.specs.Good.{SettlesNext}
-use Rattle.mh_reach_paths.specs.Ranking.{InLevel}
-use Rattle.mh_facts.specs.Rules.{path_of, queue_of, InRange}
+use Rattle.mh_reach_paths.specs.code.Good.{SettlesNext}
+use Rattle.mh_reach_paths.specs.code.Ranking.{InLevel}
+use Rattle.mh_facts.specs.code.Rules.{path_of, queue_of, InRange}
 use Rattle.mh_facts.proofs.Counting.{unsettled}
 use Rattle.mh_reach_paths.proofs.Turns.{fact_of}
 use Rattle.mh_reach_paths.proofs.Levels.{drop_get}

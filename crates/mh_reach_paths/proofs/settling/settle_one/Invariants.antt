@@ -1,5 +1,5 @@
 use Rattle.std.proofs.Common.{◌+◌, drop}
-use Rattle.mh_reach_paths.specs.Ranking.{InTurn}
+use Rattle.mh_reach_paths.specs.code.Ranking.{InTurn}
 use Rattle.mh_facts.proofs.Counting.{unsettled}
 use Rattle.mh_reach_paths.proofs.settling.settle_one.Given as goal
 

@@ -1,5 +1,5 @@
 use Rattle.mh_reach_words.specs.declared.comparing.Rests.{Rests}
-use Rattle.mh_reach_words.specs.Words.{spelled, words_of}
+use Rattle.mh_reach_words.specs.code.Words.{spelled, words_of}
 use Rattle.mh_reach_words.proofs.Turning.{shares_begin, are_tops, told_so, goes_on, goes_less}
 use Rattle.mh_reach_words.proofs.comparing.compare.Goals as goal
 

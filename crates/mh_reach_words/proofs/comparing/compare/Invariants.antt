@@ -1,6 +1,6 @@
 use Rattle.std.proofs.Common.{◌+◌}
-use Rattle.mh_reach_words.specs.Compared.{Shares, weight}
-use Rattle.mh_reach_words.specs.Words.{spelled, words_of}
+use Rattle.mh_reach_words.specs.code.Compared.{Shares, weight}
+use Rattle.mh_reach_words.specs.code.Words.{spelled, words_of}
 use Rattle.mh_reach_words.proofs.comparing.compare.Given as goal
 
 abbrev pub invariant-parts : goal.invariant-parts

@@ -1,4 +1,4 @@
-use Rattle.mh_reach_words.specs.Words.{words_of}
+use Rattle.mh_reach_words.specs.code.Words.{words_of}
 use Rattle.mh_reach_words.proofs.Turning.{left_ends}
 use Rattle.mh_reach_words.proofs.comparing.left_ended.Goals as goal
 

@@ -1,6 +1,6 @@
 use Rattle.std.proofs.lemmas.Result.{on_ok_weaker}
 use Rattle.mh_reach_words.proofs.Turning.{left_word_known, left_opened}
-use Rattle.mh_reach_words.specs.Words.{words_of}
+use Rattle.mh_reach_words.specs.code.Words.{words_of}
 use Rattle.mh_reach_words.proofs.comparing.open_left.Goals as goal
 
 pub open-requires-clause-known : goal.open-requires-clause-known

@@ -1,4 +1,4 @@
-use Rattle.mh_reach_words.specs.Words.{words_of}
+use Rattle.mh_reach_words.specs.code.Words.{words_of}
 use Rattle.mh_reach_words.proofs.Turning.{tokens_told}
 use Rattle.mh_reach_words.proofs.comparing.turn_both.Goals as goal
 

@@ -1,4 +1,4 @@
-use Rattle.mh_reach_words.specs.Numbered.{Gives}
+use Rattle.mh_reach_words.specs.code.Numbered.{Gives}
 use Rattle.mh_reach_words.proofs.numbering.give.Given as goal
 
 abbrev pub invariant-loop-place : goal.invariant-loop-place

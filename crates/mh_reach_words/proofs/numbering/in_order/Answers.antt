@@ -1,5 +1,5 @@
 use Rattle.std.proofs.lemmas.Result.{IfOk-weaker}
-use Rattle.mh_reach_words.specs.Words.{words_of}
+use Rattle.mh_reach_words.specs.code.Words.{words_of}
 use Rattle.mh_reach_words.proofs.Ordered.{no_later_after}
 use Rattle.mh_reach_words.proofs.numbering.in_order.Goals as goal
 

@@ -1,4 +1,4 @@
-use Rattle.mh_reach_words.specs.Words.{words_of, spelled}
+use Rattle.mh_reach_words.specs.code.Words.{words_of, spelled}
 use Rattle.mh_reach_words.proofs.Ordered.{compared_differs}
 use Rattle.mh_reach_words.proofs.numbering.is_equal.Goals as goal
 

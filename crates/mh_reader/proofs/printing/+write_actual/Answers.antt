@@ -2,8 +2,8 @@ use Rattle.std.proofs.Common.{◌≡◌, [], ◌∷◌, ◌++◌, map, refl, sym
 use Rattle.std.proofs.lemmas.List.{at_drop_all}
 use Rattle.mh_lex.specs.Texts.{laid}
 use Rattle.mh_rules.specs.declared.modules.Actual.{out-Actual}
-use Rattle.mh_reader_parser.specs.Pieces.{mark, ref_piece, bracketed, bracket_end, actual_pieces}
-use Rattle.mh_reader.specs.Printed.{Writes}
+use Rattle.mh_reader_parser.specs.code.Pieces.{mark, ref_piece, bracketed, bracket_end, actual_pieces}
+use Rattle.mh_reader.specs.code.Printed.{Writes}
 use Rattle.mh_reader.proofs.Laid.{writes_then, writes_one, actual_split}
 use Rattle.mh_reader.proofs.printing.+write_actual.Goals as goal
 

@@ -1,6 +1,6 @@
 use Rattle.std.proofs.Common.{◌≡◌, ◌++◌, map, drop}
 use Rattle.mh_lex.specs.Texts.{laid}
-use Rattle.mh_reader_parser.specs.Pieces.{bracket_end, actual_pieces}
+use Rattle.mh_reader_parser.specs.code.Pieces.{bracket_end, actual_pieces}
 use Rattle.mh_reader.proofs.printing.+write_actual.Given as goal
 
 abbrev pub invariant-loop-other : goal.invariant-loop-other

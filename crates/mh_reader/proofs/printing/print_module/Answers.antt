@@ -1,7 +1,7 @@
 use Rattle.std.proofs.Common.{◌++◌, ap, sym, subst, ◌∙◌}
 use Rattle.mh_lex.specs.Texts.{laid}
 use Rattle.mh_reader_parser.specs.Spelling.{Spells}
-use Rattle.mh_reader.specs.Printed.{module_pieces}
+use Rattle.mh_reader.specs.code.Printed.{module_pieces}
 use Rattle.mh_reader.proofs.Reprinted.{printed_spells, read_again}
 use Rattle.mh_reader.proofs.printing.print_module.Goals as goal
 

@@ -1,4 +1,4 @@
-use Rattle.mh_reader_parser.specs.Pieces.{actual_pieces}
+use Rattle.mh_reader_parser.specs.code.Pieces.{actual_pieces}
 use Rattle.mh_reader.proofs.Laid.{writes_next}
 use Rattle.mh_reader.proofs.printing.write_actuals.Goals as goal
 

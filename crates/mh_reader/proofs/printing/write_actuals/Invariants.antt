@@ -1,7 +1,7 @@
 use Rattle.std.proofs.Common.{◌≡◌, ◌++◌, drop}
 use Rattle.std.specs.List.{flat_map}
 use Rattle.mh_lex.specs.Texts.{laid}
-use Rattle.mh_reader_parser.specs.Pieces.{actual_pieces}
+use Rattle.mh_reader_parser.specs.code.Pieces.{actual_pieces}
 use Rattle.mh_reader.proofs.printing.write_actuals.Given as goal
 
 abbrev pub invariant-loop-actual : goal.invariant-loop-actual

@@ -1,7 +1,7 @@
 use Rattle.std.proofs.Common.{[], ◌∷◌, ◌++◌}
 use Rattle.std.specs.List.{flat_map}
-use Rattle.mh_reader_parser.specs.Pieces.{mark, actual_pieces}
-use Rattle.mh_reader.specs.Printed.{action, prec_pieces}
+use Rattle.mh_reader_parser.specs.code.Pieces.{mark, actual_pieces}
+use Rattle.mh_reader.specs.code.Printed.{action, prec_pieces}
 use Rattle.mh_reader.proofs.Laid.{writes_then}
 use Rattle.mh_reader.proofs.printing.write_alternative.Goals as goal
 

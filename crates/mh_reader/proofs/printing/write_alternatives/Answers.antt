@@ -1,4 +1,4 @@
-use Rattle.mh_reader.specs.Printed.{alternative_pieces}
+use Rattle.mh_reader.specs.code.Printed.{alternative_pieces}
 use Rattle.mh_reader.proofs.Laid.{writes_next}
 use Rattle.mh_reader.proofs.printing.write_alternatives.Goals as goal
 

@@ -1,6 +1,6 @@
 use Rattle.std.proofs.Common.{◌≡◌, ◌++◌, map, drop}
 use Rattle.mh_lex.specs.Texts.{laid}
-use Rattle.mh_reader_parser.specs.Pieces.{ref_piece}
+use Rattle.mh_reader_parser.specs.code.Pieces.{ref_piece}
 use Rattle.mh_reader.proofs.printing.write_level.Given as goal
 
 abbrev pub invariant-loop-name : goal.invariant-loop-name

@@ -1,4 +1,4 @@
-use Rattle.mh_reader.specs.Printed.{level_pieces}
+use Rattle.mh_reader.specs.code.Printed.{level_pieces}
 use Rattle.mh_reader.proofs.Laid.{writes_next}
 use Rattle.mh_reader.proofs.printing.write_levels.Goals as goal
 

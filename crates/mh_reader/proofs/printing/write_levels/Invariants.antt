@@ -1,7 +1,7 @@
 use Rattle.std.proofs.Common.{◌≡◌, ◌++◌, drop}
 use Rattle.std.specs.List.{flat_map}
 use Rattle.mh_lex.specs.Texts.{laid}
-use Rattle.mh_reader.specs.Printed.{level_pieces}
+use Rattle.mh_reader.specs.code.Printed.{level_pieces}
 use Rattle.mh_reader.proofs.printing.write_levels.Given as goal
 
 abbrev pub invariant-loop-level : goal.invariant-loop-level

@@ -1,6 +1,6 @@
 use Rattle.std.proofs.Common.{[], ◌∷◌, ◌++◌}
 use Rattle.std.specs.List.{flat_map}
-use Rattle.mh_reader.specs.Printed.{percents, token_pieces, start_pieces, level_pieces, on_error_pieces, rule_pieces}
+use Rattle.mh_reader.specs.code.Printed.{percents, token_pieces, start_pieces, level_pieces, on_error_pieces, rule_pieces}
 use Rattle.mh_reader.proofs.Laid.{writes_then}
 use Rattle.mh_reader.proofs.printing.write_module.Goals as goal
 

@@ -1,7 +1,7 @@
 use Rattle.std.proofs.Common.{[], ◌∷◌, codes}
 use Rattle.std.specs.List.{flat_map}
-use Rattle.mh_reader_parser.specs.Pieces.{actual_pieces}
-use Rattle.mh_reader.specs.Printed.{keyword, on_error_pieces}
+use Rattle.mh_reader_parser.specs.code.Pieces.{actual_pieces}
+use Rattle.mh_reader.specs.code.Printed.{keyword, on_error_pieces}
 use Rattle.mh_reader.proofs.Laid.{writes_then, writes_next}
 use Rattle.mh_reader.proofs.printing.write_on_error.Goals as goal
 

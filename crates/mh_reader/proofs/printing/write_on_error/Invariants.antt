@@ -1,7 +1,7 @@
 use Rattle.std.proofs.Common.{◌≡◌, ◌++◌, drop}
 use Rattle.std.specs.List.{flat_map}
 use Rattle.mh_lex.specs.Texts.{laid}
-use Rattle.mh_reader.specs.Printed.{on_error_pieces}
+use Rattle.mh_reader.specs.code.Printed.{on_error_pieces}
 use Rattle.mh_reader.proofs.printing.write_on_error.Given as goal
 
 abbrev pub invariant-loop-list : goal.invariant-loop-list

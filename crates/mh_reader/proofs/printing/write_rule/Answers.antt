@@ -1,7 +1,7 @@
 use Rattle.std.proofs.Common.{[], ◌∷◌, ◌++◌, codes}
 use Rattle.std.specs.List.{flat_map}
-use Rattle.mh_reader_parser.specs.Pieces.{word, mark}
-use Rattle.mh_reader.specs.Printed.{modifier_pieces, formals_pieces, alternative_pieces}
+use Rattle.mh_reader_parser.specs.code.Pieces.{word, mark}
+use Rattle.mh_reader.specs.code.Printed.{modifier_pieces, formals_pieces, alternative_pieces}
 use Rattle.mh_reader.proofs.Laid.{writes_then}
 use Rattle.mh_reader.proofs.printing.write_rule.Goals as goal
 

@@ -1,4 +1,4 @@
-use Rattle.mh_reader.specs.Printed.{rule_pieces}
+use Rattle.mh_reader.specs.code.Printed.{rule_pieces}
 use Rattle.mh_reader.proofs.Laid.{writes_next}
 use Rattle.mh_reader.proofs.printing.write_rules.Goals as goal
 

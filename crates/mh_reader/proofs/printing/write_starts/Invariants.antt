@@ -1,7 +1,7 @@
 use Rattle.std.proofs.Common.{◌≡◌, ◌++◌, drop}
 use Rattle.std.specs.List.{flat_map}
 use Rattle.mh_lex.specs.Texts.{laid}
-use Rattle.mh_reader.specs.Printed.{start_pieces}
+use Rattle.mh_reader.specs.code.Printed.{start_pieces}
 use Rattle.mh_reader.proofs.printing.write_starts.Given as goal
 
 abbrev pub invariant-loop-start : goal.invariant-loop-start

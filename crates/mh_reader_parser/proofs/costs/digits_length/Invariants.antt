@@ -1,5 +1,5 @@
 use Rattle.std.proofs.Common.{◌≡◌, ◌+◌, drop}
-use Rattle.mh_lex.specs.Bytes.{is_decimal}
+use Rattle.mh_lex_bytes.specs.Bytes.{is_decimal}
 use Rattle.mh_reader_parser.specs.Costs.{front_of}
 use Rattle.mh_reader_parser.proofs.costs.digits_length.Given as goal
 

@@ -1,5 +1,5 @@
 use Rattle.std.proofs.Common.{take}
-use Rattle.mh_reader_parser.specs.Limits.{IsShallow}
+use Rattle.mh_reader_parser.specs.code.Limits.{IsShallow}
 use Rattle.mh_reader_parser.specs.Signs.{reads_of}
 use Rattle.mh_reader_parser.proofs.Exact.{Goes}
 use Rattle.mh_reader_parser.proofs.reading.read_lexemes.Given as goal

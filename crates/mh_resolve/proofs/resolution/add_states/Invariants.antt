@@ -1,5 +1,5 @@
 use Rattle.mh_grammar.specs.Plain.{plain_of}
-use Rattle.mh_items.specs.Closer.{IsCloser}
+use Rattle.mh_items.specs.code.Closer.{IsCloser}
 use Rattle.mh_resolve_cells.proofs.Resolving.{Front, Collected}
 use Rattle.mh_resolve.proofs.resolution.add_states.Given as goal
 

@@ -1,5 +1,5 @@
-use Rattle.std.proofs.Common.{◌++◌, ℕ, List, ap, ap₂, ◌∙◌}
-use Rattle.mh_sample.specs.declared.amounts.TheConstants.{SENTENCES}
+use Rattle.std.proofs.Common.{◌++◌, ℕ, List, ap₂, ◌∙◌}
+use Rattle.mh_sample.specs.declared.texts.TheConstants.{SENTENCES}
 use Rattle.mh_sample.specs.Texts.{each_from, sentence_line, sentences_text}
 use Rattle.mh_sample.proofs.texts.sample_sentences.Goals as goal
 
@@ -7,5 +7,4 @@ pub returns : goal.returns
 unfolding sentences_text
 returns c =
     c.in_ok-write_sentences.ensures
-    ∙ ap (λ (count : ℕ). c.new-text.result.items ++ each_from (sentence_line c.operators.result) 0 count) c.sentences.ensures
     ∙ ap₂ (λ (front : List ℕ) (k : ℕ). front ++ each_from (sentence_line k) 0 SENTENCES) c.new-text.ensures.items c.operators.ensures

@@ -1,4 +1,4 @@
-use Rattle.std.proofs.Common.{ℕ, arith}
+use Rattle.std.proofs.Common.{ℕ, arith, refl}
 use Rattle.mh_sample.specs.Texts.{operand_text, operator_at}
 use Rattle.mh_sample.proofs.Fronts.{each_none, each_push_as}
 use Rattle.mh_sample.proofs.texts.write_operands.Goals as goal
@@ -8,4 +8,4 @@ loop-place-init c = each_none (λ (place : ℕ). operand_text (operator_at c.arg
 
 pub loop-place-preserved : goal.loop-place-preserved
 loop-place-preserved c =
-    each_push_as operand_text (λ (place : ℕ). operator_at c.args.operators c.args.sentence place) 1 c.loop-place.place _ _ c.loop-place.text.items c.write_operand.new.text.items c.args.text.now.items (omega arith) c.operator.ensures c.loop-place.invariant c.in_ok-write_operand.ensures
+    each_push_as operand_text (λ (place : ℕ). operator_at c.args.operators c.args.sentence place) 1 c.loop-place.place _ _ c.loop-place.text.items c.write_operand.new.text.items c.args.text.now.items (omega arith) refl c.loop-place.invariant c.in_ok-write_operand.ensures

@@ -1,7 +1,7 @@
 use Rattle.std.proofs.Common.{subst}
 use Rattle.std.specs.Prelude.{IfOk}
 use Rattle.mh_grammar.specs.Text.{Text}
-use Rattle.mh_session.specs.Worded.{IsTold}
+use Rattle.mh_session.specs.code.Worded.{IsTold}
 use Rattle.mh_session.proofs.LinesAnswered.{said_told}
 use Rattle.mh_session.proofs.answering.serve.Goals as goal
 

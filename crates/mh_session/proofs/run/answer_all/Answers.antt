@@ -1,7 +1,7 @@
 use Rattle.std.proofs.Common.{[], ap, subst, sym, ◌∙◌}
 use Rattle.std.specs.List.{All}
 use Rattle.mh_tables_core.specs.Table.{TableData}
-use Rattle.mh_session.specs.code.Moments.{Moment}
+use Rattle.mh_session.specs.Moments.{Moment}
 use Rattle.mh_session_branches.specs.Answers.{IsKnown, answers}
 use Rattle.mh_session.proofs.run.answer_all.Goals as goal
 

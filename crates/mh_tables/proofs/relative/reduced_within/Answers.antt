@@ -24,12 +24,10 @@ pub returns-then-not-branch-clause-made : goal.returns-then-not-branch-clause-ma
 returns-then-not-branch-clause-made c =
     let made = rw c.if-not-branch.true at c.in_ok-reduce_once.ensures.ok in
     let few = c.tries-test.true in
-    let attempts = c.attempts-count-end.ensures in
-    record { few = omega (arith, few, attempts); made = rw made.1 c.tries.invariant.made; over = rw made.1 made.0 }
+    record { few = omega (arith, few); made = rw made.1 c.tries.invariant.made; over = rw made.1 made.0 }
 
 pub returns-clause-made : goal.returns-clause-made
 returns-clause-made c =
     let end = c.tries.auto.count-end in
-    let attempts = c.attempts-count-end.ensures in
-    let e : suc c.args.most ≡ c.tries.count = omega (arith, c.tries-test.false, end, attempts) in
+    let e : suc c.args.most ≡ c.tries.count = omega (arith, c.tries-test.false, end) in
     rw e c.tries.invariant.made

@@ -1,8 +1,18 @@
-use Rattle.mh_top_plans.proofs.Following.{opened_followed, opened_read}
+use Rattle.std.specs.Prelude.{Ok, Err}
+use Rattle.mh_check.specs.Compiling.{missing}
+use Rattle.mh_opts.specs.declared.jobs.Job.TheVariants.{CompareErrors}
+use Rattle.mh_top_plans.specs.Compared.{compared}
+use Rattle.mh_top_plans.specs.Files.{IsTurnOfJob}
+use Rattle.mh_top_plans.specs.MessagesStage.{AreBoth}
+use Rattle.mh_top_plans.specs.code.Modes.{WritesFinal}
+use Rattle.mh_top_plans.specs.Plan.{writes_final}
+use Rattle.mh_top_plans.proofs.Messaging.{stage_opens}
 use Rattle.mh_top_modes.proofs.comparing.compare_errors.Goals as goal
 
-pub returns-clause-ran : goal.returns-clause-ran
-returns-clause-ran g c = opened_followed _ _ _ _ _ _ _ c.drive_opened.result c.compare_by-opened.result c.compare_by-opened.ensures.opens c.drive_opened.ensures.ran
-
-pub returns-clause-read : goal.returns-clause-read
-returns-clause-read g c = opened_read _ _ _ c.compare_by-opened.result _ _ _ _ _ _ c.drive_opened.result c.compare_by-opened.ensures.opens c.compare_by-opened.ensures.counts c.drive_opened.ensures.ran
+pub returns-in-Err-clause-opens : goal.returns-in-Err-clause-opens
+returns-in-Err-clause-opens g c =
+    let p = c.args.prepared.now in
+    let files = g.F.Shelf.files c.args.shelf.now in
+    let first = c.args.first.now in
+    let second = c.args.second.now in
+    stage_opens (AreBoth files p first second) (IsTurnOfJob (CompareErrors first second) files p) WritesFinal (λ both. writes_final (compared first second (missing both.0 both.1))) c.in-Err.stop c.in-Err.ensures.both

@@ -2,7 +2,7 @@ use Rattle.std.proofs.Common.{◌≡◌, subst}
 use Rattle.std.specs.Prelude.{Option, Err}
 use Rattle.mh_outside.specs.Shelf.{Files}
 use Rattle.mh_grammar.specs.Text.{Text}
-use Rattle.mh_top_drive.specs.Stages.{FilesGive}
+use Rattle.mh_top_drive.specs.code.Stages.{FilesGive}
 use Rattle.mh_top_drive.specs.FileStage.{IsFile}
 use Rattle.mh_top_plans.specs.MessagesStage.{AreMessages, Messages}
 use Rattle.mh_top_modes.proofs.Both.{first_stops, second_stops}

@@ -2,7 +2,7 @@ use Rattle.std.proofs.Common.{◌≡◌, [], refl, sym, subst}
 use Rattle.mh_grammar.specs.declared.types.Grammar.{Grammar}
 use Rattle.mh_tables_core.specs.Table.{TableData}
 use Rattle.mh_session_branches.specs.Answers.{Branches}
-use Rattle.mh_session.specs.code.Moments.{Moment}
+use Rattle.mh_session.specs.Moments.{Moment}
 use Rattle.mh_session.specs.Standing.{StandsFor}
 use Rattle.mh_top_plans.specs.Plan.{Plan, Serves}
 use Rattle.mh_top_modes.proofs.serving.serve_on.Goals as goal

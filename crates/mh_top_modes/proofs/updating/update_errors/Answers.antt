@@ -1,8 +1,11 @@
-use Rattle.mh_top_plans.proofs.Following.{opened_followed, opened_read}
+use Rattle.mh_top_plans.specs.MessagesStage.{IsUpdatedFile}
+use Rattle.mh_top_plans.specs.code.Modes.{WritesFinal}
+use Rattle.mh_top_plans.specs.Plan.{writes_final}
+use Rattle.mh_top_plans.specs.declared.at_end.FinalText.TheVariants.{Written}
+use Rattle.mh_top_plans.proofs.Messaging.{one_opens}
 use Rattle.mh_top_modes.proofs.updating.update_errors.Goals as goal
 
-pub returns-clause-ran : goal.returns-clause-ran
-returns-clause-ran g c = opened_followed _ _ _ _ _ _ _ c.drive_opened.result c.update_by-opened.result c.update_by-opened.ensures.opens c.drive_opened.ensures.ran
-
-pub returns-clause-read : goal.returns-clause-read
-returns-clause-read g c = opened_read _ _ _ c.update_by-opened.result _ _ _ _ _ _ c.drive_opened.result c.update_by-opened.ensures.opens c.update_by-opened.ensures.counts c.drive_opened.ensures.ran
+pub returns-in-Err-clause-opens : goal.returns-in-Err-clause-opens
+returns-in-Err-clause-opens g c =
+    let p = c.args.prepared.now in
+    one_opens p (g.F.Shelf.files c.args.shelf.now) (IsUpdatedFile (g.F.Shelf.files c.args.shelf.now) p c.args.file.now) c.args.file.now WritesFinal (λ text. writes_final (Written text)) c.in-Err.stop c.in-Err.ensures.updated

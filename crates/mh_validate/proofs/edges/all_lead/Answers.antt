@@ -1,7 +1,7 @@
 use Rattle.std.proofs.Common.{sym, true≢false}
 use Rattle.mh_grammar.proofs.Lists.{zip_length}
-use Rattle.mh_validate.specs.Leading.{Leads}
-use Rattle.mh_validate.proofs.Zipping.{zip_all, zip_next, zip_differs}
+use Rattle.mh_validate.specs.code.Leading.{Leads}
+use Rattle.mh_validate_valid.proofs.Zipping.{zip_all, zip_next, zip_differs}
 use Rattle.mh_validate.proofs.edges.all_lead.Goals as goal
 
 pub returns-then-moves-raws : goal.returns-then-moves-raws

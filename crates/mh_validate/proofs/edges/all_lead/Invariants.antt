@@ -1,6 +1,6 @@
 use Rattle.std.proofs.Common.{◌≡◌, ◌↔◌, drop, length}
 use Rattle.std.specs.List.{AllZip}
-use Rattle.mh_validate.specs.Leading.{Leads}
+use Rattle.mh_validate.specs.code.Leading.{Leads}
 use Rattle.mh_validate.proofs.edges.all_lead.Given as goal
 
 abbrev pub invariant-loop-at : goal.invariant-loop-at

@@ -1,6 +1,6 @@
 use Rattle.std.proofs.Common.{rules}
 use Rattle.mh_grammar.proofs.Lists.{zip_length}
-use Rattle.mh_validate.specs.Leading.{Leads}
+use Rattle.mh_validate.specs.code.Leading.{Leads}
 use Rattle.mh_validate.proofs.edges.row_of.Goals as goal
 
 pub edges_on-requires : goal.edges_on-requires

@@ -1,6 +1,6 @@
 use Rattle.std.proofs.Common.{◌↔◌, IsTrue, subst}
 use Rattle.mh_items_kernels.specs.Shapes.{KernelItem}
-use Rattle.mh_validate.specs.Looking.{IsMovedItem}
+use Rattle.mh_validate.specs.code.Looking.{IsMovedItem}
 use Rattle.mh_validate.proofs.Reading.{failing}
 use Rattle.mh_validate.proofs.kernels.are_moved.Goals as goal
 

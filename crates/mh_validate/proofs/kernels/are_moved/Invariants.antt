@@ -1,6 +1,6 @@
 use Rattle.std.proofs.Common.{◌↔◌, drop}
 use Rattle.std.specs.List.{AllByRecursion}
-use Rattle.mh_validate.specs.Looking.{IsMovedItem}
+use Rattle.mh_validate.specs.code.Looking.{IsMovedItem}
 use Rattle.mh_validate.proofs.kernels.are_moved.Given as goal
 
 abbrev pub invariant-loop-at : goal.invariant-loop-at

@@ -1,7 +1,7 @@
 use Rattle.std.proofs.Common.{◌≡◌, ◌<◌, ℕ, [], length}
 use Rattle.std.specs.Prelude.{slice_index_or}
 use Rattle.mh_grammar.specs.Plain.{plain_of}
-use Rattle.mh_items.specs.Mover.{IsMover}
+use Rattle.mh_items.specs.code.Mover.{IsMover}
 use Rattle.mh_validate_valid.specs.Valid.{HasEdges}
 use Rattle.mh_validate.proofs.rows.fill_rows.Given as goal
 

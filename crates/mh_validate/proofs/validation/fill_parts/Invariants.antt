@@ -1,7 +1,7 @@
 use Rattle.std.proofs.Common.{◌≡◌, ◌<◌, ℕ, [], length}
 use Rattle.std.specs.Prelude.{slice_index_or}
 use Rattle.mh_grammar.specs.Plain.{plain_of}
-use Rattle.mh_items.specs.Closer.{IsCloser}
+use Rattle.mh_items.specs.code.Closer.{IsCloser}
 use Rattle.mh_tables_core.specs.Table.{no_state}
 use Rattle.mh_validate_valid.specs.Valid.{IsResolvedAt}
 use Rattle.mh_validate.proofs.validation.fill_parts.Given as goal

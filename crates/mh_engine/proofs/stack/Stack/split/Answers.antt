@@ -2,7 +2,7 @@ use Rattle.std.proofs.Common.{◌≡◌, ℕ, ap, sym, refl, ◌∙◌, ◌++◌
 use Rattle.mh_grammar.specs.Trees.{SyntaxTree}
 use Rattle.mh_engine.specs.declared.stack.Cell.{Cell}
 use Rattle.mh_engine.specs.code.Cells.{pairs_of, pushed, taken}
-use Rattle.mh_engine.specs.code.Pairs.{Pairs}
+use Rattle.mh_engine.specs.Positions.{Pairs}
 use Rattle.mh_engine.proofs.Walks.{walk_begins, walk_goes, walk_room, walk_below, walk_trees}
 use Rattle.mh_engine.proofs.stack.Stack.split.Goals as goal
 

@@ -1,7 +1,7 @@
 use Rattle.std.proofs.Common.{List, ◌<◌, take, vec_len, sym, subst, arith, rules}
 use Rattle.std.proofs.lemmas.List.{take_all}
 use Rattle.mh_items.specs.declared.links.Link.{Link}
-use Rattle.mh_items.specs.Asked.{Adds, IsStep}
+use Rattle.mh_items.specs.code.Asked.{Adds, IsStep}
 use Rattle.mh_grammar.proofs.Lists.{taken, all_at}
 use Rattle.mh_items.proofs.Growing.{Adds-none, links_none, links_step}
 use Rattle.mh_items.proofs.asked.Asked.visit.Goals as goal

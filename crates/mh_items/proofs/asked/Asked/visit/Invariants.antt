@@ -1,5 +1,5 @@
 use Rattle.std.proofs.Common.{take}
-use Rattle.mh_items.specs.Asked.{Adds, IsStep}
+use Rattle.mh_items.specs.code.Asked.{Adds, IsStep}
 use Rattle.mh_items.proofs.asked.Asked.visit.Given as goal
 
 abbrev pub invariant-loop-link : goal.invariant-loop-link

@@ -1,6 +1,6 @@
 use Rattle.std.proofs.Common.{ap, ◌∙◌}
 use Rattle.std.specs.List.{position}
-use Rattle.mh_join_names.specs.Listed.{Listed}
+use Rattle.mh_join_names.specs.code.Listed.{Listed}
 use Rattle.mh_join_names.specs.Names.{same}
 use Rattle.mh_join_names.proofs.Listing.{place_within}
 use Rattle.mh_join_names.proofs.name_list.NameList.place_of.Goals as goal

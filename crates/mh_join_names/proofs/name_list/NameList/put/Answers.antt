@@ -1,7 +1,7 @@
 use Rattle.std.proofs.Common.{◌≡◌, ◌∷◌, ◌++◌, [], List, true, false, sym, ap, subst, ◌∙◌}
 use Rattle.std.specs.Prelude.{OnOk}
 use Rattle.mh_grammar.specs.Text.{Text}
-use Rattle.mh_join_names.specs.Listed.{Listed}
+use Rattle.mh_join_names.specs.code.Listed.{Listed}
 use Rattle.mh_join_names.proofs.Listing.{placed_has, puts_name}
 use Rattle.mh_join_names.proofs.name_list.NameList.put.Goals as goal
 

@@ -3,9 +3,9 @@ use Rattle.std.proofs.lemmas.Option.{slice_get_within}
 use Rattle.mh_grammar.specs.Plain.{plain_of}
 use Rattle.mh_items_kernels.specs.Shapes.{Kernel}
 use Rattle.mh_items_kernels.specs.Kernels.{Holds}
-use Rattle.mh_canon_states.specs.Weak.{OneCore}
+use Rattle.mh_pager_steps.specs.Weak.{OneCore}
 use Rattle.mh_canon_states.specs.declared.limits.TheConstants.{MAX_STATES}
-use Rattle.mh_pager.specs.Worklist.{work_of, OneCoreAt}
+use Rattle.mh_pager.specs.code.Worklist.{work_of, OneCoreAt}
 use Rattle.mh_pager.proofs.Combining.{if_ok, taken, appended, overflown}
 use Rattle.mh_pager.proofs.worklist.Worklist.put_unkept.Goals as goal
 

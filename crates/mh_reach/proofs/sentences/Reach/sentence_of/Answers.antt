@@ -2,7 +2,7 @@ use Rattle.std.proofs.Common.{◌≡◌, ◌++◌, ◌∷◌, [], arith, sym, �
 use Rattle.std.specs.Prelude.{reverse}
 use Rattle.mh_tables_core.specs.Table.{TableData}
 use Rattle.mh_tables_core.specs.Failing.{FailsFirst, FailsCheaply}
-use Rattle.mh_reach.specs.Reaching.{BestOk}
+use Rattle.mh_reach.specs.code.Best.{BestOk}
 use Rattle.mh_reach.proofs.First.{index_at, best_first}
 use Rattle.mh_reach.proofs.sentences.Reach.sentence_of.Goals as goal
 

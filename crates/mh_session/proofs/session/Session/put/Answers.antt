@@ -1,8 +1,8 @@
 use Rattle.std.proofs.Common.{Some, ap, subst, sym, ◌∙◌}
 use Rattle.std.specs.Map.{update}
 use Rattle.mh_grammar.specs.Text.{Text}
-use Rattle.mh_session_branches.specs.Renamed.{at_name, same}
-use Rattle.mh_session.specs.code.Moments.{Moment}
+use Rattle.mh_session_branches.specs.Names.{at_name, same}
+use Rattle.mh_session.specs.Moments.{Moment}
 use Rattle.mh_session.specs.code.Puts.{Puts}
 use Rattle.mh_session.proofs.ValuesByName.{puts_of}
 use Rattle.mh_session.proofs.session.Session.put.Goals as goal

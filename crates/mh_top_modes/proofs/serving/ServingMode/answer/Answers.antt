@@ -5,7 +5,7 @@ use Rattle.mh_grammar.specs.declared.types.Grammar.{Grammar}
 use Rattle.mh_grammar.specs.declared.types.Memory.{Memory}
 use Rattle.mh_tables_core.specs.Table.{TableData}
 use Rattle.mh_session_branches.specs.Answers.{Branches}
-use Rattle.mh_session.specs.code.Moments.{Moment}
+use Rattle.mh_session.specs.Moments.{Moment}
 use Rattle.mh_session.specs.Standing.{StandsFor}
 use Rattle.mh_session_branches.specs.Replies.{AnswersLine}
 use Rattle.mh_session.specs.Told.{ToldLine}

@@ -1,6 +1,0 @@
-use Rattle.std.proofs.Common.{ℕ, ◌<◌}
-use Rattle.mh_canon_states.specs.Kernels.{FitBefore}
-use Rattle.mh_canon_states.proofs.compatible.are_compatible.Given as goal
-
-abbrev pub invariant-loop-j : goal.invariant-loop-j
-invariant-loop-j g l = (k : ℕ) → k < l.j → FitBefore l.left l.right k

@@ -1,6 +1,0 @@
-use Rattle.std.proofs.Common.{ℕ, ◌<◌}
-use Rattle.mh_canon_states.specs.Kernels.{FitAt}
-use Rattle.mh_canon_states.proofs.compatible.fit_before.Given as goal
-
-abbrev pub invariant-loop-i : goal.invariant-loop-i
-invariant-loop-i g l = (k : ℕ) → k < l.i → FitAt l.left l.right k l.j

@@ -1,6 +1,0 @@
-use Rattle.mh_canon_states.specs.Fits.{HasFit}
-use Rattle.mh_canon_states.proofs.Candidates.{NoneBefore}
-use Rattle.mh_canon_states.proofs.finding.first_fitting.Given as goal
-
-abbrev pub invariant-loop-candidate : goal.invariant-loop-candidate
-invariant-loop-candidate g l = NoneBefore (HasFit l.fit l.kernel) l.kernels l.states l.candidate-index

@@ -1,4 +1,0 @@
-use Rattle.mh_canon_states.proofs.finding.fits.Goals as goal
-
-pub returns-in-Takes : goal.returns-in-Takes
-returns-in-Takes g c = rw c.in-Takes.is c.weakly_compatible.ensures

@@ -1,0 +1,32 @@
+//! Heads with arguments.
+ghost use Rattle.std.specs.Prelude.{◌≡◌, ◌∷◌, ◌++◌, [], IfOk, OnOk};
+
+use mh_grammar::{Memory, Sequence};
+use mh_rules::Head;
+
+/// A head with the numbers of its arguments.
+#[derive(Drop, PartialEq, Eq, Hash)]
+pub(crate) struct Application {
+    pub head: Head,
+    pub args: Sequence<usize>,
+}
+
+impl Application {
+    /// The same head with the same arguments, which is what a formal stands for. Fails for want of memory alone.
+    pub(crate) fn copied(&self) -> Result<Application, Memory>
+        ensures { IfOk result (λ n. n ≡ self.now) }
+    {
+        Ok(Application {
+            head: self.head,
+            args: self.args.clone()?,
+        })
+    }
+
+    /// Adds an argument after the others. Fails for want of memory alone.
+    pub(crate) fn add_argument(&mut self, number: usize) -> Result<(), Memory>
+        ensures { OnOk result (self.new ≡ record { head = self.old.head; args = self.old.args ++ number ∷ [] }) }
+    {
+        self.args.push(number)?;
+        Ok(())
+    }
+}

@@ -1,0 +1,53 @@
+//! Why rules are not expanded.
+use mh_grammar::{Memory, Name};
+use std::alloc::{AllocError, AllocFailed};
+use thiserror::Error;
+
+/// The first fault in the order of finding; at one place `Arity` comes before `Expansion`.
+#[derive(Debug, Drop, Error)]
+pub enum ExpandFault {
+    /// The term of this printed name, which may be longer than that of an instance, has not as many arguments as its rule has
+    /// formals, or is a token with arguments. Starts are asked too.
+    #[error("a rule or token with a wrong count of arguments")]
+    Arity { instance: Name },
+    /// A new instance of the rule of this printed name has itself a printed name of more than 1,000 bytes, or is the
+    /// 20,001st instance.
+    #[error("a rule has too many or too long instances")]
+    Expansion { name: Name },
+    /// Memory ran out, or the name of a term with a wrong count of arguments has more than 16 MiB.
+    #[error("out of memory")]
+    Memory,
+}
+
+impl From<Memory> for ExpandFault {
+    ghost use Rattle.std.specs.Prelude.{◌≡◌};
+    ghost use Rattle.mh_expand.specs.declared.fault.ExpandFault.TheVariants.{Memory as memory};
+
+    ghost from_gives = { λ _ e. e ≡ memory };
+
+    fn from(_: Memory) -> ExpandFault {
+        ExpandFault::Memory
+    }
+}
+
+impl From<AllocError> for ExpandFault {
+    ghost use Rattle.std.specs.Prelude.{◌≡◌};
+    ghost use Rattle.mh_expand.specs.declared.fault.ExpandFault.TheVariants.{Memory as memory};
+
+    ghost from_gives = { λ _ e. e ≡ memory };
+
+    fn from(_: AllocError) -> ExpandFault {
+        ExpandFault::Memory
+    }
+}
+
+impl<T: Drop> From<AllocFailed<T>> for ExpandFault {
+    ghost use Rattle.std.specs.Prelude.{◌≡◌};
+    ghost use Rattle.mh_expand.specs.declared.fault.ExpandFault.TheVariants.{Memory as memory};
+
+    ghost from_gives = { λ _ e. e ≡ memory };
+
+    fn from(_: AllocFailed<T>) -> ExpandFault {
+        ExpandFault::Memory
+    }
+}

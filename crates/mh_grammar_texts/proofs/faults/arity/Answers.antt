@@ -1,4 +1,0 @@
-use Rattle.mh_grammar_texts.proofs.faults.arity.Goals as goal
-
-pub returns : goal.returns
-returns c = c.named.ensures

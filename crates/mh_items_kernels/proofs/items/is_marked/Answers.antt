@@ -1,5 +1,0 @@
-use Rattle.std.proofs.Common.{rules}
-use Rattle.mh_items_kernels.proofs.items.is_marked.Goals as goal
-
-pub returns : goal.returns
-returns c = search rules

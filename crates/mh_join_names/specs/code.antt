@@ -1,0 +1,5 @@
+pub mod Puts
+pub mod Definers
+pub mod Listed
+pub mod Numbering
+pub mod Maps

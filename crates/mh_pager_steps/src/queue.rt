@@ -1,0 +1,74 @@
+//! The states that wait for their edges.
+ghost use Rattle.std.specs.Prelude.{◌≡◌, ◌<◌, ◌+◌, ◌^◌, ◌++◌, ◌∷◌, [], length, OnOk, MatchOption};
+ghost use Rattle.mh_pager_steps.specs.Steps.{Queues};
+ghost use Rattle.mh_pager_steps.specs.code.Flagged.{AreFlagged};
+
+use std::alloc::{AllocError, AllocFailed, Global};
+use std::collections::VecDeque;
+
+/// The states that wait, the oldest first, and for each state whether it does.
+#[derive(Drop)]
+pub struct Queue {
+    /// The states that wait, the oldest first.
+    pub states: VecDeque<u32>,
+    /// For each state whether it waits.
+    pub waits: Vec<bool>,
+}
+
+impl Queue {
+    /// There is no state yet. It takes no memory.
+    pub fn new(alloc: Global) -> Queue
+        ensures states { result.states.items ≡ [] }
+        ensures waits { result.waits.items ≡ [] }
+    {
+        Queue {
+            states: VecDeque::new(alloc),
+            waits: Vec::new(alloc),
+        }
+    }
+
+    /// Takes the state that waits longest.
+    pub fn take_oldest(&mut self) -> Option<u32>
+        requires { AreFlagged self.old.states.items self.old.waits.items }
+        ensures oldest { MatchOption result ((self.old.states.items ≡ []) × (self.new.states.items ≡ [])) (λ n. self.old.states.items ≡ n ∷ self.new.states.items) }
+        ensures flagged { AreFlagged self.new.states.items self.new.waits.items }
+        ensures len { length self.new.waits.items ≡ length self.old.waits.items }
+    {
+        match self.states.pop_front() {
+            Some(state) => {
+                self.waits[state as usize] = false;
+                Some(state)
+            }
+            None => None,
+        }
+    }
+
+    /// Queues a new state, whose number is the next one. Fails for want of memory alone.
+    pub fn add(&mut self) -> Result<(), AllocError>
+        requires flagged { AreFlagged self.old.states.items self.old.waits.items }
+        requires few { length self.old.waits.items < 2 ^ 32 }
+        ensures states { OnOk result (self.new.states.items ≡ self.old.states.items ++ length self.old.waits.items ∷ []) }
+        ensures flagged { OnOk result (AreFlagged self.new.states.items self.new.waits.items) }
+        ensures len { OnOk result (length self.new.waits.items ≡ length self.old.waits.items + 1) }
+    {
+        self.states.push_back(self.waits.len() as u32)?;
+        self.waits.push(true)?;
+        Ok(())
+    }
+
+    /// Queues a state, unless it waits already. Fails for want of memory alone.
+    pub fn add_again(&mut self, state: u32) -> Result<(), AllocFailed<u32>>
+        requires flagged { AreFlagged self.old.states.items self.old.waits.items }
+        requires known { state < length self.old.waits.items }
+        ensures states { OnOk result (Queues self.old.states.items state self.new.states.items) }
+        ensures flagged { OnOk result (AreFlagged self.new.states.items self.new.waits.items) }
+        ensures len { OnOk result (length self.new.waits.items ≡ length self.old.waits.items) }
+    {
+        if self.waits[state as usize] {
+            return Ok(());
+        }
+        self.states.push_back(state)?;
+        self.waits[state as usize] = true;
+        Ok(())
+    }
+}

@@ -1,0 +1,4 @@
+pub mod Compared
+pub mod Numbered
+pub mod Rising
+pub mod Words

@@ -1,8 +1,0 @@
-use Rattle.std.proofs.Common.{rules}
-use Rattle.mh_resolve_cells.proofs.levels.compare.Goals as goal
-
-pub returns-in-Left : goal.returns-in-Left
-returns-in-Left c = search rules
-
-pub returns-in-Nonassoc : goal.returns-in-Nonassoc
-returns-in-Nonassoc c = search rules

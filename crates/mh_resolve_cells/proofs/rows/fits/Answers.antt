@@ -1,8 +1,0 @@
-use Rattle.std.proofs.Common.{rules}
-use Rattle.mh_resolve_cells.proofs.rows.fits.Goals as goal
-
-pub returns-in-Reduce : goal.returns-in-Reduce
-returns-in-Reduce c = search rules
-
-pub returns-in-Shift : goal.returns-in-Shift
-returns-in-Shift c = search rules

@@ -1,0 +1,17 @@
+use Rattle.std.proofs.Common.{◌≡◌, ap, sym, subst, ◌∙◌, refl}
+use Rattle.std.specs.Prelude.{IsTrue, true}
+use Rattle.mh_engine.specs.Positions.{Position}
+use Rattle.mh_engine.specs.Phases.{phase_of, CanGoOn}
+use Rattle.mh_engine.specs.Steps.{resumed}
+use Rattle.mh_tables_core.specs.Deep.{too_deep}
+use Rattle.mh_session.specs.Moments.{Moment}
+use Rattle.mh_session_branches.specs.Names.{at_name}
+use Rattle.mh_session.proofs.ValuesByName.{removal_of}
+use Rattle.mh_session.proofs.Serving.{found_none, begin_served, offer_served, resume_served, deep_served, resumed_of, fork_served, forget_served, DidPut}
+use Rattle.mh_session.proofs.session.Session.offer.Goals as goal
+
+pub returns : goal.returns
+returns c =
+    offer_served c.args.self.now c.put.new.self c.args.name.now c.args.token c.in-InputNeeded.state c.in-Some.checkpoint.now c.in_ok-offered.offered c.put.result (sym c.in-Some.ensures.found) c.in-Some.ensures.table (sym c.in-InputNeeded.ensures)
+    c.in_ok-offered.ensures.made
+    (record { reply = c.put.ensures.reply; fault = c.put.ensures.fault; put = c.put.ensures.put; same = c.put.ensures.same })

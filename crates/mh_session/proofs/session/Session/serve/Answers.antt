@@ -1,0 +1,22 @@
+use Rattle.mh_session.proofs.session.Session.serve.Goals as goal
+
+pub returns-in-Begin : goal.returns-in-Begin
+returns-in-Begin c = rw c.in-Begin.is c.begin.ensures
+
+pub returns-in-Offer : goal.returns-in-Offer
+returns-in-Offer c = rw c.in-Offer.is c.offer.ensures
+
+pub returns-in-Resume : goal.returns-in-Resume
+returns-in-Resume c = rw c.in-Resume.is c.resume.ensures
+
+pub returns-in-Fork : goal.returns-in-Fork
+returns-in-Fork c = rw c.in-Fork.is c.fork.ensures
+
+pub returns-in-Show : goal.returns-in-Show
+returns-in-Show c = rw c.in-Show.is c.show.ensures
+
+pub returns-in-Tree : goal.returns-in-Tree
+returns-in-Tree c = rw c.in-Tree.is c.tree.ensures
+
+pub returns-in-Forget : goal.returns-in-Forget
+returns-in-Forget c = rw c.in-Forget.is c.forget.ensures

@@ -1,0 +1,107 @@
+//! The chapters in order. The grammar, the automaton and the table are made once, and each chapter is lent what it needs.
+ghost use Rattle.std.specs.Prelude.{◌≤◌, length};
+ghost use Rattle.mh_grammar.specs.Costs.{HaveCosts};
+ghost use Rattle.mh_grammar.specs.Plain.{plain_of, IsInRange};
+ghost use Rattle.mh_items_kernels.specs.Automaton.{IsAutomaton};
+ghost use Rattle.mh_resolve_cells.specs.States.{IsTableOf};
+ghost use Rattle.mh_resolve_cells.specs.declared.kinds.Mode.TheVariants.{Merged};
+
+use crate::catalogue_and_messages::{compiled, lines, messages_files, refused, rows, search};
+use crate::checkpoints_and_sessions::{
+    checkpoints, lines_of_a_session, unknown_token, whole_session,
+};
+use crate::from_text_to_verdict::{automaton_of, grammar_of, is_small, table_of, traces, verdicts};
+use crate::small_rooms::derivations;
+use crate::tables_and_validation::{
+    automata, automaton_as_text, cells, items, read_and_tested, warnings, written,
+};
+use crate::trees::{made_by_a_run, made_by_hand};
+use mh_grammar::Grammar;
+use mh_items::Automaton;
+use mh_tables::Halting;
+use mh_worked_files::ONE_SENTENCE;
+use std::alloc::Global;
+use std::process::Abort;
+use std::test::Fail;
+
+/// What needs the table.
+fn with_table(
+    rt: &impl Abort,
+    alloc: Global,
+    grammar: &Grammar,
+    automaton: &Automaton<1>,
+    table: &Halting,
+) -> Result<(), Fail>
+    requires range { IsInRange (plain_of grammar.now) }
+    requires automaton { IsAutomaton (plain_of grammar.now) automaton.now }
+    requires table { IsTableOf grammar.now automaton.now Merged table.now }
+{
+    verdicts(rt, alloc, table)?;
+    traces(rt, alloc, table)?;
+    made_by_a_run(rt, alloc, grammar, table)?;
+    checkpoints(rt, alloc, table)?;
+    lines_of_a_session(rt, alloc, grammar, table)?;
+    whole_session(rt, alloc, grammar, table)?;
+    search(rt, alloc, grammar, automaton, table)?;
+    rows(rt, alloc, table)?;
+    messages_files(rt, alloc, grammar, automaton, table)?;
+    compiled(rt, alloc, grammar, table)?;
+    refused(rt, alloc, grammar, table)?;
+    cells(rt, table)?;
+    automaton_as_text(rt, alloc, grammar, automaton, table)?;
+    written(rt, alloc, grammar, automaton, table)
+}
+
+/// What needs the automaton.
+fn with_automaton(
+    rt: &impl Abort,
+    alloc: Global,
+    grammar: &Grammar,
+    automaton: &Automaton<1>,
+) -> Result<(), Fail>
+    requires width { length grammar.now.tokens ≤ 64 }
+    requires range { IsInRange (plain_of grammar.now) }
+    requires costs { HaveCosts grammar.now.tokens }
+    requires automaton { IsAutomaton (plain_of grammar.now) automaton.now }
+{
+    automata(rt, alloc, grammar, automaton)?;
+    let table = table_of(alloc, grammar, automaton)?;
+    let result = with_table(rt, alloc, grammar, automaton, &table);
+    drop(table);
+    result
+}
+
+/// What needs the grammar alone.
+fn with_grammar(rt: &impl Abort, alloc: Global, grammar: &Grammar) -> Result<(), Fail>
+    requires width { length grammar.now.tokens ≤ 64 }
+    requires range { IsInRange (plain_of grammar.now) }
+    requires costs { HaveCosts grammar.now.tokens }
+{
+    derivations(rt, alloc, grammar)?;
+    made_by_hand(rt, alloc, grammar)?;
+    unknown_token(rt, alloc, grammar)?;
+    lines(rt, alloc, grammar)?;
+    warnings(rt, alloc, grammar)?;
+    items(rt, alloc, grammar)?;
+    read_and_tested(rt, alloc, grammar)?;
+    let automaton = automaton_of(alloc, grammar)?;
+    let result = with_automaton(rt, alloc, grammar, &automaton);
+    drop(automaton);
+    result
+}
+
+/// A test of the size gives the contracts what they ask of a grammar.
+fn with_any(rt: &impl Abort, alloc: Global, grammar: &Grammar) -> Result<(), Fail> {
+    if !is_small(grammar) {
+        return Err(Fail::from("a large grammar"));
+    }
+    with_grammar(rt, alloc, grammar)
+}
+
+#[test]
+fn chapters(rt: HostRuntime) -> Result<(), Fail> {
+    let grammar = grammar_of(rt.alloc(), ONE_SENTENCE)?;
+    let result = with_any(&rt, rt.alloc(), &grammar);
+    drop(grammar);
+    result
+}

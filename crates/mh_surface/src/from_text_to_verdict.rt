@@ -1,0 +1,312 @@
+//! From the text of a grammar file to the verdict on a sentence. Each stage is one call: lexemes, module, joined rules, instances,
+//! grammar, automaton, table, verdict.
+ghost use Rattle.std.specs.Prelude.{◌≡◌, ◌≤◌, ◌<◌, ◌^◌, length, All, IfOk, IsTrue};
+ghost use Rattle.mh_grammar.specs.Costs.{HaveCosts};
+ghost use Rattle.mh_grammar.specs.Plain.{plain_of, IsInRange};
+ghost use Rattle.mh_items_kernels.specs.Automaton.{IsAutomaton};
+ghost use Rattle.mh_resolve_cells.specs.States.{IsTableOf};
+ghost use Rattle.mh_resolve_cells.specs.declared.kinds.Mode.TheVariants.{Merged};
+ghost use Rattle.mh_rules.specs.Ready.{AreModulesReady, IsExpandedReady, IsModuleReady, IsReady};
+
+use mh_expand::{Expanded, Instance, InstanceProduction, Part, expand};
+use mh_grammar::{
+    Assoc, Grammar, Level, NontermInfo, Production, Symbol, Token, TokenInfo, has_costs_in_range,
+    is_in_range,
+};
+use mh_inline::inline_rules;
+use mh_items::Automaton;
+use mh_join::{Applied, Head, Joined, JoinedAlternative, JoinedRule, Prec, join};
+use mh_lex::{Kind, Lexeme, lex};
+use mh_pager::merged;
+use mh_reader::{Actual, Alternative, Module, Ref, Rule, print_module, read_module};
+use mh_resolve::{Mode, resolve};
+use mh_run::{Verdict, trace, verdict};
+use mh_tables::{Halting, check_halts};
+use mh_worked_files::ONE_SENTENCE;
+use std::alloc::Global;
+use std::process::Abort;
+use std::test::Fail;
+
+/// The first token of the grammar.
+pub const A: Token = 0;
+
+/// The second token of the grammar.
+pub const EOF: Token = 1;
+
+/// The module that a grammar file spells: its declarations and rules, with names as they are written.
+fn module_of(alloc: Global, text: &str) -> Result<Module, Fail>
+    ensures { IfOk result IsModuleReady }
+{
+    if text.len() > 1_000_000 {
+        return Err(Fail::from("a long file"));
+    }
+    match read_module(alloc, text.as_bytes()) {
+        Ok(module) => Ok(module),
+        Err(_) => Err(Fail::from("a file that spells no module")),
+    }
+}
+
+/// A list of one module, since a grammar may have several files.
+pub fn modules_of(alloc: Global, text: &str) -> Result<Vec<Module>, Fail>
+    ensures { IfOk result (λ modules. AreModulesReady modules.items) }
+{
+    let mut modules = Vec::new(alloc);
+    modules.push(module_of(alloc, text)?)?;
+    Ok(modules)
+}
+
+/// The rules of all files, with each name looked up. Here the prelude, with `list` and its kin, is left out.
+fn joined_of(alloc: Global, text: &str) -> Result<Joined, Fail>
+    ensures { IfOk result IsReady }
+{
+    let modules = modules_of(alloc, text)?;
+    let joined = join(alloc, modules.as_slice(), false);
+    drop(modules);
+    Ok(joined?)
+}
+
+/// The instances of the rules: each rule with the actuals that it is used with.
+fn expanded_of(alloc: Global, text: &str) -> Result<Expanded, Fail>
+    ensures { IfOk result IsExpandedReady }
+{
+    let joined = joined_of(alloc, text)?;
+    let expanded = expand(alloc, &joined);
+    drop(joined);
+    Ok(expanded?)
+}
+
+/// The grammar: the instances without those that are `%inline`, with numbers in place of names.
+pub fn grammar_of(alloc: Global, text: &str) -> Result<Grammar, Fail> {
+    let expanded = expanded_of(alloc, text)?;
+    let grammar = inline_rules(alloc, &expanded);
+    drop(expanded);
+    Ok(grammar?)
+}
+
+/// Whether a grammar has at most 64 tokens, so that a set of looks fits in one word.
+pub fn is_small(grammar: &Grammar) -> bool
+    ensures width { IsTrue result → length grammar.now.tokens ≤ 64 }
+    ensures range { IsTrue result → IsInRange (plain_of grammar.now) }
+    ensures costs { IsTrue result → HaveCosts grammar.now.tokens }
+{
+    is_in_range(grammar) && has_costs_in_range(grammar) && grammar.tokens.len() <= 64
+}
+
+/// The automaton, by Pager's method. Its sets of looks have one word.
+pub fn automaton_of(alloc: Global, grammar: &Grammar) -> Result<Automaton<1>, Fail>
+    requires width { length grammar.now.tokens ≤ 64 }
+    requires range { IsInRange (plain_of grammar.now) }
+    ensures { IfOk result (IsAutomaton (plain_of grammar.now)) }
+{
+    match merged::<1>(alloc, grammar) {
+        Ok(automaton) => Ok(automaton),
+        Err(_) => Err(Fail::from("no automaton")),
+    }
+}
+
+/// The table of the automaton. This grammar has no conflict, and on its table each run ends.
+pub fn table_of(alloc: Global, grammar: &Grammar, automaton: &Automaton<1>) -> Result<Halting, Fail>
+    requires width { length grammar.now.tokens ≤ 64 }
+    requires range { IsInRange (plain_of grammar.now) }
+    requires costs { HaveCosts grammar.now.tokens }
+    requires automaton { IsAutomaton (plain_of grammar.now) automaton.now }
+    ensures { IfOk result (IsTableOf grammar.now automaton.now Merged) }
+{
+    let (table, conflicts) = resolve(alloc, grammar, automaton, Mode::Merged)?;
+    drop(conflicts);
+    match check_halts(alloc, table) {
+        Ok(halting) => Ok(halting),
+        Err(_) => Err(Fail::from("a run does not end")),
+    }
+}
+
+/// Whether a sentence can be run from the first start: its tokens are tokens of the table.
+pub fn can_run(table: &Halting, sentence: &[Token]) -> bool
+    ensures start { IsTrue result → 0 < length table.now.grammar.starts }
+    ensures tokens { IsTrue result → All (λ z. z < table.now.grammar.tokens) sentence.now }
+    ensures few { IsTrue result → length sentence.now < 2000000 }
+{
+    let table = table.table();
+    let tokens = table.tokens();
+    0 < table.starts() && sentence.len() < 2_000_000 && sentence.iter().all(|token| *token < tokens)
+}
+
+/// The verdict on a sentence.
+fn verdict_on(alloc: Global, table: &Halting, sentence: &[Token]) -> Result<Verdict, Fail> {
+    if !can_run(table, sentence) {
+        return Err(Fail::from("not a token of the table"));
+    }
+    Ok(verdict(alloc, table, 0, sentence)?)
+}
+
+/// A sentence is accepted, ends too early, or is refused at a token.
+pub fn verdicts(rt: &impl Abort, alloc: Global, table: &Halting) -> Result<(), Fail> {
+    let found = [
+        verdict_on(alloc, table, &[A, EOF])?,
+        verdict_on(alloc, table, &[A])?,
+        verdict_on(alloc, table, &[A, A])?,
+        verdict_on(alloc, table, &[EOF])?,
+        verdict_on(alloc, table, &[A, EOF, A])?,
+    ];
+    let wanted = [
+        Verdict::Accept { read: 2 },
+        Verdict::Overshoot { state: 1 },
+        Verdict::Reject { at: 1, state: 1 },
+        Verdict::Reject { at: 0, state: 0 },
+        Verdict::Accept { read: 2 },
+    ];
+    assert!(rt; found == wanted);
+    Ok(())
+}
+
+/// A trace also gives the productions that were reduced after the last shift. Production 0 is that of the start, and production 1 is
+/// `s -> A EOF`.
+pub fn traces(rt: &impl Abort, alloc: Global, table: &Halting) -> Result<(), Fail> {
+    let sentence = [A, EOF];
+    if !can_run(table, &sentence) {
+        return Err(Fail::from("not a token of the table"));
+    }
+    let (verdict, reduced) = trace(alloc, table, 0, &sentence)?;
+    assert!(rt; verdict == Verdict::Accept { read: 2 } && reduced.as_slice() == [1].as_slice());
+    drop(reduced);
+    Ok(())
+}
+
+/// The first lexemes are the keyword `%token` and the words `A` and `EOF`, each with its place in the text.
+#[test]
+fn lexemes(rt: HostRuntime) -> Result<(), Fail> {
+    let Ok(lexemes) = lex(rt.alloc(), b"%token A EOF\n") else {
+        return Err(Fail::from("no lexemes"));
+    };
+    let [keyword, first, second]: &[Lexeme] = lexemes.as_slice() else {
+        return Err(Fail::from("three lexemes"));
+    };
+    assert!(rt; keyword.kind == Kind::Keyword && first.kind == Kind::Word);
+    assert!(rt; (second.start, second.end) == (9, 12));
+    Ok(())
+}
+
+/// A module is a value of plain types, and can be printed as a file that spells it again.
+fn check_module(rt: &impl Abort, alloc: Global, module: &Module) -> Result<(), Fail>
+    requires { IsModuleReady «module».now }
+{
+    let counts = [
+        module.tokens.len(),
+        module.starts.len(),
+        module.levels.len(),
+        module.on_error.len(),
+        module.rules.len(),
+    ];
+    assert!(rt; counts == [2, 1, 0, 0, 1]);
+    check_rule(rt, module)?;
+    let text = print_module(alloc, module)?;
+    let again = module_of(alloc, str::from_utf8(&text)?);
+    drop(text);
+    let again = again?;
+    assert!(rt; again.rules.len() == 1 && again.tokens.len() == 2);
+    drop(again);
+    Ok(())
+}
+
+/// The rule `s` has one alternative, whose producers name A and EOF.
+fn check_rule(rt: &impl Abort, module: &Module) -> Result<(), Fail> {
+    let rule: &Rule = module.rules.get(0).ok_or("no rule")?;
+    let alternative: &Alternative = rule.alternatives.get(0).ok_or("no alternative")?;
+    let producer: &Actual = alternative.producers.get(1).ok_or("no second producer")?;
+    assert!(rt; rule.name.as_slice() == "s".as_bytes() && !rule.public && !rule.inlined);
+    assert!(rt; alternative.prec.is_none() && producer.args.is_empty());
+    match &producer.head {
+        Ref::Plain(name) => assert!(rt; name.as_slice() == "EOF".as_bytes()),
+        Ref::Alias(_) => return Err(Fail::from("a name, and no string")),
+    }
+    Ok(())
+}
+
+#[test]
+fn a_file_is_a_module(rt: HostRuntime) -> Result<(), Fail> {
+    let module = module_of(rt.alloc(), ONE_SENTENCE)?;
+    let result = check_module(&rt, rt.alloc(), &module);
+    drop(module);
+    result
+}
+
+/// The rule has one alternative, whose second producer is the token EOF.
+fn check_joined(rt: &impl Abort, joined: &Joined) -> Result<(), Fail> {
+    let rule: &JoinedRule = joined.rules.get(0).ok_or("no rule")?;
+    let alternative: &JoinedAlternative = rule.alternatives.get(0).ok_or("no alternative")?;
+    let producer: &Applied = alternative.producers.get(1).ok_or("no second producer")?;
+    let is_eof = matches!(producer.head, Head::Token(EOF)) && producer.args.is_empty();
+    assert!(rt; is_eof && matches!(alternative.prec, Prec::Absent) && rule.formals == 0);
+    assert!(rt; joined.tokens.len() == 2 && joined.starts.len() == 1 && joined.rules.len() == 1);
+    Ok(())
+}
+
+/// A module is joined: tokens and rules have numbers.
+#[test]
+fn a_module_is_joined(rt: HostRuntime) -> Result<(), Fail> {
+    let joined = joined_of(rt.alloc(), ONE_SENTENCE)?;
+    let result = check_joined(&rt, &joined);
+    drop(joined);
+    result
+}
+
+/// The only instance is the rule itself. A producer is a token or an instance.
+fn check_expanded(rt: &impl Abort, expanded: &Expanded) -> Result<(), Fail> {
+    let instance: &Instance = expanded.instances.get(0).ok_or("no instance")?;
+    let production: &InstanceProduction = instance.productions.get(0).ok_or("no production")?;
+    let is_eof = matches!(production.rhs.get(1), Some(Part::Token(EOF)));
+    assert!(rt; is_eof && instance.name.as_slice() == "s".as_bytes() && !instance.inlined);
+    assert!(rt;
+        expanded.tokens.len() == 2 && expanded.starts.len() == 1 && expanded.instances.len() == 1
+    );
+    Ok(())
+}
+
+/// Joined rules are expanded to instances.
+#[test]
+fn joined_rules_are_expanded(rt: HostRuntime) -> Result<(), Fail> {
+    let expanded = expanded_of(rt.alloc(), ONE_SENTENCE)?;
+    let result = check_expanded(&rt, &expanded);
+    drop(expanded);
+    result
+}
+
+/// The grammar in numbers: production 1 is `s -> A EOF`, and stands first, since production 0 is that of the start.
+fn check_grammar(rt: &impl Abort, grammar: &Grammar) -> Result<(), Fail> {
+    let production: &Production = grammar.productions.get(0).ok_or("no production")?;
+    let right = [Symbol::T(A), Symbol::T(EOF)];
+    assert!(rt; production.lhs == 0 && production.rhs.as_slice() == right.as_slice());
+    let token: &TokenInfo = grammar.tokens.get(1).ok_or("no second token")?;
+    let nonterminal: &NontermInfo = grammar.nonterminals.get(0).ok_or("no nonterminal")?;
+    assert!(rt;
+        token.name.as_slice() == "EOF".as_bytes() && token.level.is_none() && token.cost == 1
+    );
+    assert!(rt; nonterminal.name.as_slice() == "s".as_bytes() && nonterminal.on_error.is_none());
+    Ok(())
+}
+
+#[test]
+fn instances_give_a_grammar(rt: HostRuntime) -> Result<(), Fail> {
+    let grammar = grammar_of(rt.alloc(), ONE_SENTENCE)?;
+    let result = check_grammar(&rt, &grammar);
+    drop(grammar);
+    result
+}
+
+/// A token has the level of its declaration.
+#[test]
+fn levels(rt: HostRuntime) -> Result<(), Fail> {
+    let text = "%token A B %left A %right B %start s %% s: A B {}";
+    let grammar = grammar_of(rt.alloc(), text)?;
+    let level: Option<Level> = match grammar.tokens.get(1) {
+        Some(token) => token.level,
+        None => None,
+    };
+    drop(grammar);
+    let assoc = match level {
+        Some(level) => Some(level.assoc),
+        None => None,
+    };
+    assert!(rt; assoc == Some(Assoc::Right));
+    Ok(())
+}

@@ -1,0 +1,356 @@
+//! Automata and tables: how states are made of items, what a table says, and tables that come from files.
+ghost use Rattle.std.specs.Prelude.{◌≡◌, ◌≤◌, ◌<◌, ◌^◌, length, IfOk};
+ghost use Rattle.mh_grammar.specs.Costs.{HaveCosts};
+ghost use Rattle.mh_grammar.specs.Plain.{plain_of, IsInRange};
+ghost use Rattle.mh_items_kernels.specs.Automaton.{IsAutomaton};
+ghost use Rattle.mh_items_kernels.specs.Kernels.{IsItemList};
+ghost use Rattle.mh_resolve_cells.specs.States.{IsTableOf};
+ghost use Rattle.mh_resolve_cells.specs.declared.kinds.Mode.TheVariants.{Merged};
+
+use crate::from_text_to_verdict::{A, EOF};
+use mh_canon::canonical;
+use mh_grammar::{Edge, Grammar, Look, Memory, Symbol};
+use mh_items::{Automaton, Kernel, closure, firsts, moved, start_kernel};
+use mh_report::{automaton_text, warning_text};
+use mh_resolve::{Conflict, ConflictKind, Mode};
+use mh_tabfile::{RawCells, RawTable, TabFault, read_tables, write_tables};
+use mh_tables::{Action, Fallback, Halting, Table};
+use mh_validate::{Reason, ValidFault, validate};
+use mh_worked_files::ONE_SENTENCE_TABLE;
+use mh_worked_tables::are_apart;
+use std::alloc::Global;
+use std::process::Abort;
+use std::test::Fail;
+
+/// Whether a kernel has these pairs of a production and a dot.
+fn has_pairs(kernel: &Kernel<1>, pairs: &[(u32, u32)]) -> bool {
+    let items = kernel.items.as_slice();
+    items.len() == pairs.len()
+        && items
+            .iter()
+            .zip(pairs)
+            .all(|(item, pair)| (item.production, item.dot) == *pair)
+}
+
+/// The closure of a kernel.
+fn closed_of(alloc: Global, grammar: &Grammar, kernel: &Kernel<1>) -> Result<Kernel<1>, Memory>
+    requires width { length grammar.now.tokens ≤ 64 }
+    requires range { IsInRange (plain_of grammar.now) }
+    requires kernel { IsItemList (plain_of grammar.now) kernel.now }
+    ensures { IfOk result (IsItemList (plain_of grammar.now)) }
+{
+    let sets = firsts(alloc, grammar)?;
+    let closed = closure(alloc, grammar, &sets, kernel);
+    drop(sets);
+    closed
+}
+
+/// The closure of the start kernel `s' -> . s` adds `s -> . A EOF`, and over `A` this item moves to `s -> A . EOF`.
+fn check_closure(
+    rt: &impl Abort,
+    alloc: Global,
+    grammar: &Grammar,
+    kernel: &Kernel<1>,
+) -> Result<(), Fail>
+    requires width { length grammar.now.tokens ≤ 64 }
+    requires range { IsInRange (plain_of grammar.now) }
+    requires kernel { IsItemList (plain_of grammar.now) kernel.now }
+{
+    assert!(rt; has_pairs(kernel, &[(0, 0)]));
+    let closed = closed_of(alloc, grammar, kernel)?;
+    let next = moved(alloc, grammar, &closed, Symbol::T(A));
+    let is_closed = has_pairs(&closed, &[(0, 0), (1, 0)]);
+    drop(closed);
+    let next = next?;
+    assert!(rt; is_closed && has_pairs(&next, &[(1, 1)]));
+    drop(next);
+    Ok(())
+}
+
+/// States are made of items by closures and moves.
+pub fn items(rt: &impl Abort, alloc: Global, grammar: &Grammar) -> Result<(), Fail>
+    requires width { length grammar.now.tokens ≤ 64 }
+    requires range { IsInRange (plain_of grammar.now) }
+{
+    if grammar.starts.is_empty() {
+        return Err(Fail::from("no start"));
+    }
+    let kernel = start_kernel(alloc, grammar, 0)?;
+    let result = check_closure(rt, alloc, grammar, &kernel);
+    drop(kernel);
+    result
+}
+
+/// State 0 goes over `A` to state 1, and over `s` to state 2. State 1 goes over `EOF` to state 3.
+fn has_edges(automaton: &Automaton<1>) -> bool {
+    let wanted = [
+        Edge {
+            symbol: Symbol::T(A),
+            target: 1,
+        },
+        Edge {
+            symbol: Symbol::N(0),
+            target: 2,
+        },
+        Edge {
+            symbol: Symbol::T(EOF),
+            target: 3,
+        },
+    ];
+    let first = match automaton.edges.get(0) {
+        Some(edges) => edges.as_slice() == &wanted[..2],
+        None => false,
+    };
+    let second = match automaton.edges.get(1) {
+        Some(edges) => edges.as_slice() == &wanted[2..],
+        None => false,
+    };
+    first && second && automaton.kernels.len() == 4
+}
+
+/// In this grammar Knuth's canonical automaton has the same states as Pager's, since there is nothing to merge.
+pub fn automata(
+    rt: &impl Abort,
+    alloc: Global,
+    grammar: &Grammar,
+    automaton: &Automaton<1>,
+) -> Result<(), Fail>
+    requires width { length grammar.now.tokens ≤ 64 }
+    requires range { IsInRange (plain_of grammar.now) }
+{
+    assert!(rt; has_edges(automaton));
+    let Ok(larger) = canonical::<1>(alloc, grammar) else {
+        return Err(Fail::from("no automaton"));
+    };
+    let is_same = has_edges(&larger);
+    drop(larger);
+    assert!(rt; is_same);
+    Ok(())
+}
+
+/// The counts of a table. Its productions are that of the start, and `s -> A EOF`.
+fn has_counts(table: &Table) -> bool {
+    (
+        table.states(),
+        table.tokens(),
+        table.starts(),
+        table.productions(),
+    ) == (4, 2, 1, 2)
+}
+
+/// The cells of states 0 and 1, and the defaults of states 2 and 3.
+fn check_cells(rt: &impl Abort, table: &Table)
+    requires states { length table.now.states ≡ 4 }
+    requires tokens { table.now.grammar.tokens ≡ 2 }
+{
+    let cells = [
+        table.action(0, A),
+        table.action(0, EOF),
+        table.action(1, EOF),
+    ];
+    assert!(rt; cells == [Action::Shift(1), Action::Refuse, Action::Shift(3)]);
+    let defaults = [table.fallback(0), table.fallback(2), table.fallback(3)];
+    assert!(rt; defaults == [None, Some(Fallback::Accept), Some(Fallback::Reduce(1))]);
+    assert!(rt; table.goto(0, 0) == Some(2) && table.goto(1, 0).is_none());
+}
+
+/// What a table says.
+pub fn cells(rt: &impl Abort, table: &Halting) -> Result<(), Fail> {
+    let table = table.table();
+    if table.states() != 4 || table.tokens() != 2 {
+        return Err(Fail::from("other counts"));
+    }
+    assert!(rt; has_counts(table));
+    check_cells(rt, table);
+    Ok(())
+}
+
+/// The automaton, as `--show-automaton` shows it.
+const AUTOMATON: &str = "merged: 4 states
+state 0
+  s' -> . s [ # ]
+  A: shift 1
+  s: goto 2
+state 1
+  s -> A . EOF [ # ]
+  EOF: shift 3
+state 2
+  s' -> s . [ # ]
+  default: accept
+state 3
+  s -> A EOF . [ # ]
+  default: reduce s -> A EOF
+";
+
+/// An automaton with its table, as a text for readers.
+pub fn automaton_as_text(
+    rt: &impl Abort,
+    alloc: Global,
+    grammar: &Grammar,
+    automaton: &Automaton<1>,
+    table: &Halting,
+) -> Result<(), Fail>
+    requires range { IsInRange (plain_of grammar.now) }
+    requires automaton { IsAutomaton (plain_of grammar.now) automaton.now }
+    requires table { IsTableOf grammar.now automaton.now Merged table.now }
+{
+    let text = automaton_text(alloc, grammar, automaton, table, Mode::Merged)?;
+    assert_eq!(rt; str::from_utf8(&text)?, AUTOMATON);
+    drop(text);
+    Ok(())
+}
+
+/// A conflict that levels solve is not reported.
+pub fn warnings(rt: &impl Abort, alloc: Global, grammar: &Grammar) -> Result<(), Fail> {
+    let conflicts = [
+        Conflict {
+            state: 1,
+            look: Look::Token(EOF),
+            kind: ConflictKind::Solved,
+        },
+        Conflict {
+            state: 5,
+            look: Look::Token(A),
+            kind: ConflictKind::Unsolved,
+        },
+        Conflict {
+            state: 6,
+            look: Look::End,
+            kind: ConflictKind::Stream,
+        },
+    ];
+    let text = warning_text(alloc, grammar, &conflicts)?;
+    let wanted = "menhir: warning: conflict in state 5 on A\n\
+        menhir: warning: end-of-stream conflict in state 6\n";
+    assert_eq!(rt; str::from_utf8(&text)?, wanted);
+    drop(text);
+    Ok(())
+}
+
+/// A table is written as a file, which can be read and tested later.
+pub fn written(
+    rt: &impl Abort,
+    alloc: Global,
+    grammar: &Grammar,
+    automaton: &Automaton<1>,
+    table: &Halting,
+) -> Result<(), Fail>
+    requires range { IsInRange (plain_of grammar.now) }
+    requires automaton { IsAutomaton (plain_of grammar.now) automaton.now }
+    requires table { IsTableOf grammar.now automaton.now Merged table.now }
+{
+    let text = write_tables(alloc, grammar, automaton, table.table(), Mode::Merged)?;
+    assert_eq!(rt; str::from_utf8(&text)?, ONE_SENTENCE_TABLE);
+    drop(text);
+    Ok(())
+}
+
+/// The content of a table file.
+fn raw_of(alloc: Global, text: &str) -> Result<RawTable, Fail>
+    ensures { IfOk result (λ raw. length raw.states < 2 ^ 32) }
+{
+    if text.len() > 1_000_000 {
+        return Err(Fail::from("a long file"));
+    }
+    match read_tables(alloc, text.as_bytes()) {
+        Ok(raw) if raw.states.len() < 1_000_000 => Ok(raw),
+        Ok(_) => Err(Fail::from("many states")),
+        Err(TabFault::Version) => Err(Fail::from("another version")),
+        Err(TabFault::TabShape { line: _ }) => Err(Fail::from("another form")),
+        Err(TabFault::Memory) => Err(Fail::from("no memory")),
+    }
+}
+
+/// What the file says of state 3: no cells, but a default.
+fn check_raw(rt: &impl Abort, raw: &RawTable) -> Result<(), Fail> {
+    assert!(rt; raw.mode == Mode::Merged && raw.tokens.len() == 2 && raw.productions.len() == 1);
+    let last = raw.states.get(3).ok_or("no state 3")?;
+    let reduces = match last.cells {
+        RawCells::Fallback(fallback) => fallback == Fallback::Reduce(1),
+        RawCells::Cells(_) => false,
+    };
+    assert!(rt; reduces && last.items.len() == 1 && last.edges.is_empty());
+    Ok(())
+}
+
+/// A file is tested against the grammar. A valid file gives the automaton, the table and the conflicts.
+fn check_valid(
+    rt: &impl Abort,
+    alloc: Global,
+    grammar: &Grammar,
+    raw: &RawTable,
+) -> Result<(), Fail>
+    requires width { length grammar.now.tokens ≤ 64 }
+    requires range { IsInRange (plain_of grammar.now) }
+    requires costs { HaveCosts grammar.now.tokens }
+    requires small { length raw.now.states < 2 ^ 32 }
+{
+    if !are_apart(grammar) {
+        return Err(Fail::from("two tokens of one name"));
+    }
+    let Ok(valid) = validate::<1>(alloc, grammar, raw) else {
+        return Err(Fail::from("an invalid file"));
+    };
+    let is_whole = has_edges(&valid.automaton) && has_counts(&valid.table);
+    let is_plain = valid.conflicts.is_empty() && valid.mode == Mode::Merged;
+    drop(valid);
+    assert!(rt; is_whole && is_plain);
+    Ok(())
+}
+
+/// A file in which the edge of state 0 over `A` leads to another state is invalid.
+fn check_invalid(
+    rt: &impl Abort,
+    alloc: Global,
+    grammar: &Grammar,
+    raw: &RawTable,
+) -> Result<(), Fail>
+    requires width { length grammar.now.tokens ≤ 64 }
+    requires range { IsInRange (plain_of grammar.now) }
+    requires costs { HaveCosts grammar.now.tokens }
+    requires small { length raw.now.states < 2 ^ 32 }
+{
+    if !are_apart(grammar) {
+        return Err(Fail::from("two tokens of one name"));
+    }
+    match validate::<1>(alloc, grammar, raw) {
+        Ok(valid) => {
+            drop(valid);
+            Err(Fail::from("a valid file"))
+        }
+        Err(ValidFault::Invalid { state, reason }) => {
+            assert!(rt; state == Some(0) && reason == Reason::Edge);
+            Ok(())
+        }
+        Err(ValidFault::Memory) => Err(Fail::from("no memory")),
+    }
+}
+
+/// Table files, read and tested against the grammar.
+pub fn read_and_tested(rt: &impl Abort, alloc: Global, grammar: &Grammar) -> Result<(), Fail>
+    requires width { length grammar.now.tokens ≤ 64 }
+    requires range { IsInRange (plain_of grammar.now) }
+    requires costs { HaveCosts grammar.now.tokens }
+{
+    let raw = raw_of(alloc, ONE_SENTENCE_TABLE)?;
+    let result = check_file(rt, alloc, grammar, &raw);
+    drop(raw);
+    result?;
+    let changed = ONE_SENTENCE_TABLE.replace(alloc, "edge A 1", "edge A 3")?;
+    let raw = raw_of(alloc, &changed);
+    drop(changed);
+    let raw = raw?;
+    let result = check_invalid(rt, alloc, grammar, &raw);
+    drop(raw);
+    result
+}
+
+fn check_file(rt: &impl Abort, alloc: Global, grammar: &Grammar, raw: &RawTable) -> Result<(), Fail>
+    requires width { length grammar.now.tokens ≤ 64 }
+    requires range { IsInRange (plain_of grammar.now) }
+    requires costs { HaveCosts grammar.now.tokens }
+    requires small { length raw.now.states < 2 ^ 32 }
+{
+    check_raw(rt, raw)?;
+    check_valid(rt, alloc, grammar, raw)
+}

@@ -1,2 +1,0 @@
--- Which files may be asked for.
-pub use Rattle.mh_top_claims.specs.Asking.{AsksFor}

@@ -1,0 +1,4 @@
+pub mod Capitals
+pub mod ModuleFaults
+pub mod GrammarTurns
+pub mod UsageFaults

@@ -1,5 +1,0 @@
-use Rattle.std.proofs.Common.{refl}
-use Rattle.mh_top_modes.proofs.showing.show_automaton.Goals as goal
-
-pub returns-clause-ran : goal.returns-clause-ran
-returns-clause-ran g c = c.drive.ensures.ran _ ((c.requires.few, c.requires.fit), refl)

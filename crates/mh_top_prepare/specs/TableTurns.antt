@@ -1,2 +1,0 @@
--- Which table files may be asked for.
-pub use Rattle.mh_top_tables.specs.Turns.{AsksForTables}

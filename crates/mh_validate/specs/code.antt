@@ -1,0 +1,4 @@
+pub mod Comparing
+pub mod Found
+pub mod Leading
+pub mod Looking

@@ -1,6 +1,0 @@
--- What a search finds.
-use Rattle.std.specs.Prelude.{Option, MatchOption}
-
--- what is found is such a thing, and where nothing is found there is none
-abbrev pub Finds : {X : Type 0} → (X → Type 0) → Option X → Type 0
-Finds P o = MatchOption o ((x : _) → P x → ⊥) P

@@ -1,0 +1,4 @@
+pub mod Finding
+pub mod FirstCells
+pub mod Items
+pub mod Within

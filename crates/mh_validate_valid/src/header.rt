@@ -1,0 +1,113 @@
+//! The first test: whether the header is the grammar's.
+ghost use Rattle.std.specs.Prelude.{◌≡◌, ◌↔◌, map, IsTrue};
+ghost use Rattle.mh_grammar.specs.Costs.{costs_of};
+ghost use Rattle.mh_grammar.specs.Names.{nonterminal_name as name_of_nonterminal, symbol_name as name_of_symbol};
+ghost use Rattle.mh_tabfile_form.specs.Written.{raw_production};
+ghost use Rattle.mh_validate_valid.specs.Valid.{AreCostsOf, HasHeader};
+
+use crate::names::is_named;
+use mh_grammar::{
+    Grammar, Name, Production, Sequence, Symbol, TokenInfo, nonterminal_name, symbol_name,
+};
+use mh_tabfile_form::{RawProduction, RawTable};
+
+/// Whether the names are those of the tokens, in order.
+fn are_tokens(names: &[Name], tokens: &[TokenInfo]) -> bool
+    ensures { IsTrue result ↔ (names.now ≡ map (λ t. t.name) tokens.now) }
+{
+    if names.len() != tokens.len() {
+        return false;
+    }
+    for at in 0..names.len() {
+        if !is_named(&names[at], tokens[at].name.as_slice()) {
+            return false;
+        }
+    }
+    true
+}
+
+fn are_costs(costs: &[u32], tokens: &[TokenInfo]) -> bool
+    ensures { IsTrue result ↔ (costs.now ≡ costs_of tokens.now) }
+{
+    if costs.len() != tokens.len() {
+        return false;
+    }
+    for at in 0..costs.len() {
+        if costs[at] != tokens[at].cost {
+            return false;
+        }
+    }
+    true
+}
+
+fn have_costs(grammar: &Grammar, costs: &Option<Sequence<u32>>) -> bool
+    ensures { IsTrue result ↔ AreCostsOf grammar.now costs.now }
+{
+    match costs {
+        None => true,
+        Some(costs) => are_costs(costs.as_slice(), grammar.tokens.as_slice()),
+    }
+}
+
+fn are_symbols(grammar: &Grammar, names: &[Name], symbols: &[Symbol]) -> bool
+    ensures { IsTrue result ↔ (names.now ≡ map (name_of_symbol grammar.now) symbols.now) }
+{
+    if names.len() != symbols.len() {
+        return false;
+    }
+    for at in 0..names.len() {
+        if !is_named(&names[at], symbol_name(grammar, symbols[at])) {
+            return false;
+        }
+    }
+    true
+}
+
+fn are_starts(grammar: &Grammar, names: &[Name], starts: &[u16]) -> bool
+    ensures { IsTrue result ↔ (names.now ≡ map (name_of_nonterminal grammar.now) starts.now) }
+{
+    if names.len() != starts.len() {
+        return false;
+    }
+    for at in 0..names.len() {
+        if !is_named(&names[at], nonterminal_name(grammar, starts[at])) {
+            return false;
+        }
+    }
+    true
+}
+
+fn is_production(grammar: &Grammar, raw: &RawProduction, production: &Production) -> bool
+    ensures { IsTrue result ↔ (raw.now ≡ raw_production grammar.now production.now) }
+{
+    is_named(&raw.lhs, nonterminal_name(grammar, production.lhs))
+        && are_symbols(grammar, raw.rhs.as_slice(), production.rhs.as_slice())
+}
+
+fn are_productions(grammar: &Grammar, raws: &[RawProduction], productions: &[Production]) -> bool
+    ensures { IsTrue result ↔ (raws.now ≡ map (raw_production grammar.now) productions.now) }
+{
+    if raws.len() != productions.len() {
+        return false;
+    }
+    for at in 0..raws.len() {
+        if !is_production(grammar, &raws[at], &productions[at]) {
+            return false;
+        }
+    }
+    true
+}
+
+/// Whether the tokens, the costs, the starts and the productions are the grammar's.
+pub fn has_header(grammar: &Grammar, raw: &RawTable) -> bool
+    ensures { IsTrue result ↔ HasHeader grammar.now raw.now }
+{
+    are_tokens(raw.tokens.as_slice(), grammar.tokens.as_slice())
+        && have_costs(grammar, &raw.costs)
+        && are_starts(grammar, raw.starts.as_slice(), grammar.starts.as_slice())
+        && are_productions(
+            grammar,
+            raw.productions.as_slice(),
+            grammar.productions.as_slice(),
+        )
+}

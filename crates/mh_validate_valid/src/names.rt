@@ -1,0 +1,11 @@
+//! Names beside bytes.
+ghost use Rattle.std.specs.Prelude.{◌≡◌, ◌↔◌, IsTrue};
+
+use mh_grammar::Name;
+
+/// Whether a name is these bytes.
+pub fn is_named(name: &Name, bytes: &[u8]) -> bool
+    ensures { IsTrue result ↔ (name.now ≡ bytes.now) }
+{
+    name.as_slice() == bytes
+}

@@ -1,5 +1,0 @@
-use Rattle.mh_rules.specs.Ready.{AreModulesReady}
-use Rattle.mh_worked.proofs.files.cases.modules_of.Given as goal
-
-abbrev pub invariant-loop-file : goal.invariant-loop-file
-invariant-loop-file l = AreModulesReady l.modules.items

@@ -1,0 +1,35 @@
+//! Worked examples of what files, lines and words are to the tool: devices (real ones too), lexemes, modules, sentence lines, messages
+//! files and the words of the command line; and of what grammar files give: joined rules, instances, inlined grammars, and the
+//! front end as a whole. Each answer was worked out by hand.
+#![tactic(auto)]
+
+mod filling;
+mod one_sentence;
+
+pub use filling::{filled, put};
+pub use one_sentence::{ONE_SENTENCE, ONE_SENTENCE_TABLE};
+
+#[cfg(test)]
+mod cases;
+#[cfg(test)]
+mod devices;
+#[cfg(test)]
+mod expanding;
+#[cfg(test)]
+mod fronts;
+#[cfg(test)]
+mod inlining;
+#[cfg(test)]
+mod joining;
+#[cfg(test)]
+mod lexemes;
+#[cfg(test)]
+mod lines;
+#[cfg(test)]
+mod messages;
+#[cfg(test)]
+mod modules;
+#[cfg(test)]
+mod real_devices;
+#[cfg(test)]
+mod words;

@@ -1,0 +1,89 @@
+//! Cases as texts: blocks with an empty line between them, each of a grammar and a row for each thing that is asked of it,
+//! with ` = ` between what is asked and what is wanted.
+use crate::made::grammar_of;
+use crate::{
+    automata, catalogues, closures, resolving, runs, samples, sets, tables, trees, widths,
+};
+use mh_grammar::Grammar;
+use std::alloc::Global;
+use std::process::Abort;
+use std::test::Fail;
+
+/// Adds to a text. One that finds no memory lacks what is added, and is not what is wanted.
+pub fn put(text: &mut String, more: &str) {
+    let _ = text.push_str(more);
+}
+
+/// Adds bytes that are a text.
+pub fn put_bytes(text: &mut String, bytes: &[u8]) {
+    put(text, str::from_utf8(bytes).unwrap_or("no text"));
+}
+
+/// Adds a comma where a text is not empty.
+pub fn put_comma(text: &mut String) {
+    put(text, if text.is_empty() { "" } else { ", " });
+}
+
+/// Compares a text with what is wanted, and lets it go.
+pub fn check(rt: &impl Abort, found: String, wanted: &str, at: &str) {
+    assert_eq!(rt; found.as_str(), wanted, "{at}");
+}
+
+/// Adds what is asked about a grammar.
+fn put_answer(
+    alloc: Global,
+    text: &mut String,
+    grammar: &Grammar,
+    asked: &str,
+) -> Result<(), Fail> {
+    let (kind, rest) = asked.split_once(' ').unwrap_or((asked, ""));
+    match kind {
+        "names" => sets::put_names(text, grammar),
+        "nullable" => sets::put_nullable(alloc, text, grammar)?,
+        "productive" => sets::put_productive(alloc, text, grammar)?,
+        "first" => sets::put_first(alloc, text, grammar)?,
+        "states" => closures::put_states(alloc, text, grammar, rest)?,
+        "edges" => automata::put_edges_of(alloc, text, grammar)?,
+        "widths" => widths::put_states(alloc, text, grammar)?,
+        "halting" => tables::put_halting(alloc, text, grammar)?,
+        "lengths" => catalogues::put_catalogue_of(alloc, text, grammar, false)?,
+        "sentences" => catalogues::put_catalogue_of(alloc, text, grammar, true)?,
+        "sample" => samples::put_line(alloc, text, grammar)?,
+        "tree" => trees::put_made(alloc, text, grammar, rest)?,
+        "run" => runs::put_run(alloc, text, grammar, rest)?,
+        _ => resolving::put_part(alloc, text, grammar, kind, rest)?,
+    }
+    Ok(())
+}
+
+fn check_row(rt: &impl Abort, alloc: Global, grammar: &Grammar, row: &str) -> Result<(), Fail> {
+    let (asked, wanted) = row.split_once(" =").ok_or("a row without a =")?;
+    let wanted = wanted.strip_prefix(' ').unwrap_or(wanted);
+    let mut text = String::new(alloc);
+    let result = put_answer(alloc, &mut text, grammar, asked);
+    check(rt, text, wanted, row);
+    result
+}
+
+fn check_rows(rt: &impl Abort, alloc: Global, grammar: &Grammar, rows: &str) -> Result<(), Fail> {
+    for row in rows.lines() {
+        check_row(rt, alloc, grammar, row)?;
+    }
+    Ok(())
+}
+
+fn check_block(rt: &impl Abort, alloc: Global, block: &str) -> Result<(), Fail> {
+    let (grammar, rows) = block.split_once('\n').ok_or("a block without rows")?;
+    let grammar = grammar_of(alloc, grammar)?;
+    let result = check_rows(rt, alloc, &grammar, rows);
+    drop(grammar);
+    result
+}
+
+/// Compares what is asked about each grammar with what is wanted.
+pub fn check_cases(rt: &impl Abort, alloc: Global, cases: &str) -> Result<(), Fail> {
+    for block in cases.split("\n\n") {
+        check_block(rt, alloc, block)?;
+    }
+    Ok(())
+}
