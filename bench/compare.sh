@@ -1,10 +1,12 @@
 #!/usr/bin/env bash
-# Compares the built program with Menhir itself (Debian's package `menhir`): states, conflicts or none, verdicts, trees and lists of errors on real
-# grammars, which must be the same, and times, which are printed as ratios. It ends with 1 if anything is not the same.
-# The program's own samples have to come to the counts that their number gives.
-# At last it times shapes of grammars at the limits, of which none may take ten seconds.
-# Of each grammar file in FOLDER it compares how both automata are built (states, time, memory) and the list of errors, too.
-# Usage: bench/compare.sh PATH-OF-OUR-PROGRAM [FOLDER]   (after a run of the gate: crates/menhir/out/menhir)
+# Compares the built program with Menhir itself (Debian's package `menhir`) on real grammars. Counts of states, whether
+# there are conflicts, verdicts, trees and lists of errors must be the same. Times are printed as ratios. The program's
+# samples must have the counts that follow from their numbers. At the end the script times generated grammars at the
+# limits; none may take ten seconds. For each grammar file in FOLDER the script also compares the building of both
+# automata (states, time, memory) and the list of errors.
+# The script ends with status 1 if a comparison fails.
+# Usage: bench/compare.sh PATH-OF-OUR-PROGRAM [FOLDER]
+# (after a run of the gate, the program is crates/menhir/out/menhir)
 set -eu
 ours=$(readlink -f "${1:?the path of the built program}")
 bench=$(dirname "$(readlink -f "$0")")
@@ -13,14 +15,14 @@ folder=$(mktemp -d)
 trap 'rm -rf "$folder"' EXIT
 cd "$folder"
 failed=0
-# Menhir's parser of the 16 MiB file wants a deep stack.
+# On the 16 MiB file, Menhir's parser needs a deep stack.
 ulimit -s unlimited
 
-seconds() { # processor seconds of a command; what it writes lies in out.txt and err.txt
+seconds() { # the processor seconds of a command; its output goes to out.txt and err.txt
     local TIMEFORMAT=%U
     { time "$@" >out.txt 2>err.txt || true; } 2>&1
 }
-resources() { # processor seconds and MB of a command without input
+resources() { # the processor seconds and MB of a command without input
     python3 - "$@" <<'END'
 import resource, subprocess, sys
 subprocess.run(sys.argv[1:], stdin=subprocess.DEVNULL, stdout=subprocess.DEVNULL, stderr=subprocess.DEVNULL)
@@ -30,26 +32,26 @@ END
 }
 ratio() { python3 -c "import sys; print(f'{float(sys.argv[1]) / max(float(sys.argv[2]), 0.001):.1f}')" "$1" "$2"; }
 menhir_there() { command -v menhir >/dev/null; }
-differs() { # tells what is not the same
+differs() { # reports a difference
     echo "$1: NOT THE SAME"
     failed=1
 }
-same() { # whether two files hold the same words, blanks apart
+same() { # true if two files are equal apart from blanks and line ends
     cmp -s <(tr -d ' \n' <"$1") <(tr -d ' \n' <"$2")
 }
 
-# What the word of a mode is called.
+# The name of a mode, given its option.
 called() { if [ -n "$1" ]; then echo canonical; else echo merged; fi; }
-# How many states the automaton of a grammar has, ours and Menhir's.
+# The number of states of a grammar's automaton, ours and Menhir's.
 our_states() { "$ours" $1 --show-automaton "${@:2}" 2>err.txt | head -1 | tr -dc 0-9; }
 their_states() { menhir --base g $1 --interpret -la 2 "${@:2}" 2>&1 </dev/null | sed -n 's/^Built an LR(1) automaton with \([0-9]*\) states.*/\1/p'; }
 
-# A thousand random sentences of a real grammar, every second one with a token changed, in both modes.
+# Compares on 1,000 random sentences of a real grammar in both modes. Every second sentence has one token changed.
 compare_grammar() {
     local name=$1 sentences=$1.in files file mode
     mkdir "$name"
     for file in "$bench/grammars/$name"/*.mly; do
-        # Menhir's interpreter puts EOF behind each sentence by itself, so the token has another name here.
+        # Menhir's interpreter appends EOF to each sentence by itself, so the token gets another name here.
         sed 's/\<EOF\>/STOP/g' "$file" >"$name/$(basename "$file")"
     done
     files=("$name"/*.mly)
@@ -63,7 +65,7 @@ compare_grammar() {
     done
 }
 
-# Three hundred shorter ones of a further grammar, in the default mode. Where it has several starts, a line names the first.
+# Compares on 300 shorter sentences of another grammar, in the default mode. Each line names the first start symbol.
 compare_further() { # FILE
     local name start file=further.mly
     name=$(basename "$1" .mly)
@@ -108,11 +110,12 @@ compare_verdicts() { # NAME MODE SENTENCES FILE..
     done
 }
 
-# How many sentences a list of errors has of each length.
+# Counts the sentences of a list of errors by length.
 lengths() { sed -n '/^[^#<].*:/s/^[^:]*://p' | awk '{ print NF }' | sort -n | uniq -c; }
 
-# The lists of errors of a grammar. Where states are merged the lengths are the same; a canonical state that could reduce by default
-# refuses at once here and not in Menhir, so there the lists differ, and times alone are told.
+# Compares the lists of errors of a grammar. With merged states the lengths of the sentences must be the same. With the
+# canonical automaton the lists differ, and only times are reported: a state that could reduce by default refuses at
+# once here, but not in Menhir.
 compare_errors() { # NAME MODE FILE..
     local name=$1 mode=$2 our_time their_time entries their_entries
     shift 2
@@ -126,7 +129,7 @@ compare_errors() { # NAME MODE FILE..
     [ -n "$mode" ] || cmp -s ours.txt theirs.txt || differs "$name, lengths of sentences"
 }
 
-# How a grammar's automaton is built, without input: states, processor seconds and MB.
+# Builds a grammar's automaton, without input: states, processor seconds and MB.
 compare_build() { # FILE MODE
     local base file=grammar.mly mode=$2 measured
     base=$(basename "$1" .mly)
@@ -142,12 +145,13 @@ compare_build() { # FILE MODE
     compare_table "$file" "$mode" "${measured% *}"
 }
 
-# The table file of a grammar is read and found valid: beside building the automaton, grammar files read in both.
+# Reads and validates the table file of a grammar, and compares the time with that of building the automaton. Both times
+# include reading the grammar file.
 compare_table() { # FILE MODE SECONDS
     local file=$1 mode=$2 measured size
     "$ours" $mode --write-tables "$file" >g.tables 2>err.txt
     size=$(wc -c <g.tables)
-    if [ "$size" -gt 16777216 ]; then # more than the 16 MiB that a file may have
+    if [ "$size" -gt 16777216 ]; then # more than the limit of 16 MiB for a file
         local status=0
         "$ours" --tables g.tables --interpret "$file" </dev/null >out.txt 2>err.txt || status=$?
         [ "$status" = 5 ] || differs "$file, its table file is over 16 MiB"
@@ -159,8 +163,9 @@ compare_table() { # FILE MODE SECONDS
     "$ours" --tables g.tables --write-tables "$file" 2>err.txt | cmp -s - g.tables || differs "$file, its table read and written again"
 }
 
-# The program's own sample of a number: a grammar of k levels of operators, its list of errors, and 3,000 sentences. The counts follow from
-# k: a level has its token, its two productions and three states (six in the canonical automaton), of which one (two) is listed.
+# Checks the counts of the program's sample of a number: a grammar with k levels of operators, its list of errors, and
+# 3,000 sentences. The counts follow from k: each level has one token, two productions, and three states, of which one
+# is in the list (six and two with the canonical automaton).
 compare_sample() { # NUMBER MODE
     local number=$1 mode=$2 k=$((2 + $1 % 30)) states listed taken
     states=$((3 * k + 8)) listed=$((k + 6))
@@ -171,7 +176,7 @@ compare_sample() { # NUMBER MODE
         differs "sample $number, $(called "$mode")"
 }
 
-# Our time for a command, and Menhir's as a ratio.
+# Prints our time for a command, and Menhir's as a ratio.
 compare_time() { # NAME INPUT WORD..
     local name=$1 input=$2 our_time their_time=
     shift 2
@@ -184,7 +189,7 @@ compare_time() { # NAME INPUT WORD..
     echo "$name: $our_time s${their_time:+; Menhir takes $(ratio "$their_time" "$our_time") times as long}"
 }
 
-# Our time for a shape of grammar at half its size at a limit, and at all of it, which must be less than ten seconds.
+# Times a generated grammar at its largest size, which must take less than ten seconds, and at half of this size.
 compare_shape() { # NAME SIZE
     local name=$1 most=$2 half=$(($2 < 100 ? $2 - 1 : $2 / 2)) first measured
     python3 "$bench/shapes.py" "$name" "$half" >shape.mly

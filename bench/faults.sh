@@ -1,9 +1,10 @@
 #!/usr/bin/env bash
-# Hostile use of the built program: each allocation, open, read and write is refused in turn, files are damaged (table files among them, whose
-# verdicts are compared with what the file says), and inputs are deep.
-# It says what it tried, how many, and what it found, and ends with 1 where anything is wrong.
-# Usage: bench/faults.sh PATH-OF-OUR-PROGRAM [devices|refuse|damage|tables|deep]..   (after a run of the gate: crates/menhir/out/menhir)
-# WORKERS=N makes so many runs at a time; if it is left out, as many as there are processors.
+# Tests hostile use of the built program: each allocation, open, read and write is refused in turn; files are damaged
+# (for table files, the verdicts are compared with the content of the file); inputs are deep.
+# The script reports what it tried, how often, and what it found. It ends with status 1 if anything is wrong.
+# Usage: bench/faults.sh PATH-OF-OUR-PROGRAM [devices|refuse|damage|tables|deep]..
+# (after a run of the gate, the program is crates/menhir/out/menhir)
+# WORKERS=N makes N runs at a time; the default is the number of processors.
 set -eu
 export PYTHONDONTWRITEBYTECODE=1
 ours=$(readlink -f "${1:?the path of the built program}")
@@ -11,12 +12,12 @@ shift
 bench=$(dirname "$(readlink -f "$0")")
 folder=$(mktemp -d)
 trap 'rm -rf "$folder"' EXIT
-# The program takes its memory and its devices from the C library, so what stands in front of that can refuse any call.
+# The program uses memory and devices through the C library, so a library that is loaded before it can refuse any call.
 cc -O2 -Wall -shared -fPIC -o "$folder/refuse.so" "$bench/refuse.c" -ldl
 cd "$folder"
 status=0
 
-ended() { # STATUS COMMAND: tells where the command, over devices as a shell may leave them, has another status
+ended() { # STATUS COMMAND: reports the command, with devices as a shell may leave them, if its status differs
     local got=0
     bash -c "$2" >out 2>err || got=$?
     [ $got = "$1" ] || { echo "WRONG $2: status $got"; status=1; }

@@ -1,7 +1,8 @@
-"""Feeds damaged files: 10,000 grammar and messages files, and 2,000 inputs: cut, with bytes turned, lines doubled or swapped.
+"""Runs the program on 10,000 damaged grammar and messages files, and on 2,000 damaged inputs. The damage: a file is
+cut, bytes are changed, marks are inserted, lines are doubled, dropped or swapped, words are swapped.
 
-No run ends by a signal, or with another status than 0 and 1, takes more than ten seconds of a processor, or more than 1 GB; where a
-file is refused, nothing is on out and the last line on err says why.
+Each run must end with status 0 or 1 and not by a signal, and take at most ten processor seconds and 1 GB. If a file is
+refused, nothing may be on out, and the last line on err must give the reason.
 """
 import os
 import random
@@ -12,7 +13,7 @@ from hostile import BENCH, CALC, Part, each, put, run, with_messages
 
 COUNTS = {"grammar": 7_000, "messages": 3_000, "input": 2_000}
 SECONDS, MEGABYTES = 10, 1024
-# What a damaged file may get: the signs of all formats.
+# The marks of all formats, for insertion into a file.
 SIGNS = rb"""%{ %} %% %token %start %inline %prec %left %public | : ; , = ? * + ( ) { } < > [ ] (* *) /* */ // " ' \ # ## @ error let _ $1 0 A""".split()
 
 GRAMMAR_WORDS = [
@@ -88,7 +89,7 @@ def damaged(chance, text):
 
 
 def grammars():
-    """Whole grammars: two small ones and a larger one."""
+    """Undamaged grammars: two small grammars and a larger one."""
     yield CALC.encode()
     for name in ("json/json.mly", "lua/lua.mly"):
         with open(os.path.join(BENCH, "grammars", name), "rb") as file:

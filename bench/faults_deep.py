@@ -1,6 +1,8 @@
-"""Deep, long and doubling inputs under a stack of 8 MB and of 1 MB: no run ends by a signal, and each has the answer that is told here.
+"""Runs the program on deep, long and doubling inputs, with a stack of 8 MB and of 1 MB. No run may end by a signal, and
+each run must give the answer that is written here.
 
-Times and memory are told for each; what takes more than ten seconds or 1 GB is marked as heavy, which is no fault by itself.
+The script reports time and memory for each run. A run of more than ten seconds or 1 GB is marked as heavy, which is no
+failure by itself.
 """
 import sys
 
@@ -18,12 +20,12 @@ def rules(texts):
 
 
 def chain(count, step, last):
-    """Rules r0 to rN: `step` has a place for the number of the next."""
+    """Rules r0 to rN, where N is `count`. `step` is a format with a place for the number of the next rule."""
     return rules([f"r{it}: {step.format(it + 1)} {{}}" for it in range(count)] + [f"r{count}: {last} {{}}"])
 
 
 class Answer:
-    """What a run has to come to: its status, the end of its text on out, and the end of its text on err."""
+    """The required result of a run: its status, the end of its text on out, and the end of its text on err."""
 
     def __init__(self, status, out=None, err=""):
         self.status, self.out, self.err = status, out, err
@@ -43,7 +45,7 @@ def refused(why):
 
 
 def interpret(grammar, given, answer, *words):
-    """A grammar whose file is g.mly, and lines."""
+    """A case with a grammar in the file g.mly, the input lines, and the required answer."""
     return {"g.mly": grammar}, ["--interpret", *words, "g.mly"], given, answer
 
 

@@ -1,8 +1,9 @@
 """Refuses each allocation, open, read and write in turn, in each mode.
 
-Where memory is refused, at each place once and at every tenth from there on, a run ends with the whole answer, or with status 6: then out has a front of
-the whole text, and err a front of its own and the line that memory ran out. Where a device fails, a run ends with the
-status of a fault of reading or writing, and fronts of both texts. Where a read or a write moves one byte alone, the answer is the whole one.
+Memory is refused at each allocation once, and from every tenth allocation on. A run must then end with the whole
+answer, or with status 6: out has a prefix of the whole text, and err has a prefix of its whole text and the line that
+memory ran out. If a device fails, a run must end with the status of a read fault or a write fault, and with prefixes of
+both texts. If a read or a write moves only one byte, the answer must be the whole answer.
 """
 import os
 import struct
@@ -27,7 +28,7 @@ def environment(place, kind, call, how):
 
 
 def counted(place, words, given):
-    """A run in which nothing is refused, and how many calls of each kind it makes."""
+    """A run in which nothing is refused, and the number of its calls of each kind."""
     env, counts = environment(place, "none", 0, "once")
     ran = run(place, words, given, env)
     with open(counts, "rb") as file:
@@ -61,7 +62,8 @@ def is_write_fault(ran, whole):
     return ran.status == 4 and whole.out.startswith(ran.out) and whole.err.startswith(ran.err)
 
 
-# What is refused, how, at each call or at some of them, and which ends a run may have.
+# Rows of: the kind of call, its number, how it is refused, the step from one refused call to the next, and the tests of
+# which a run must pass one.
 REFUSALS = [
     ("alloc", ALLOC, "once", 1, (is_out_of_memory, is_whole)),
     ("alloc", ALLOC, "on", 10, (is_out_of_memory, is_whole)),
@@ -76,7 +78,7 @@ REFUSALS = [
 
 
 def jobs():
-    """Words and input of each mode, by the two grammars."""
+    """The words and the input of each mode, for both grammars."""
     for name in ("json", "calc"):
         text = open(os.path.join(BENCH, "grammars/json/json.mly"), "rb").read() if name == "json" else CALC
         file = put(f"{name}.mly", text)
@@ -101,7 +103,7 @@ def jobs():
         yield ["--canonical", "--show-automaton", file], b""
         yield ["--show-automaton", "--strict", "--no-stdlib", file], b""
         yield ["--interpret", file, messages], lines
-        # modes that a program may lack
+        # Modes that the program may lack.
         yield ["--write-tables", file], b""
         table = put(f"{name}.table", run("made", ["--write-tables", file]).out)
         yield ["--tables", table, "--interpret", file], lines

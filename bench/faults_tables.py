@@ -1,8 +1,10 @@
-"""Feeds 10,000 table files: whole ones whose states are renamed, doubled or of the older version, and damaged ones: lines cut, doubled or
-swapped, words swapped, numbers turned.
+"""Runs the program on 10,000 table files. Some are valid: their states are renumbered or copied, or they are of the
+older version. The others are damaged: the file is cut; lines are dropped, doubled or swapped; words are swapped;
+numbers are changed.
 
-Each run ends with status 0 or 1 within ten seconds of a processor and 1 GB. A whole file is taken. Where a file is taken, the verdicts are those of
-the table in the file, which is read and run here anew; where it is refused, nothing is on out and err names the file and says why.
+Each run must end with status 0 or 1 within ten processor seconds and 1 GB. A valid file must be accepted. If a file is
+accepted, the verdicts must be those of the table in the file, which this script reads and runs by itself. If a file is
+refused, nothing may be on out, and err must name the file and give the reason.
 """
 import os
 import random
@@ -21,7 +23,7 @@ LINES = 4
 
 
 class Table:
-    """What a table file says, as far as a run needs it."""
+    """The parts of a table file that a run needs."""
 
     def __init__(self, text):
         self.starts, self.productions, self.states, self.tokens = [], [], [], []
@@ -43,7 +45,7 @@ class Table:
                 self.states[-1]["default"] = (words[1], int(words[-1]) if len(words) > 2 else 0)
 
     def verdict(self, tokens):
-        """How a run from the first start ends, and the tokens that its last state had a cell for."""
+        """The verdict of a run from the first start, and the tokens for which its last state has a cell."""
         stack, read = [0], 0
         while True:
             state = self.states[stack[-1]]
@@ -60,13 +62,13 @@ class Table:
                 stack.append(action[1])
                 read += 1
             else:
-                # Ordinary productions stand behind those of the start symbols.
+                # Ordinary productions come after those of the start symbols.
                 left, right = self.productions[action[1] - len(self.starts)]
                 del stack[len(stack) - len(right) :]
                 stack.append(self.states[stack[-1]]["edges"][left])
 
     def sentence(self, chance):
-        """Some tokens that the table takes one by one, the last perhaps turned."""
+        """A random list of tokens that the table accepts one by one, perhaps with a random last token."""
         tokens = []
         for _ in range(chance.randrange(12)):
             ending, begun = self.verdict(tokens)
@@ -79,7 +81,7 @@ class Table:
 
 
 def parts_of(text):
-    """The lines in front of the states, the lines of each state, and the last."""
+    """The lines before the states, the lines of each state, and the last line."""
     lines = text.split("\n")[:-1]
     places = [at for at, line in enumerate(lines) if line.startswith("state ")] + [len(lines) - 1]
     return lines[: places[0]], [lines[a:b] for a, b in zip(places, places[1:])], lines[-1]
@@ -91,7 +93,7 @@ def with_states(head, states, last):
 
 
 def renamed(chance, text):
-    """Two states behind those of the starts have each other's numbers."""
+    """Exchanges the numbers of two states that are no start states."""
     head, states, last = parts_of(text)
     first = len(next(line for line in head if line.startswith("starts")).split(" ")) - 1
     one, other = chance.randrange(first, len(states)), chance.randrange(first, len(states))
@@ -108,7 +110,7 @@ def renamed(chance, text):
 
 
 def with_copy(chance, text):
-    """A state stands once more as the last, where nothing leads to."""
+    """Adds a copy of a state as the last state; no edge leads to the copy."""
     head, states, last = parts_of(text)
     first = len(next(line for line in head if line.startswith("starts")).split(" ")) - 1
     copy = list(chance.choice(states[first:]))
@@ -170,7 +172,7 @@ DAMAGES = [cut, turn_number, turn_number, turn_number, *map(with_lines, (drop_li
 
 
 def made(chance, text):
-    """A file, and whether it is whole."""
+    """A file, and whether it is valid."""
     for _ in range(chance.choice([0, 1, 2])):
         text = chance.choice(WHOLE[:2])(chance, text)
     if chance.random() < 0.2:

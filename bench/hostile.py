@@ -1,4 +1,4 @@
-"""What the parts of bench/faults.sh share: runs of the program, worked grammars, and what was found wrong."""
+"""Shared by the parts of bench/faults.sh: runs of the program, a grammar, and the list of failures."""
 import multiprocessing
 import os
 import sys
@@ -9,7 +9,7 @@ REFUSE = os.path.join(FOLDER, "refuse.so")
 WORKERS = int(os.environ.get("WORKERS", os.cpu_count() or 1))
 NO_MEMORY = b"menhir: out of memory\n"
 
-# A grammar in which most that may be declared is there, with a conflict, of which is warned.
+# A grammar with most kinds of declarations. It has a conflict, so the program warns.
 CALC = """%{ open Ast %}
 %token <int> INT
 %token PLUS "+" TIMES "*" LPAREN "(" RPAREN ")" COMMA [@cost 3] IF ELSE EOF
@@ -30,7 +30,7 @@ expr:
 
 
 def started(command, env, names):
-    """Runs a command over files; gives its status, and its processor seconds and kilobytes."""
+    """Runs a command with files as input and outputs. Returns its status, processor seconds and kilobytes."""
     flags = os.O_WRONLY | os.O_CREAT | os.O_TRUNC
     actions = [
         (os.POSIX_SPAWN_OPEN, 0, names[0], os.O_RDONLY, 0),
@@ -42,12 +42,13 @@ def started(command, env, names):
     return os.waitstatus_to_exitcode(ended), used.ru_utime + used.ru_stime, used.ru_maxrss
 
 
-# The processes that start the runs are made while this one is small, since a run's memory is counted from that of its parent on.
+# The processes that start the runs are made while this process is small: the memory that is reported for a run is at
+# least that of its parent.
 STARTERS = multiprocessing.get_context("fork").Pool(WORKERS)
 
 
 class Ran:
-    """How a run ended: its status (below 0 by a signal), both texts, its processor seconds and megabytes."""
+    """The result of a run: its status (negative for a signal), both texts, its processor seconds and megabytes."""
 
     def __init__(self, status, out, err, seconds, megabytes):
         self.status, self.out, self.err, self.seconds, self.megabytes = status, out, err, seconds, megabytes
@@ -57,14 +58,14 @@ class Ran:
 
 
 def put(name, text):
-    """Writes a file of the folder, and gives its name."""
+    """Writes a file in the folder, and returns its name."""
     with open(os.path.join(FOLDER, name), "wb") as file:
         file.write(text if isinstance(text, bytes) else text.encode())
     return name
 
 
 def run(place, words, given=b"", env=None, stack=None, limit=None):
-    """Runs the program in the folder; `place` names the files of its texts, one for each run at a time."""
+    """Runs the program in the folder. `place` names the files for its texts; runs at one time need different names."""
     names = [os.path.join(FOLDER, f"{place}.{it}") for it in ("in", "out", "err")]
     with open(names[0], "wb") as file:
         file.write(given)
@@ -79,7 +80,7 @@ def run(place, words, given=b"", env=None, stack=None, limit=None):
 
 
 class Part:
-    """A part of the script: how many runs it made, and what was wrong."""
+    """A part of the script: the number of its runs, and its failures."""
 
     def __init__(self, name):
         self.name, self.runs, self.wrong = name, 0, []
@@ -105,7 +106,7 @@ class Part:
 
 
 def each(calls, work):
-    """Does work(place, call) for each call, some at a time."""
+    """Calls work(place, call) for each call, WORKERS at a time. Returns the results in order."""
     places = [f"run{it}" for it in range(WORKERS)]
 
     def turn(pair):
@@ -120,7 +121,7 @@ def each(calls, work):
 
 
 def with_messages(entries):
-    """A list of errors with a message put in for each place."""
+    """A list of errors in which each place for a message has a message."""
     count = 0
     lines = []
     for line in entries.decode().split("\n"):

@@ -14,7 +14,7 @@ t: t TIMES f { () } | f { () }
 f: LPAREN e RPAREN { () } | INT { () }
 """
 
-# The largest file that is read.
+# The largest file that the program reads, in bytes.
 MOST_BYTES = 16_777_216
 
 
@@ -24,7 +24,7 @@ def write(name, text):
 
 
 def sums(lines, signs):
-    """Lines of sums, each with so many signs between its numbers."""
+    """Lines of sums, each with the given number of operators."""
     for _ in range(lines):
         words = ["INT"]
         for _ in range(signs):
@@ -33,7 +33,7 @@ def sums(lines, signs):
 
 
 def chain(last):
-    """A grammar whose words of so many tokens lead to states of their own."""
+    """A grammar in which each word of `last` tokens leads to a state of its own."""
     rules = ["q0: A q0 { () } | B q0 { () } | A q1 { () }"]
     rules += [f"q{i}: A q{i + 1} {{ () }} | B q{i + 1} {{ () }}" for i in range(1, last)]
     rules.append(f"q{last}: A {{ () }} | B {{ () }}")
@@ -41,25 +41,25 @@ def chain(last):
 
 
 def tokens_and_start(tokens):
-    """So many tokens, and a start rule in which the rules begin."""
+    """The given number of tokens, and a start rule that uses rule r0."""
     names = ["A", "EOF"] + [f"T{number}" for number in range(2, tokens)]
     return f"%token {' '.join(names)}\n%start <unit> s\n%%\ns: r0 EOF {{ () }}\n"
 
 
 def long_chain(rules, tokens):
-    """Rules that each lead on by a token and the next rule: a state or two each, with a small closure."""
+    """Rules that each have a token and the next rule: one or two states each, with a small closure."""
     steps = [f"r{i}: A r{i + 1} {{ () }}\n" for i in range(rules - 1)]
     return tokens_and_start(tokens) + "".join(steps) + f"r{rules - 1}: A {{ () }}\n"
 
 
 def unit_rules(rules, tokens):
-    """Rules that are each the next one: one closure of them all, and FIRST sets that pass through all of them."""
+    """Rules that each have only the next rule: one closure has all rules, and FIRST sets pass through all of them."""
     steps = [f"r{i}: r{i + 1} {{ () }}\n" for i in range(rules - 1)]
     return tokens_and_start(tokens) + "".join(steps) + f"r{rules - 1}: A {{ () }}\n"
 
 
 def small_rules(most):
-    """A file of small rules, up to so many bytes."""
+    """A file of small rules, with at most the given number of bytes."""
     head = "%token A EOF\n%start <unit> s\n%%\ns: A EOF { () }\n"
     rules, size, number = [head], len(head), 0
     while True:

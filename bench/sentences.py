@@ -1,5 +1,5 @@
 #!/usr/bin/env python3
-"""Writes random sentences of a grammar, every second one with a token changed.
+"""Writes random sentences of a grammar. Every second sentence has one token changed.
 
 Usage: menhir --only-preprocess-u FILE.. | bench/sentences.py SEED COUNT DEPTH
 """
@@ -9,7 +9,7 @@ import sys
 
 
 def grammar_of(text):
-    """The start symbol, the tokens, and the productions of each rule, of what `menhir --only-preprocess-u` prints."""
+    """The start symbol, the tokens, and the productions of each rule, read from `menhir --only-preprocess-u`."""
     head, _, body = text.partition("\n%%\n")
     start = re.search(r"^%start (\w+)", head, re.M)[1]
     tokens = re.findall(r"^%token (?:<[^>]*> )?(\w+)", head, re.M)
@@ -26,7 +26,7 @@ def grammar_of(text):
 
 
 def heights_of(rules):
-    """The least height of a tree of each rule."""
+    """For each rule, the least height of a tree."""
     heights = {}
     changed = True
     while changed:

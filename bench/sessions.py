@@ -1,11 +1,11 @@
 #!/usr/bin/env python3
-"""Compares sessions with runs begun anew: random command lists on the tables of random grammars.
+"""Compares sessions with fresh runs: random lists of commands on the tables of random grammars.
 
 Usage: bench/sessions.py MENHIR LISTS SEED
 
-Each reply of `MENHIR --session` on a branch has to be that of the branch's own history: a start, the tokens offered and the
-count of resumes. The run of that history is begun anew here, from the text of `MENHIR --show-automaton`, for each reply.
-Ends with 1 at the first difference.
+Each reply of `MENHIR --session` on a branch must follow from the history of this branch alone: a start, the tokens
+offered, and the count of resumes. For each reply the script runs this history from the beginning, with the table that
+`MENHIR --show-automaton` prints. It ends with status 1 at the first difference.
 """
 import random
 import subprocess
@@ -14,7 +14,7 @@ import tempfile
 
 
 def grammar_of():
-    """The text of a random grammar, with its tokens and starts."""
+    """The text of a random grammar, its tokens and its start symbols."""
     tokens = ["A", "B", "C", "D"][: random.randint(2, 4)]
     rules = ["s", "t", "u", "v"][: random.randint(2, 4)]
     starts = rules[: random.choice([1, 1, 2])]
@@ -35,7 +35,7 @@ def output_of(menhir, mode, path, text):
 
 
 def table_of(text):
-    """For each state its default and its cells and gotos, of what --show-automaton writes."""
+    """For each state, its default, cells and gotos, read from the output of --show-automaton."""
     states = []
     for line in text.splitlines()[1:]:
         if line.startswith("state "):
@@ -49,7 +49,7 @@ def table_of(text):
 
 
 class Run:
-    """The run of a start on some tokens, after some resumes."""
+    """A run from a start on some tokens, after some resumes."""
 
     def __init__(self, table, start, tokens):
         self.table, self.stack, self.trees, self.left, self.refused = table, [start], [], list(tokens), False
@@ -93,7 +93,7 @@ class Run:
 
 
 class Sessions:
-    """What each command is answered, by the history of the branch that it names."""
+    """The answer to each command, by the history of the branch that the command names."""
 
     def __init__(self, table, tokens, starts):
         self.table, self.tokens, self.starts, self.branches = table, tokens, starts, {}

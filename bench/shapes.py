@@ -1,10 +1,10 @@
 #!/usr/bin/env python3
-"""Writes a grammar file of a shape and a size: shapes.py SHAPE SIZE >FILE. Without words it prints each shape with the size at which it stands at a limit.
-compare.sh times each at half of that size and at all of it: the work must grow no faster than its input, or than the grammar that
-is made of it."""
+"""Writes a generated grammar of a given shape and size: shapes.py SHAPE SIZE >FILE. Without arguments, the script
+prints each shape with its largest size within the limits. compare.sh times each shape at this size and at half of it:
+the work may grow no faster than the file, or than the grammar that the file is expanded to."""
 import sys
 
-# The largest file that is read.
+# The largest file that the program reads, in bytes.
 MOST_BYTES = 16_777_216
 
 HEAD = "%token A B EOF\n%start <unit> s\n"
@@ -19,7 +19,7 @@ def lines(form, count):
 
 
 def until(most, form):
-    """As many lines as so many bytes hold."""
+    """As many lines as fit into the given number of bytes."""
     texts, size, number = [], 0, 0
     while size < most:
         texts.append(form.format(number))
@@ -29,12 +29,12 @@ def until(most, form):
 
 
 def inline_chain(size):
-    """Inline rules that are each the next one."""
+    """Inline rules that each have only the next rule."""
     return grammar("s: a0 EOF { () }\n" + lines("%inline a{0}: a{1} {{ () }}\n", size) + f"%inline a{size}: A {{ () }}\n")
 
 
 def inline_chain_unlucky(size):
-    """Inline rules that are each the one before, found in their order."""
+    """Inline rules that each have only the previous rule, and that are found in rising order."""
     half = size // 2
     first = " ".join(f"a{it}" for it in range(half))
     second = " ".join(f"a{it}" for it in range(half, size))
@@ -43,18 +43,18 @@ def inline_chain_unlucky(size):
 
 
 def cycle_far(size):
-    """A chain of inline rules that leads to a cycle of one."""
+    """A chain of inline rules that ends in a cycle of one rule."""
     return grammar("s: a0 EOF { () }\n" + lines("%inline a{0}: a{1} {{ () }}\n", size) + f"%inline a{size}: a{size} | A {{ () }}\n")
 
 
 def cycle_long(size):
-    """One cycle of inline rules behind a chain of as many."""
+    """A chain of inline rules that leads to a cycle of the same length."""
     half = size // 2
     return grammar("s: a0 EOF { () }\n" + lines("%inline a{0}: a{1} {{ () }}\n", size) + f"%inline a{size}: a{half} | A {{ () }}\n")
 
 
 def cycle_from_many(size):
-    """Inline rules that each lead to a chain whose end is a cycle."""
+    """Inline rules that each lead into one chain, which ends in a cycle."""
     half = size // 2
     names = " | ".join(f"b{it}" for it in range(half))
     return grammar(f"s: {names} {{ () }}\n" + "".join(f"%inline b{it}: a{it} {{ () }}\n" for it in range(half))
@@ -62,7 +62,7 @@ def cycle_from_many(size):
 
 
 def cycles_meet(size):
-    """Cycles of two, each of which leads to the next one."""
+    """Self-cycles of inline rules, each of which leads to the next, after a chain of inline rules."""
     half = size // 2
     return grammar("s: c EOF { () }\nc: " + " | ".join(f"x{it}" for it in range(half)) + " { () }\n"
                    + "".join(f"%inline x{it}: x{it + 1} {{ () }} | A {{ () }}\n" for it in range(half))
@@ -70,7 +70,7 @@ def cycles_meet(size):
 
 
 def words(count):
-    """So many different words of three tokens of thirty."""
+    """The given number of different words, each of three tokens out of thirty."""
     return [f"T{it % 30} T{it // 30 % 30} T{it // 900}" for it in range(count)]
 
 
@@ -78,40 +78,40 @@ THIRTY = "%token " + " ".join(f"T{it}" for it in range(30)) + "\n"
 
 
 def pass_through(size):
-    """A long list of alternatives, passed on by a chain of inline rules."""
+    """A long list of alternatives that a chain of inline rules passes on unchanged."""
     links = size // 2
     return grammar("s: a0 EOF { () }\n" + lines("%inline a{0}: a{1} {{ () }}\n", links) + f"%inline a{links}: "
                    + " | ".join(f"{word} {{ () }}" for word in words(size - links)) + "\n", THIRTY)
 
 
 def passed_on(size, link):
-    """A chain of inline rules of this form, and a long list of alternatives at its end."""
+    """A chain of inline rules of the form `link`, with a long list of alternatives at its end."""
     links = size // 10
     return grammar("s: a0 EOF { () }\n" + lines(link, links) + f"%inline a{links}: " + " | ".join(f"{word} {{ () }}" for word in words(size - links)) + "\n", THIRTY)
 
 
 def pass_on_longer(size):
-    """A long list of alternatives, where each link of a chain puts a token behind: what is written grows with the square of the size."""
+    """A long list of alternatives; each link of a chain appends a token: the result grows with the size squared."""
     return passed_on(size, "%inline a{0}: a{1} A {{ () }}\n")
 
 
 def pass_on_in_front(size):
-    """The same, where each link puts a token in front."""
+    """The same, but each link puts a token in front."""
     return passed_on(size, "%inline a{0}: A a{1} {{ () }}\n")
 
 
 def pass_on_between(size):
-    """Between two tokens."""
+    """The same, but each link puts a token in front and a token at the end."""
     return passed_on(size, "%inline a{0}: A a{1} B {{ () }}\n")
 
 
 def pass_on_more(size):
-    """Each link puts a token behind, and has an alternative of its own: its length is as that of what it passes on."""
+    """Each link appends a token and adds an alternative: each alternative that it passes on has another length."""
     return grammar("s: a0 EOF { () }\n" + lines("%inline a{0}: a{1} A {{ () }} | B {{ () }}\n", size) + f"%inline a{size}: A {{ () }}\n")
 
 
 def many_then_one(size):
-    """A list of alternatives before many inline rules of one."""
+    """An inline rule with many alternatives, followed by many inline rules with one alternative."""
     links = size // 10
     names = " ".join(f"a{it}" for it in range(links))
     return grammar(f"s: l {names} EOF {{ () }}\n%inline l: " + " | ".join(f"{word} {{ () }}" for word in words(size - links)) + "\n"
@@ -119,56 +119,56 @@ def many_then_one(size):
 
 
 def inline_doubles(size):
-    """Inline rules that double the alternatives so many times."""
+    """Inline rules that double the number of alternatives, `size` times."""
     return grammar("s: a0 EOF { () }\n" + lines("%inline a{0}: A a{1} {{ () }} | B a{1} {{ () }}\n", size) + f"%inline a{size}: A {{ () }}\n")
 
 
 def inline_wide(size):
-    """Inline rules that one rule is made of, and that are each made of one more."""
+    """One inline rule with many inline rules on its right side, which all use one further inline rule."""
     names = " ".join(f"a{it}" for it in range(size))
     return grammar(f"s: w EOF {{ () }}\n%inline w: {names} {{ () }}\n" + "".join(f"%inline a{it}: b {{ () }}\n" for it in range(size)) + "%inline b: A { () }\n")
 
 
 def terms_double(size):
-    """A parameter that is doubled at each step."""
+    """An actual that doubles at each step."""
     return grammar("s: d0(A) EOF { () }\n" + lines("d{0}(x): d{1}(pair(x, x)) {{ () }}\n", size) + f"d{size}(x): x {{ () }}\n")
 
 
 def terms_grow(size):
-    """A term that grows at each step, by one rule."""
+    """A rule that calls itself with a larger actual, in a file with a long comment."""
     return grammar("s: d(A) EOF { () }\nd(x): x { () } | d(pair(x, x)) { () }\n" + "(* " + "x" * size + " *)\n")
 
 
 def terms_many(size):
-    """As many instances of one rule."""
+    """The given number of instances of one rule."""
     return grammar("s: p EOF { () }\np: " + " | ".join(f"r(t{it}) {{ () }}" for it in range(size)) + "\nr(x): x { () }\n"
                    + lines("t{0}: A {{ () }}\n", size))
 
 
 def deep_actual(size):
-    """One actual that is so deep."""
+    """One actual of the given depth."""
     return grammar("s: " + "option(" * (size - 1) + "A" + ")" * (size - 1) + " EOF { () }\n")
 
 
 def deep_actuals(size):
-    """Many actuals of a hundred levels."""
+    """Many actuals of depth 100."""
     one = "option(" * 100 + "A" + ")" * 100
     return grammar("s: A EOF { () }\n" + "".join(f"r{it}: {one} {{ () }}\n" for it in range(size // (len(one) + 20))))
 
 
 def wide_actual(size):
-    """A rule with many parameters, and one use of it."""
+    """A rule with many formals, and one use of this rule."""
     return grammar("s: f(" + ", ".join(["A"] * size) + ") EOF { () }\nf(" + ", ".join(f"x{it}" for it in range(size)) + "): x0 { () }\n")
 
 
 def long_fault(size):
-    """A token with as many arguments, which all stand for a name of 900 bytes: the fault's own name is not written."""
+    """A token with many arguments, which all denote a name of 900 bytes: the fault's name is too long to write."""
     name = "n" * 900
     return grammar(f"s: d({name}) EOF {{ () }}\n{name}: A {{ () }}\nd(x): A(" + ", ".join(["x"] * size) + ") { () }\n")
 
 
 def wide_nested(size):
-    """Pairs of pairs, in one actual as wide as it is allowed to be deep."""
+    """Rules with one actual of nested pairs each, of up to 800,000 bytes."""
     text = "A"
     while len(text) * 2 + 8 < min(size, 800_000):
         text = f"pair({text},{text})"
@@ -176,17 +176,17 @@ def wide_nested(size):
 
 
 def modifiers(size):
-    """A token with many signs behind it."""
+    """A token with many modifiers `?`."""
     return grammar("s: A" + "?" * size + " EOF { () }\n")
 
 
 def long_side(size):
-    """One right side of so many symbols."""
+    """One right side with the given number of symbols."""
     return grammar("s: " + "A " * size + "EOF { () }\n")
 
 
 def many_alternatives(size):
-    """One rule of so many alternatives."""
+    """One rule with the given number of alternatives."""
     return grammar("s: A EOF { () }\n" + "| A A EOF { () }\n" * size)
 
 
@@ -195,12 +195,12 @@ def small_rules(size):
 
 
 def reached_rules(size):
-    """Rules that are all reached from the first."""
+    """Rules that are all reachable from the first rule."""
     return grammar("s: r0 EOF { () }\n" + lines("r{0}: A r{1} {{ () }}\n", size) + f"r{size}: A {{ () }}\n")
 
 
 def twice_at_the_end(size):
-    """The last rule has the name of the first."""
+    """The last rule has the name of the first rule."""
     return small_rules(size - 100) + "r0: A { () }\n"
 
 
@@ -218,7 +218,7 @@ def long_name(size):
 
 
 def like_names(size):
-    """Names that differ at their ends alone, used by the rule before."""
+    """Long names that differ only at their ends, each used by the rule before."""
     long = "n" * 300
     return grammar(f"s: {long}0 EOF {{ () }}\n" + "".join(f"{long}{it}: A {long}{it + 1} {{ () }}\n" for it in range(size)) + f"{long}{size}: A {{ () }}\n")
 
@@ -228,7 +228,7 @@ def many_tokens(size):
 
 
 def many_levels(size):
-    """Declared levels of tokens that there are, and of names that there are not."""
+    """Many declarations of levels."""
     return grammar("s: A EOF { () }\n", until(size, "%left L{}\n"))
 
 
@@ -237,12 +237,12 @@ def levels_twice(size):
 
 
 def used_levels(size):
-    """Each alternative with a level of its own."""
+    """Many rules, each with a level of its own."""
     return grammar("s: A EOF { () }\n" + until(size // 2, "r{}: A {{ () }} %prec L{}\n".replace("L{}", "L{0}").replace("r{}", "r{0}")), until(size // 2, "%left L{}\n"))
 
 
 def many_starts(size):
-    """So many start symbols, each with a rule."""
+    """The given number of start symbols, each with a rule."""
     return grammar("s: A EOF { () }\n" + lines("t{0}: A EOF {{ () }}\n", size), lines("%start <unit> t{0}\n", size))
 
 
@@ -283,16 +283,16 @@ def many_quotes(size):
 
 
 def bars(size):
-    """Quoted strings whose ends nearly come."""
+    """Quoted strings with many prefixes of their closing mark."""
     return grammar("s: A EOF { {" + "a" * 1000 + "|" + ("|" + "a" * 999) * (size // 1000) + " }\n")
 
 
 def groups(size):
-    """Groups of right sides that share an action."""
+    """Many right sides that share an action."""
     return grammar("s: A EOF { () }\nr: " + "A | " * (size // 4) + "B { () }\n")
 
 
-# Each shape with its size at a limit: instances and links, then bytes.
+# Each shape with its largest size: a number of instances or links, or a number of bytes.
 SHAPES = {
     inline_chain: 19_000, inline_chain_unlucky: 19_000, cycle_far: 19_000, cycle_long: 19_000, cycle_from_many: 19_000, cycles_meet: 19_000,
     pass_through: 19_000, pass_on_longer: 6_000, pass_on_in_front: 6_000, pass_on_between: 6_000, pass_on_more: 3_000, many_then_one: 6_000, inline_doubles: 14, inline_wide: 9_900, terms_double: 19_000, terms_grow: 16_000_000, terms_many: 6_000,

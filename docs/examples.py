@@ -1,10 +1,12 @@
 #!/usr/bin/env python3
-"""examples.py PROGRAM PAGE.. --pieces PAGE FOLDER: runs the examples of pages with a built program, and compares what it writes byte for
-byte; and looks up each block of the page of pieces in the source files of a folder, white space at the beginning of lines aside.
+"""examples.py PROGRAM PAGE.. --pieces PAGE FOLDER: runs the examples of the pages with a built program, and compares
+the output byte for byte. It also looks up each block of the page after --pieces in the source files of FOLDER; white
+space at the beginning of lines is ignored.
 
-An example is a block `sh`, whose one line is `menhir` and its words, with `status=N` behind `sh` where the status is not 0.
-The blocks behind it, each where there is something, are `in` (the input), `out` and `err`. A block `file NAME` above it is a
-file that lies where it is run. Ends with 1 where an answer differs, or a piece is in no file."""
+An example is a block `sh`. Its only line is `menhir` and the words. If the expected status is not 0, `status=N` follows
+`sh`. The next blocks are `in` (the input), `out` and `err`; an empty one is left out. A block `file NAME` above an
+example is a file in the folder in which the example is run. The script ends with status 1 if an answer differs or a
+piece is in no source file."""
 import argparse
 import glob
 import os
@@ -15,7 +17,7 @@ import tempfile
 
 
 def blocks(page):
-    """The blocks of a page: the words behind the fence, the first line's number, and the text."""
+    """The blocks of a page: the words after the fence, the line number of the fence, and the text."""
     found, words, start, text = [], None, 0, []
     with open(page, encoding="utf-8") as lines:
         for number, line in enumerate(lines, 1):
@@ -30,7 +32,7 @@ def blocks(page):
 
 
 def examples(page):
-    """Each example of a page: where it stands, its line, the files, what it reads, and what it has to write."""
+    """Each example of a page: its position, its line, the files, the input, and the expected output and status."""
     files, found = {}, []
     for words, start, text in blocks(page):
         if words[:1] == ["file"]:
@@ -44,7 +46,7 @@ def examples(page):
 
 
 def differs(program, example):
-    """What differs from what the page says."""
+    """The differences between the program's answer and the page."""
     with tempfile.TemporaryDirectory() as folder:
         for name, text in example["files"].items():
             with open(os.path.join(folder, name), "w", encoding="utf-8", newline="") as it:
@@ -56,12 +58,12 @@ def differs(program, example):
 
 
 def flush_left(text):
-    """A text without the white space at the beginning of its lines."""
+    """A text without the spaces at the beginning of its lines."""
     return "".join(line.lstrip(" ") for line in text.splitlines(keepends=True))
 
 
 def strays(page, folder):
-    """Each piece of code of a page: where it stands, and what is wrong if no source file of the folder has it."""
+    """For each piece of code of a page: its position, and a complaint if no source file of the folder has the piece."""
     sources = []
     for name in sorted(glob.glob(os.path.join(folder, "*.rt"))):
         with open(name, encoding="utf-8") as source:
@@ -72,7 +74,7 @@ def strays(page, folder):
 
 
 def checks(given):
-    """Each example and each piece: where it stands, and what is wrong with it."""
+    """For each example and each piece: its position, and the complaints."""
     program = os.path.abspath(given.program)
     for example in (it for page in given.pages for it in examples(page)):
         yield example["at"], differs(program, example)

@@ -1,9 +1,9 @@
-//! The command line tool: `main` makes the real shelf, source and sinks, runs the top call over them, and ends with
+//! The command line tool: `main` makes the real shelf, input and outputs, runs the top call over them, and ends with
 //! its status.
 #![tactic(auto)]
 
 ghost use Rattle.std.specs.Process.{exit_status};
-ghost use Rattle.mh_top_warnings.specs.code.LastLine.{SaysLine};
+ghost use Rattle.mh_top_warnings.specs.code.LastLine.{WritesLastLine};
 
 use mh_outside::{FileShelf, Sink, StdSink, StdSource, write_whole};
 use mh_top::{run, status};
@@ -15,7 +15,7 @@ const BAD_WORDS: &[u8] = b"menhir: usage: bad words\n";
 
 const NO_MEMORY: &[u8] = b"menhir: out of memory\n";
 
-/// Why the words of the command line cannot be read.
+/// The fault for which the words of the command line cannot be read.
 #[derive(Clone, Copy)]
 enum WordsFault {
     Unreadable,
@@ -44,9 +44,9 @@ fn words(rt: &HostRuntime) -> Result<Vec<String>, WordsFault> {
     Ok(words)
 }
 
-/// Writes why no work is begun, and gives the status.
+/// Writes the line for a fault before the work began, and gives the status, or that of a failed write.
 fn refuse<E: Sink>(err: &mut E, line: &[u8], status: u8) -> ExitCode
-    ensures { SaysLine status line.now (E.written err.old) (E.written err.new) (E.faults err.old)
+    ensures { WritesLastLine status line.now (E.written err.old) (E.written err.new) (E.faults err.old)
         (E.faults err.new) (exit_status result) }
 {
     match write_whole(err, line) {
@@ -55,7 +55,7 @@ fn refuse<E: Sink>(err: &mut E, line: &[u8], status: u8) -> ExitCode
     }
 }
 
-/// Does what the words ask for, over the files and streams of the process.
+/// Does the work that the words ask for, over the files and streams of the process.
 fn work<E: Sink>(rt: &HostRuntime, words: &[String], err: &mut E) -> ExitCode {
     let Ok(mut input) = StdSource::new(rt.alloc(), rt.stdin()) else {
         return refuse(err, NO_MEMORY, status::OUT_OF_MEMORY);

@@ -1,8 +1,8 @@
-//! Makes Knuth's canonical collection of LR(1) item sets (Knuth 1965), numbered breadth first.
+//! Builds Knuth's canonical collection of LR(1) item sets (Knuth 1965), numbered breadth-first.
 #![tactic(auto)]
 
 mod collection;
-mod met;
+mod kernel_set;
 mod uniqueness;
 
 pub use collection::canonical;

@@ -1,4 +1,4 @@
-//! The canonical automaton of a grammar is the only one.
+//! Uniqueness of the canonical automaton.
 ghost use Rattle.std.specs.Prelude.{◌≡◌};
 ghost use Rattle.mh_grammar.specs.Plain.{plain_of};
 ghost use Rattle.mh_canon_states.specs.Canonical.{IsCanonical};
@@ -6,7 +6,8 @@ ghost use Rattle.mh_canon_states.specs.Canonical.{IsCanonical};
 use mh_grammar::Grammar;
 use mh_items_kernels::Automaton;
 
-/// Two canonical automata of one grammar are one, with the same numbers and the same order of edges, whatever the widths of their sets.
+/// Law: two canonical automata of one grammar are equal, with the same numbers and the same order of edges, whatever
+/// the widths of their lookahead sets.
 pub fn is_one_automaton<const V: usize, const W: usize>(
     grammar: &Grammar,
     left: &Automaton<V>,

@@ -1,7 +1,7 @@
-pub mod Building
-pub mod Edging
-pub mod Finished
-pub mod Meaning
-pub mod Only
-pub mod Sets
-pub mod States
+pub mod PartialCollection
+pub mod IsEdgeRow
+pub mod CollectionIsCanonical
+pub mod CanonicalIsAutomaton
+pub mod OneCanonical
+pub mod ItemSets
+pub mod AreCanonicalStates

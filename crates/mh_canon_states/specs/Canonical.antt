@@ -1,62 +1,64 @@
--- The canonical collection of LR(1) item sets and its numbering (Knuth 1965): the sets that are reached from the start
--- kernels, each once, in the order in which a breadth-first search finds them.
+-- The canonical collection of LR(1) item sets and its numbering (Knuth 1965): the item sets that are reached from the
+-- start kernels, each once, in the order of a breadth-first search.
 use Rattle.std.specs.Prelude.{◌≡◌, ◌<◌, ℕ, List, Some, length, map, slice_get}
 use Rattle.std.specs.List.{All, concat}
 use Rattle.mh_grammar.specs.declared.types.Symbol.{Symbol}
 use Rattle.mh_grammar.specs.Plain.{PlainGrammar}
 use Rattle.mh_grammar.specs.Edges.{IsRising, IsEdgeBefore}
-use Rattle.mh_grammar.specs.ItemSets.{ItemSet, AreSame, StartItems, Reach}
-use Rattle.mh_grammar.specs.Numbering.{InOrder}
-use Rattle.mh_items_kernels.specs.Shapes.{Automaton}
+use Rattle.mh_grammar.specs.ItemSets.{ItemSet, AreSameItems, StartItems, PathItems}
+use Rattle.mh_grammar.specs.Numbering.{InFirstSightOrder}
+use Rattle.mh_items_kernels.specs.KernelTypes.{Automaton}
 use Rattle.mh_items_kernels.specs.Kernels.{IsItemList}
 use Rattle.mh_items_kernels.specs.Collection.{HasItem, targets_of}
-use Rattle.mh_items_kernels.specs.Automaton.{kernel_at, kernel_of, edges_at, leads_to, move_of, Moves}
+use Rattle.mh_items_kernels.specs.Automaton.{kernel_at, kernel_of, edges_at, leads_to, move_of, HasMove}
 
--- the symbols of a path lead from a start to this set
-pub record IsReach (g : PlainGrammar) (I : ItemSet) : Type 0 where
+-- A path of symbols leads from a start to the item set I.
+pub record IsReachedSet (g : PlainGrammar) (I : ItemSet) : Type 0 where
   pub start : ℕ
   pub path : List Symbol
   pub known : start < length g.starts
-  pub same : AreSame I (Reach g start path)
+  pub same : AreSameItems I (PathItems g start path)
 
--- the targets of all edges, state after state
+-- The targets of all edges, state by state.
 abbrev pub all_targets : Automaton → List ℕ
 all_targets a = concat (map targets_of a.edges)
 
+-- The automaton is the canonical collection of the grammar (Knuth 1965), numbered breadth-first.
 pub record IsCanonical (g : PlainGrammar) (a : Automaton) : Type 0 where
-  -- each kernel is the only list of its set of items, which has some
+  -- Each kernel is the only list for its set of items, and is not empty.
   pub each : (s : ℕ) → s < length a.kernels → IsItemList g (kernel_at a s) × HasItem (kernel_of a s)
   pub rows : length a.edges ≡ length a.kernels
-  -- the start kernels come first
-  pub starts : (i : ℕ) → i < length g.starts → (i < length a.kernels) × AreSame (kernel_of a i) (StartItems i)
-  -- the sets are those that are reached and not empty, each once
-  pub sound : (s : ℕ) → s < length a.kernels → IsReach g (kernel_of a s)
-  pub complete : (i : ℕ) (path : List Symbol) → i < length g.starts → HasItem (Reach g i path) → (s : ℕ) × (s < length a.kernels) × AreSame (kernel_of a s) (Reach g i path)
-  pub distinct : (s u : ℕ) → s < length a.kernels → u < length a.kernels → AreSame (kernel_of a s) (kernel_of a u) → s ≡ u
-  -- the edges of a state rise by symbol, one for each symbol that moves an item of its closure, to the set of the moved
-  -- items
+  -- The start kernels come first.
+  pub starts : (i : ℕ) → i < length g.starts → (i < length a.kernels) × AreSameItems (kernel_of a i) (StartItems i)
+  -- The states are the nonempty item sets that are reached, each once.
+  pub sound : (s : ℕ) → s < length a.kernels → IsReachedSet g (kernel_of a s)
+  pub complete : (i : ℕ) (path : List Symbol) → i < length g.starts → HasItem (PathItems g i path) → (s : ℕ) × (s < length a.kernels) × AreSameItems (kernel_of a s) (PathItems g i path)
+  pub distinct : (s u : ℕ) → s < length a.kernels → u < length a.kernels → AreSameItems (kernel_of a s) (kernel_of a u) → s ≡ u
+  -- The edges of a state rise by symbol. There is one for each symbol that moves an item of its closure, and it leads
+  -- to the set of the moved items.
   pub order : (s : ℕ) → s < length a.kernels → IsRising IsEdgeBefore (edges_at a s)
-  pub edge : (s : ℕ) (X : Symbol) → s < length a.kernels → Moves g a s X → (u : ℕ) × (leads_to a s X ≡ Some u)
-  pub target : (s : ℕ) (X : Symbol) (u : ℕ) → leads_to a s X ≡ Some u → Moves g a s X × (u < length a.kernels) × AreSame (kernel_of a u) (move_of g a s X)
-  -- state after state, each edge leads to a state that was found before or to the next one
-  pub breadth : InOrder (length g.starts) (all_targets a) (length a.kernels)
+  pub edge : (s : ℕ) (X : Symbol) → s < length a.kernels → HasMove g a s X → (u : ℕ) × (leads_to a s X ≡ Some u)
+  pub target : (s : ℕ) (X : Symbol) (u : ℕ) → leads_to a s X ≡ Some u → HasMove g a s X × (u < length a.kernels) × AreSameItems (kernel_of a u) (move_of g a s X)
+  -- State by state, each edge leads to a state that was found before or to the next new state.
+  pub breadth : InFirstSightOrder (length g.starts) (all_targets a) (length a.kernels)
 
--- a start and a path of symbols, the newest first
+-- A start and a path of symbols, the newest symbol first.
 pub record Walk : Type 0 where
   pub start : ℕ
   pub path : List Symbol
 
--- the items of the set that a walk leads to
-abbrev pub walk_of : PlainGrammar → Walk → ItemSet
-walk_of g w = Reach g w.start w.path
+-- The item set that a walk leads to.
+abbrev pub items_of_walk : PlainGrammar → Walk → ItemSet
+items_of_walk g w = PathItems g w.start w.path
 
-pub record IsWalk (g : PlainGrammar) (w : Walk) : Type 0 where
+-- The walk begins at a start of the grammar and leads to a nonempty item set.
+pub record IsWalkOf (g : PlainGrammar) (w : Walk) : Type 0 where
   pub known : w.start < length g.starts
-  pub some : HasItem (walk_of g w)
+  pub some : HasItem (items_of_walk g w)
 
--- more than a limit of different sets are reached that have items
-pub record IsOver (g : PlainGrammar) (limit : ℕ) : Type 0 where
+-- More different nonempty item sets are reached than the limit admits (Knuth 1965; the limit is this project's own).
+pub record CanonicalExceeds (g : PlainGrammar) (limit : ℕ) : Type 0 where
   pub walks : List Walk
-  pub each : All (IsWalk g) walks
-  pub distinct : (i j : ℕ) (v w : Walk) → slice_get walks i ≡ Some v → slice_get walks j ≡ Some w → AreSame (walk_of g v) (walk_of g w) → i ≡ j
+  pub each : All (IsWalkOf g) walks
+  pub distinct : (i j : ℕ) (v w : Walk) → slice_get walks i ≡ Some v → slice_get walks j ≡ Some w → AreSameItems (items_of_walk g v) (items_of_walk g w) → i ≡ j
   pub over : limit < length walks

@@ -1,5 +1,5 @@
-//! When an automaton is Knuth's canonical collection of LR(1) item sets (Knuth 1965), numbered breadth first:
-//! definitions, laws, and the most states that an automaton may have.
+//! The definition of Knuth's canonical collection of LR(1) item sets (Knuth 1965), numbered breadth-first, its laws,
+//! and the upper bound of the number of states.
 #![tactic(auto)]
 
 mod limits;

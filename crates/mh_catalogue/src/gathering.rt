@@ -1,19 +1,20 @@
-//! The rows of a catalogue, state by state.
+//! The rows of a catalogue, added state by state.
 ghost use Rattle.std.specs.Prelude.{◌≡◌, ◌<◌, ◌+◌, ℕ, Err, OnOk, length};
 ghost use Rattle.mh_tables_core.specs.Facts.{Facts};
 ghost use Rattle.mh_tables_core.specs.Failing.{TooLongAt};
-ghost use Rattle.mh_catalogue_rows.specs.Rows.{rows_of, IsMade};
-ghost use Rattle.mh_catalogue.specs.code.Gathering.{RowsBelow};
+ghost use Rattle.mh_catalogue_rows.specs.Rows.{rows_of, IsCatalogueResult};
+ghost use Rattle.mh_catalogue.specs.code.RowsBelow.{RowsBelow};
 
 use mh_catalogue_rows::{CatalogueFault, Row};
 use mh_grammar::Memory;
 use mh_reach::Reach;
 use std::alloc::Global;
 
-/// The most that a sentence of a catalogue may cost.
-const DEAREST: u32 = 1_000_000;
+/// The greatest cost of a sentence in a catalogue.
+const MAX_SENTENCE_COST: u32 = 1_000_000;
 
-/// Puts the row of a state in, where some sentence fails there.
+/// Appends the row of a state, if a sentence fails there. Fails with `TooLong` if each such sentence costs more than
+/// 1,000,000, and for want of memory.
 fn add_row(
     alloc: Global,
     reach: &Reach,
@@ -29,7 +30,7 @@ fn add_row(
     match reach.cost_of(state) {
         None => Ok(()),
         Some(cost) => {
-            if cost > DEAREST {
+            if cost > MAX_SENTENCE_COST {
                 return Err(CatalogueFault::TooLong { state });
             }
             match reach.sentence_of(alloc, state) {
@@ -50,7 +51,7 @@ fn add_row(
     }
 }
 
-/// The rows of all states: those of the catalogue of the table.
+/// The rows of all states, or the fault of the lowest state that has one.
 pub(crate) fn all_rows(
     alloc: Global,
     reach: &Reach,
@@ -58,7 +59,7 @@ pub(crate) fn all_rows(
 ) -> Result<Vec<Row>, CatalogueFault>
     requires facts { Facts reach.now }
     requires states { states ≡ length reach.now.states }
-    ensures { IsMade reach.now result }
+    ensures { IsCatalogueResult reach.now result }
 {
     let mut rows = Vec::new(alloc);
     for state in 0..states {

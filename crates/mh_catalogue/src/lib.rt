@@ -1,6 +1,5 @@
-//! The states in which sentences fail, a row for each, by the best way to fail in each state.
-//!
-//! The catalogue of the states in which sentences fail: a row for each, with the first sentence that fails there.
+//! The catalogue of a table (Pottier 2016): a row for each state in which a sentence fails, with the first sentence
+//! that fails there.
 #![tactic(auto)]
 
 mod gathering;

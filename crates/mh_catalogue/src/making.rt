@@ -1,4 +1,4 @@
-//! The catalogue of a table, by both searches of it.
+//! The catalogue of a table.
 ghost use Rattle.std.specs.Prelude.{◌≡◌, ℕ, Err, IfOk};
 ghost use Rattle.mh_tables_core.specs.Failing.{Catalogue, TooLongAt};
 ghost use Rattle.mh_catalogue_rows.specs.Rows.{rows_of, AreShort};
@@ -10,8 +10,9 @@ use mh_reach::reach;
 use mh_tables_core::Halting;
 use std::alloc::Global;
 
-/// The catalogue of a table: a row for each state in which some sentence fails, rising, with the sentence that fails there first. `TooLong` is
-/// answered exactly where each sentence that fails in some state costs more than 1,000,000, with the lowest such state.
+/// Makes the catalogue of a table: a row for each state in which a sentence fails, in rising order, with the first
+/// sentence that fails there. Returns `TooLong` only if in some state each failing sentence costs more than 1,000,000,
+/// with the lowest such state; then there is no catalogue. Fails with `Memory` for want of memory alone.
 pub fn catalogue(alloc: Global, table: &Halting) -> Result<Vec<Row>, CatalogueFault>
     ensures ok { IfOk result (λ rows. Catalogue table.now (rows_of rows.items)) }
     ensures short { IfOk result (λ rows. AreShort (rows_of rows.items)) }

@@ -1,4 +1,4 @@
-//! The rows of a catalogue, and the fault where there is none: types and definitions.
+//! The rows of a catalogue, and the faults of making one: types and definitions.
 #![tactic(auto)]
 
 mod rows;

@@ -1,8 +1,8 @@
-//! A catalogue's rows, and the fault where there is none.
+//! The types of a catalogue's rows and faults.
 use mh_grammar::{Sequence, Token};
 
-/// A state in which some sentence fails, with the first of these sentences: the number of its start, and its tokens, of which
-/// the last is refused in the state.
+/// A state in which a sentence fails, with the first of these sentences: the number of its start, from 0, and its
+/// tokens. The last token is refused in the state.
 #[derive(Drop)]
 pub struct Row {
     pub state: u32,
@@ -10,10 +10,10 @@ pub struct Row {
     pub sentence: Sequence<Token>,
 }
 
-/// Why there is no catalogue.
+/// The reason why there is no catalogue.
 #[derive(Clone, Copy, PartialEq, Eq, Drop)]
 pub enum CatalogueFault {
-    /// Each sentence that fails in this state costs more than 1,000,000, and the state is the lowest such.
+    /// Sentences fail in this state, but each costs more than 1,000,000; it is the lowest state of which this is true.
     TooLong { state: u32 },
     /// Memory ran out.
     Memory,

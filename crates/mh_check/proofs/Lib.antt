@@ -1,8 +1,8 @@
-mod Known
-pub mod Placing
-pub mod Files
+mod FailsOnce
+pub mod ArePlaces
+pub mod IsCompiled
 pub mod Missing
-pub mod Listing
-pub mod Once
-pub mod Either
-pub mod Told
+pub mod CompiledText
+pub mod CheckedOnce
+pub mod CompiledOrFault
+pub mod FaultLines

@@ -1,4 +1,4 @@
--- The states that a second file lacks, one after another.
+-- Lemmas on the loop that collects the missing states.
 use Rattle.std.proofs.Common.{◌≡◌, ◌+◌, ◌-◌, ◌<◌, ◌≤◌, ℕ, suc, Bool, true, false, List, [], ◌∷◌, ◌++◌, filter, Option, length, refl, sym, ap, ap₂, ◌∙◌, arith, append_assoc, append-nil}
 use Rattle.mh_check.specs.Compiling.{message_at, numbers_from, is_missing, missing}
 

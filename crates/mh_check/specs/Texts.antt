@@ -1,22 +1,23 @@
--- The texts of faults and of compiled messages (the wording is this project's own; the form of a line follows the Menhir manual).
+-- The texts of faults and of compiled messages. The wording is this project's own; the form of a line is that of the
+-- Menhir manual.
 use Rattle.std.specs.Prelude.{ℕ, ◌+◌, List, [], ◌∷◌, ◌++◌, length, Option, None, Some, codes, decimal}
 use Rattle.mh_tables_core.specs.Run.{Ending, Accepted, Overshot, Rejected}
-use Rattle.mh_msgfile.specs.Messages.{FaultFound as FileFault, BadShape, NamesNoStartAt, LacksStartAt, NamesUnknownAt}
-use Rattle.mh_check.specs.Checks.{FaultFound, NotRefusedAt, RefusedEarlyAt, SharedBy}
+use Rattle.mh_msgfile.specs.Messages.{MessagesFault as FileFault, BadShape, NamesNoStartAt, LacksStartAt, NamesUnknownAt}
+use Rattle.mh_check.specs.Checks.{SoundnessFault, NotRefusedAt, RefusedEarlyAt, SharedBy}
 use Rattle.mh_grammar.specs.Text.{Text}
 
--- a line of a file
+-- The beginning of the report of a fault: the file and the line.
 unfoldable pub place_text : Text → ℕ → Text
 place_text name line = codes "menhir: " ++ name ++ codes ":" ++ decimal line ++ codes ": "
 
--- what is wrong with a file
+-- The line that reports a fault of a messages file.
 abbrev pub file_line : Text → FileFault → Text
 file_line name (BadShape line) = place_text name line ++ codes "shape\n"
 file_line name (NamesNoStartAt line start) = place_text name line ++ codes "unknown start " ++ start ++ codes "\n"
 file_line name (LacksStartAt line) = place_text name line ++ codes "missing start\n"
 file_line name (NamesUnknownAt line token) = place_text name line ++ codes "unknown token " ++ token ++ codes "\n"
 
--- a run that does not refuse
+-- The text for a run that ends without a refusal.
 abbrev pub ending_text : Ending → Text
 ending_text (Accepted read) = codes "not refused: ACCEPT\n"
 ending_text (Overshot state) = codes "not refused: OVERSHOOT\n"
@@ -28,8 +29,8 @@ early_text at = codes "refused early at index " ++ decimal at ++ codes "\n"
 unfoldable pub shared_text : ℕ → ℕ → Text
 shared_text state line = codes "state " ++ decimal state ++ codes " is shared with line " ++ decimal line ++ codes "\n"
 
--- what is wrong with its sentences
-abbrev pub check_line : Text → FaultFound → Text
+-- The line that reports why the sentences of a file are not sound.
+abbrev pub check_line : Text → SoundnessFault → Text
 check_line name (NotRefusedAt line how) = place_text name line ++ ending_text how
 check_line name (RefusedEarlyAt line at) = place_text name line ++ early_text at
 check_line name (SharedBy first second state) = place_text name second ++ shared_text state first
@@ -37,12 +38,12 @@ check_line name (SharedBy first second state) = place_text name second ++ shared
 unfoldable pub state_text : ℕ → ℕ → Text
 state_text state size = codes "state " ++ decimal state ++ codes " " ++ decimal size ++ codes "\n"
 
--- a state with the size of its message, and the message
+-- The text of a state: its number, the size of its message in bytes, and the message.
 abbrev pub message_text : ℕ → Option Text → Text
 message_text state None = []
 message_text state (Some message) = state_text state (length message) ++ message
 
--- the states from one on, rising
+-- The texts of the states from `state` on, in ascending order.
 abbrev pub compiled_from : ℕ → List (Option Text) → Text
 compiled_from state [] = []
 compiled_from state (message ∷ messages) = message_text state message ++ compiled_from (state + 1) messages

@@ -1,4 +1,4 @@
-//! The messages of states.
+//! The messages of the states of a table.
 ghost use Rattle.std.specs.Prelude.{◌≡◌, ◌≤◌, ◌^◌, ◌∷◌, ◌++◌, [], length, map, filter, is_some, slice_get, MatchOption, IfOk, OnOk, Some, None};
 ghost use Rattle.mh_check.specs.Compiling.{message_at, is_missing, missing};
 ghost use Rattle.mh_check.specs.code.Places.{message_of_place, place_in};
@@ -8,7 +8,8 @@ use mh_grammar::{Memory, Sequence};
 use std::alloc::Global;
 use std::marker::Model;
 
-/// Messages by the states that they are for. The states of one entry share its message.
+/// A compiled messages file: for each state the message of the sentence that fails there, if there is one. All states
+/// of one entry share its message.
 #[derive(Drop)]
 pub struct Compiled {
     places: Vec<Option<SentencePlace>>,
@@ -24,7 +25,7 @@ impl Model for Compiled {
     ghost view = { λ c. map (message_of_place c.messages.items) c.places.items };
 }
 
-/// These messages, by the entries of the states' places.
+/// Combines the places of the states with the messages of the entries.
 pub(crate) fn compiled_of(
     places: Vec<Option<SentencePlace>>,
     messages: Vec<Sequence<u8>>,
@@ -34,7 +35,7 @@ pub(crate) fn compiled_of(
     Compiled { places, messages }
 }
 
-/// The place of the sentence that fails in a state, if one does.
+/// The place of the sentence that fails in a state, if there is one.
 fn place_at(places: &[Option<SentencePlace>], state: u32) -> Option<SentencePlace>
     ensures { result ≡ place_in places.now state }
 {
@@ -44,7 +45,7 @@ fn place_at(places: &[Option<SentencePlace>], state: u32) -> Option<SentencePlac
     }
 }
 
-/// The message of an entry.
+/// The message of the entry of a place.
 fn message_at_place(messages: &[Sequence<u8>], place: SentencePlace) -> Option<&[u8]>
     ensures { MatchOption result (slice_get messages.now place.entry ≡ None) (λ message. slice_get messages.now place.entry ≡ Some message.now) }
 {
@@ -55,8 +56,8 @@ fn message_at_place(messages: &[Sequence<u8>], place: SentencePlace) -> Option<&
 }
 
 impl Compiled {
-    /// The message of the entry whose sentence fails in this state, or none. It takes no memory, and looks the state up by
-    /// its number.
+    /// Returns the message of the entry with a sentence that fails in this state, if there is one, in constant time and
+    /// without memory.
     pub fn message(&self, state: u32) -> Option<&[u8]>
         ensures { MatchOption result (message_at self.now state ≡ None) (λ message. message_at self.now state ≡ Some message.now) }
     {
@@ -66,14 +67,14 @@ impl Compiled {
         }
     }
 
-    /// Whether a state has a message.
+    /// True if the state has a message.
     fn has_message(&self, state: u32) -> bool
         ensures { result ≡ is_some (message_at self.now state) }
     {
         self.message(state).is_some()
     }
 
-    /// How many states the table has, those without a message too.
+    /// The number of states of the table, also those without a message.
     pub fn states(&self) -> usize
         ensures { result ≡ length self.now }
     {
@@ -81,7 +82,7 @@ impl Compiled {
     }
 }
 
-/// Puts in a state for which the first has a message and the second has none.
+/// Appends the state if the first file has a message for it and the second has none.
 fn put_missing(
     states: &mut Vec<u32>,
     left: &Compiled,
@@ -96,7 +97,8 @@ fn put_missing(
     Ok(())
 }
 
-/// The states for which the first has a message and the second has none, rising. `Memory` only where there was none.
+/// Returns the states for which the first file has a message and the second has none, in ascending order. Fails only if
+/// memory runs out.
 pub fn compare(alloc: Global, left: &Compiled, right: &Compiled) -> Result<Vec<u32>, Memory>
     requires { length left.now ≤ 2 ^ 32 }
     ensures { IfOk result (λ states. states.items ≡ missing left.now right.now) }

@@ -1,6 +1,6 @@
-//! Messages files against a table.
+//! Messages files checked against a table and compiled.
 ghost use Rattle.std.specs.Prelude.{◌≡◌, length, map, IfOk};
-ghost use Rattle.mh_msgfile.specs.Messages.{AreOf};
+ghost use Rattle.mh_msgfile.specs.Messages.{AreSentencesOf};
 ghost use Rattle.mh_check.specs.Compiling.{Compiles};
 
 use crate::compiled::{Compiled, compiled_of};
@@ -11,14 +11,15 @@ use mh_run::Verdict;
 use mh_tables_core::Halting;
 use std::alloc::Global;
 
-/// Why a messages file does not fit a table: the fault of the first sentence, in order of lines, that breaks it.
+/// The reason why a messages file does not fit a table: the fault of the first sentence, in order of lines, that breaks
+/// soundness. Lines are numbered from 1.
 #[derive(Drop)]
 pub enum CheckFault {
-    /// The sentence of this line is not refused.
+    /// The run of the sentence of this line ends with this verdict, which is no refusal.
     NotRefused { line: u32, verdict: Verdict },
-    /// It is refused at this place, counted from 0, before its last token.
+    /// The sentence of this line is refused at the token with this index, from 0, which is not its last token.
     RefusedEarly { line: u32, at: u32 },
-    /// The sentence of the second line fails in a state in which that of the first, an earlier one, fails.
+    /// The sentence of line `second` fails in the same state as the earlier sentence of line `first`.
     SharedState { first: u32, second: u32, state: u32 },
     /// Memory ran out.
     Memory,
@@ -36,10 +37,11 @@ fn copied_messages(alloc: Global, entries: &[Entry]) -> Result<Vec<Sequence<u8>>
     Ok(messages)
 }
 
-/// The messages of a file by the states in which its sentences fail, if each fails at its last token and no two in one state;
-/// else the fault of the first sentence, in order, that breaks this. `Memory` only where there was none.
+/// Compiles a messages file: returns the messages by the states in which the sentences fail, if each sentence fails at
+/// its last token and no two fail in the same state; else the fault of the first sentence, in order, that breaks this.
+/// Fails with `Memory` only if memory runs out.
 pub fn compile(alloc: Global, table: &Halting, file: &MsgFile) -> Result<Compiled, CheckFault>
-    requires known { AreOf (length table.now.grammar.starts) table.now.grammar.tokens file.now }
+    requires known { AreSentencesOf (length table.now.grammar.starts) table.now.grammar.tokens file.now }
     ensures { Compiles table.now file.now result }
 {
     let places = match place_file(alloc, table, file.entries.as_slice()) {

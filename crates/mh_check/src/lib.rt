@@ -1,4 +1,5 @@
-//! Messages files against a table: each sentence fails at its last token, and no two fail in one state.
+//! Messages files checked against a table and compiled: each sentence fails at its last token, and no two fail in the
+//! same state.
 #![tactic(auto)]
 
 mod compiled;

@@ -1,11 +1,11 @@
-//! Sentences that were looked at, by the states that they fail in.
+//! The places of checked sentences, by the states in which they fail.
 ghost use Rattle.std.specs.Prelude.{◌≡◌, ◌+◌, ◌<◌, [], ◌∷◌, List, IfOk, MatchResult, length};
 ghost use Rattle.std.specs.List.{AllByRecursion};
-ghost use Rattle.mh_msgfile.specs.Messages.{IsOf};
+ghost use Rattle.mh_msgfile.specs.Messages.{IsSentenceOf};
 ghost use Rattle.mh_msgfile.specs.declared.messages.MsgSentence.{MsgSentence as MsgSentence'};
-ghost use Rattle.mh_check.specs.Checks.{Breaks, FailsIn};
-ghost use Rattle.mh_check.specs.Compiling.{Tells};
-ghost use Rattle.mh_check.specs.code.Places.{Item, item, items_of, Placed, PlacesAll, PlacesMore, listed};
+ghost use Rattle.mh_check.specs.Checks.{BreaksSoundness, FailsIn};
+ghost use Rattle.mh_check.specs.Compiling.{ReportsCheckFault};
+ghost use Rattle.mh_check.specs.code.Places.{EntrySentence, entry_sentence, sentences_of_entry, ArePlaces, PlacesAllSentences, PlacesMoreSentences, listed_places};
 
 use crate::compiling::CheckFault;
 use mh_grammar::Memory;
@@ -17,30 +17,31 @@ use std::alloc::Global;
 /// The place in the file of the sentence that fails in a state.
 #[derive(Clone, Copy)]
 pub struct SentencePlace {
-    /// The number of its line.
+    /// The number of its line, from 1.
     pub(crate) line: u32,
-    /// The number of its entry, counted from 0.
+    /// The index of its entry, from 0.
     pub(crate) entry: usize,
 }
 
-/// No place for any state.
+/// The list in which no state has a place.
 fn no_places(alloc: Global, table: &Table) -> Result<Vec<Option<SentencePlace>>, Memory>
     ensures size { IfOk result (λ places. length places.items ≡ length table.now.states) }
-    ensures none { IfOk result (λ places. Placed table.now [] places.items) }
+    ensures none { IfOk result (λ places. ArePlaces table.now [] places.items) }
 {
     let places = vec![in alloc; None; table.states() as usize]?;
     Ok(places)
 }
 
-/// The state that refuses the last token of a sentence, or why none does. `Memory` only where there was none.
+/// Returns the state that refuses the last token of a sentence, or the reason why no state does. Fails with `Memory`
+/// only if memory runs out.
 pub fn failing_state(
     alloc: Global,
     table: &Halting,
     sentence: &MsgSentence,
 ) -> Result<u32, CheckFault>
-    requires { IsOf (length table.now.grammar.starts) table.now.grammar.tokens sentence.now }
+    requires { IsSentenceOf (length table.now.grammar.starts) table.now.grammar.tokens sentence.now }
     ensures known { IfOk result (λ state. state < length table.now.states) }
-    ensures fails { MatchResult result (λ state. FailsIn table.now sentence.now state) (λ fault. (earlier : List MsgSentence') → Tells fault (Breaks table.now earlier sentence.now)) }
+    ensures fails { MatchResult result (λ state. FailsIn table.now sentence.now state) (λ fault. (earlier : List MsgSentence') → ReportsCheckFault fault (BreaksSoundness table.now earlier sentence.now)) }
 {
     let line = sentence.line;
     let tokens = sentence.tokens.as_slice();
@@ -63,7 +64,8 @@ pub fn failing_state(
     }
 }
 
-/// Puts in a sentence that fails, where no other fails in its state.
+/// Records the place of a sentence for the state in which the sentence fails; returns a fault if the state has a place
+/// already.
 fn place_sentence(
     alloc: Global,
     table: &Halting,
@@ -71,10 +73,10 @@ fn place_sentence(
     sentence: &MsgSentence,
     entry: usize,
 ) -> Result<(), CheckFault>
-    requires known { IsOf (length table.now.grammar.starts) table.now.grammar.tokens sentence.now }
+    requires known { IsSentenceOf (length table.now.grammar.starts) table.now.grammar.tokens sentence.now }
     requires size { length places.old.items ≡ length table.now.states }
     ensures size { length places.new.items ≡ length table.now.states }
-    ensures places { (done : List Item) → Placed table.now done places.old.items → PlacesMore table.now done (item entry sentence.now ∷ []) places.new.items result }
+    ensures places { (done : List EntrySentence) → ArePlaces table.now done places.old.items → PlacesMoreSentences table.now done (entry_sentence entry sentence.now ∷ []) places.new.items result }
 {
     let line = sentence.line;
     let state = match failing_state(alloc, table, sentence) {
@@ -94,7 +96,7 @@ fn place_sentence(
     }
 }
 
-/// Puts in the sentences of an entry.
+/// Records the place of each sentence of an entry for the state in which the sentence fails.
 fn place_entry(
     alloc: Global,
     table: &Halting,
@@ -102,10 +104,10 @@ fn place_entry(
     sentences: &[MsgSentence],
     entry: usize,
 ) -> Result<(), CheckFault>
-    requires known { AllByRecursion (IsOf (length table.now.grammar.starts) table.now.grammar.tokens) sentences.now }
+    requires known { AllByRecursion (IsSentenceOf (length table.now.grammar.starts) table.now.grammar.tokens) sentences.now }
     requires size { length places.old.items ≡ length table.now.states }
     ensures size { length places.new.items ≡ length table.now.states }
-    ensures places { (done : List Item) → Placed table.now done places.old.items → PlacesMore table.now done (items_of entry sentences.now) places.new.items result }
+    ensures places { (done : List EntrySentence) → ArePlaces table.now done places.old.items → PlacesMoreSentences table.now done (sentences_of_entry entry sentences.now) places.new.items result }
 {
     for sentence in sentences {
         match place_sentence(alloc, table, places, sentence, entry) {
@@ -116,14 +118,14 @@ fn place_entry(
     Ok(())
 }
 
-/// The places of the sentences of these entries.
+/// Returns the places of the sentences of these entries, by state, or the first fault.
 pub(crate) fn place_file(
     alloc: Global,
     table: &Halting,
     entries: &[Entry],
 ) -> Result<Vec<Option<SentencePlace>>, CheckFault>
-    requires { AllByRecursion (λ entry. AllByRecursion (IsOf (length table.now.grammar.starts) table.now.grammar.tokens) entry.sentences) entries.now }
-    ensures { PlacesAll table.now entries.now (listed result) }
+    requires { AllByRecursion (λ entry. AllByRecursion (IsSentenceOf (length table.now.grammar.starts) table.now.grammar.tokens) entry.sentences) entries.now }
+    ensures { PlacesAllSentences table.now entries.now (listed_places result) }
 {
     let Ok(mut places) = no_places(alloc, table.table()) else {
         return Err(CheckFault::Memory);

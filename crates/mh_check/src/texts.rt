@@ -1,8 +1,8 @@
-//! The texts of faults and of compiled messages.
+//! The texts of faults and of compiled messages. Each `write_` function appends to a text.
 ghost use Rattle.std.specs.Prelude.{◌≡◌, ◌≤◌, ◌^◌, ◌++◌, length, decimal, IfOk, OnOk};
 ghost use Rattle.mh_run.specs.Verdicts.{ending_for};
-ghost use Rattle.mh_msgfile.specs.Messages.{Tells as TellsFile};
-ghost use Rattle.mh_check.specs.Compiling.{Tells, message_at};
+ghost use Rattle.mh_msgfile.specs.Messages.{ReportsFault as TellsFile};
+ghost use Rattle.mh_check.specs.Compiling.{ReportsCheckFault, message_at};
 ghost use Rattle.mh_check.specs.Texts.{place_text, file_line, ending_text as ending_line, early_text, shared_text, check_line, state_text, message_text, compiled_text as compiled_lines};
 
 use crate::compiled::Compiled;
@@ -20,7 +20,7 @@ fn write_number(alloc: Global, text: &mut Vec<u8>, number: usize) -> Result<(), 
     Ok(())
 }
 
-/// Writes the beginning of a line on err that speaks of a line of a file.
+/// Appends the beginning of the report of a fault: the file and the line.
 #[tactic(auto, unfolding(crate::specs::Texts::place_text))]
 fn write_place(alloc: Global, text: &mut Vec<u8>, name: &[u8], line: u32) -> Result<(), Memory>
     ensures { OnOk result (text.new.items ≡ text.old.items ++ place_text name.now line) }
@@ -33,7 +33,7 @@ fn write_place(alloc: Global, text: &mut Vec<u8>, name: &[u8], line: u32) -> Res
     Ok(())
 }
 
-/// Writes the line that tells the fault of a messages file of this name.
+/// Appends the line that reports a fault of the messages file with this name.
 fn write_file_fault(
     alloc: Global,
     text: &mut Vec<u8>,
@@ -71,7 +71,8 @@ fn write_file_fault(
     }
 }
 
-/// The line on err that tells the fault of a messages file of this name. For want of memory it tells nothing.
+/// Returns the line for the error output that reports a fault of the messages file with this name. Fails if memory runs
+/// out, or if the fault is that memory ran out.
 pub fn file_fault_line(alloc: Global, name: &[u8], fault: &MsgFault) -> Result<Vec<u8>, Memory>
     ensures { IfOk result (λ text. TellsFile fault.now (λ found. text.items ≡ file_line name.now found)) }
 {
@@ -80,7 +81,7 @@ pub fn file_fault_line(alloc: Global, name: &[u8], fault: &MsgFault) -> Result<V
     Ok(text)
 }
 
-/// The words for a run that does not refuse.
+/// The text for a run that ends without a refusal; empty for a refusal.
 pub fn ending_text(verdict: Verdict) -> &'static [u8]
     ensures { result.now ≡ ending_line (ending_for verdict) }
 {
@@ -91,8 +92,8 @@ pub fn ending_text(verdict: Verdict) -> &'static [u8]
     }
 }
 
-/// Writes that a sentence is refused at this place, counted from 0, before its last token. Fails for want of memory
-/// alone.
+/// Appends the text that a sentence is refused at the token with this index, from 0, before its last token. Fails only
+/// if memory runs out.
 #[tactic(auto, unfolding(crate::specs::Texts::early_text))]
 pub fn write_early(alloc: Global, text: &mut Vec<u8>, at: u32) -> Result<(), Memory>
     ensures { OnOk result (text.new.items ≡ text.old.items ++ early_text at) }
@@ -115,14 +116,14 @@ fn write_shared(alloc: Global, text: &mut Vec<u8>, state: u32, line: u32) -> Res
     Ok(())
 }
 
-/// Writes the line that tells why a messages file of this name does not fit a table.
+/// Appends the line that reports why the messages file with this name does not fit a table.
 fn write_check_fault(
     alloc: Global,
     text: &mut Vec<u8>,
     name: &[u8],
     fault: &CheckFault,
 ) -> Result<(), Memory>
-    ensures { OnOk result (Tells fault.now (λ found. text.new.items ≡ text.old.items ++ check_line name.now found)) }
+    ensures { OnOk result (ReportsCheckFault fault.now (λ found. text.new.items ≡ text.old.items ++ check_line name.now found)) }
 {
     match fault {
         CheckFault::NotRefused { line, verdict } => {
@@ -148,9 +149,10 @@ fn write_check_fault(
     }
 }
 
-/// The line on err that tells why a messages file of this name does not fit a table. For want of memory it tells nothing.
+/// Returns the line for the error output that reports why the messages file with this name does not fit a table. Fails
+/// if memory runs out, or if the fault is that memory ran out.
 pub fn check_fault_line(alloc: Global, name: &[u8], fault: &CheckFault) -> Result<Vec<u8>, Memory>
-    ensures { IfOk result (λ text. Tells fault.now (λ found. text.items ≡ check_line name.now found)) }
+    ensures { IfOk result (λ text. ReportsCheckFault fault.now (λ found. text.items ≡ check_line name.now found)) }
 {
     let mut text = Vec::new(alloc);
     write_check_fault(alloc, &mut text, name, fault)?;
@@ -169,7 +171,7 @@ fn write_state(alloc: Global, text: &mut Vec<u8>, state: usize, size: usize) -> 
     Ok(())
 }
 
-/// Writes the message of a state, if it has one.
+/// Appends the message of a state, if it has one.
 fn write_message(
     alloc: Global,
     text: &mut Vec<u8>,
@@ -186,8 +188,8 @@ fn write_message(
     Ok(())
 }
 
-/// The messages of all states that have one, rising: the state, the size of its message, and the message. Fails for
-/// want of memory alone.
+/// Returns the messages of all states that have one, in ascending order: the number of the state, the size of its
+/// message in bytes, and the message. Fails only if memory runs out.
 pub fn compiled_text(alloc: Global, compiled: &Compiled) -> Result<Vec<u8>, Memory>
     requires { length compiled.now ≤ 2 ^ 32 }
     ensures { IfOk result (λ text. text.items ≡ compiled_lines compiled.now) }

@@ -1,8 +1,8 @@
 pub mod Pairs
 pub mod Cells
-pub mod Sound
-pub mod Reducing
-pub mod StepsOn
-pub mod Settled
-pub mod Reached
-pub mod Falls
+pub mod IsSound
+pub mod CanReduce
+pub mod ManySteps
+pub mod Settling
+pub mod SentenceOutcomes
+pub mod BelowIsShorter

@@ -1,13 +1,13 @@
-//! Checkpoints.
+//! Checkpoints: immutable positions of a run.
 ghost use Rattle.std.specs.Prelude.{◌≡◌, ◌<◌, ◌∷◌, [], length, true, false, IfOk, IfErr, IfSome, IfNone, OnOk};
 ghost use Rattle.mh_tables_core.specs.Run.{Shifts, Reduces};
-ghost use Rattle.mh_tables_core.specs.Moves.{move_for};
-ghost use Rattle.mh_tables_core.specs.Deep.{too_deep};
-ghost use Rattle.mh_engine.specs.code.Reducing.{CanReduce};
-ghost use Rattle.mh_engine.specs.Phases.{next_move, phase_of, IsAsking, CanGoOn};
-ghost use Rattle.mh_engine.specs.Branches.{Branch, StandsAt, new_branch, with_token, with_step};
-ghost use Rattle.mh_engine.specs.code.Settled.{Kept};
-ghost use Rattle.mh_engine.specs.Steps.{begun, offered, refused_at, resumed};
+ghost use Rattle.mh_tables_core.specs.NextActions.{move_for};
+ghost use Rattle.mh_tables_core.specs.TooDeep.{too_deep};
+ghost use Rattle.mh_engine.specs.code.CanReduce.{CanReduce};
+ghost use Rattle.mh_engine.specs.Phases.{next_move, phase_of, CanOffer, CanResume};
+ghost use Rattle.mh_engine.specs.Branches.{Branch, HasPosition, new_branch, with_token, with_step};
+ghost use Rattle.mh_engine.specs.code.Settling.{CheckpointFacts};
+ghost use Rattle.mh_engine.specs.Steps.{initial_position, offered, refused_position, resumed};
 ghost use Rattle.mh_engine.specs.declared.phase.Phase.TheVariants as phases;
 ghost use Rattle.mh_engine.specs.declared.fault.ResumeFault.TheVariants as faults;
 
@@ -15,12 +15,13 @@ use crate::fault::ResumeFault;
 use crate::phase::Phase;
 use crate::stack::Stack;
 use mh_grammar::{Memory, Token};
-use mh_tables_core::{Choice, Halting, choose};
+use mh_tables_core::{Halting, NextAction, choose};
 use mh_tree::{Tree, can_be_children, leaf, node};
 use std::alloc::Global;
 use std::marker::Model;
 
-/// A moment of a run, which is never changed.
+/// A position of a run: a stack, at most one token that is offered and not shifted yet, and whether this token was
+/// refused. A checkpoint never changes; each call makes a new one.
 #[derive(Drop)]
 pub struct Checkpoint<'t> {
     table: &'t Halting,
@@ -30,7 +31,7 @@ pub struct Checkpoint<'t> {
 }
 
 impl<'t> Model for Checkpoint<'t> {
-    ghost use Rattle.mh_engine.specs.Positions.{Position, waiting};
+    ghost use Rattle.mh_engine.specs.Positions.{Position, position_with_look};
 
     ghost Value = { Position };
 
@@ -39,19 +40,20 @@ impl<'t> Model for Checkpoint<'t> {
 
     ghost coded = { Prim.hlevel (codes, pairs_code) };
 
-    ghost view = { λ c. waiting c.table.now c.stack c.pending c.refused };
+    ghost view = { λ c. position_with_look c.table.now c.stack c.pending c.refused };
 
-    ghost use Rattle.mh_engine.specs.code.Sound.{IsSound};
+    ghost use Rattle.mh_engine.specs.code.IsSound.{IsSound};
     ghost use Rattle.mh_tables_core.specs.Halting.{IsLook};
 
-    ghost invariant = { λ c. IsSound (waiting c.table.now c.stack c.pending c.refused) × IsLook c.table.now c.pending };
+    ghost invariant = { λ c. IsSound (position_with_look c.table.now c.stack c.pending c.refused) × IsLook c.table.now c.pending };
 }
 
-/// The checkpoint where the run of a start begins, before any token.
+/// Returns the checkpoint at which the run of a start begins, before any token. `start` is the number of the start,
+/// from 0.
 pub fn begin<'t>(table: &'t Halting, start: u16) -> Checkpoint<'t>
     requires { start < length table.now.grammar.starts }
-    ensures made { result ≡ begun table.now start [] }
-    ensures branch { StandsAt (new_branch start) result }
+    ensures made { result ≡ initial_position table.now start [] }
+    ensures branch { HasPosition (new_branch start) result }
 {
     Checkpoint {
         table,
@@ -62,29 +64,29 @@ pub fn begin<'t>(table: &'t Halting, start: u16) -> Checkpoint<'t>
 }
 
 impl<'t> Checkpoint<'t> {
-    /// What is true of every checkpoint: an empty call whose contract says so.
+    /// Does nothing; its contract states the facts that hold of every checkpoint.
     pub(crate) fn facts(&self)
-        ensures { Kept self.now }
+        ensures { CheckpointFacts self.now }
     {
         let _table = self.table.table();
         let _pending = self.pending;
     }
 
-    /// How many pairs of a state and a tree there are.
+    /// The number of pairs of a state and a tree on the stack.
     pub(crate) fn depth(&self) -> u32
         ensures { result ≡ length self.now.pairs.trees }
     {
         self.stack.count()
     }
 
-    /// The move that comes next.
-    fn choice(&self) -> Choice
+    /// The next move of the run.
+    fn choice(&self) -> NextAction
         ensures { move_for result ≡ next_move self.now }
     {
         choose(self.table.table(), self.stack.top(), self.pending)
     }
 
-    /// What the run does next.
+    /// Returns what the run does next.
     #[tactic(auto, unfolding(crate::specs::Phases::phase_of))]
     pub fn phase(&self) -> Phase
         ensures { result ≡ phase_of self.now }
@@ -94,18 +96,18 @@ impl<'t> Checkpoint<'t> {
         }
         let state = self.stack.top();
         match self.choice() {
-            Choice::Accept => Phase::Accepted,
-            Choice::Ask => Phase::InputNeeded { state },
-            Choice::Refuse => Phase::HandlingError { state },
-            Choice::Shift(_) => match self.pending {
+            NextAction::Accept => Phase::Accepted,
+            NextAction::Ask => Phase::InputNeeded { state },
+            NextAction::Refuse => Phase::HandlingError { state },
+            NextAction::Shift(_) => match self.pending {
                 Some(token) => Phase::Shifting { state, token },
                 None => unreachable!(),
             },
-            Choice::Reduce(production) => Phase::AboutToReduce { state, production },
+            NextAction::Reduce(production) => Phase::AboutToReduce { state, production },
         }
     }
 
-    /// An equal checkpoint. Fails for want of memory alone.
+    /// Returns an equal checkpoint. Fails only if memory runs out.
     pub fn fork(&self) -> Result<Checkpoint<'t>, Memory>
         ensures { IfOk result (λ c. c ≡ self.now) }
     {
@@ -117,7 +119,7 @@ impl<'t> Checkpoint<'t> {
         })
     }
 
-    /// The start symbol's tree, exactly where the run accepts.
+    /// Returns the tree of the start symbol if the run accepts, else nothing.
     pub fn tree(&self) -> Option<&Tree>
         ensures some { IfSome result (λ tree. self.now.pairs.trees ≡ tree.now ∷ []) }
         ensures accepted { IfSome result (λ tree. phase_of self.now ≡ phases.Accepted) }
@@ -133,12 +135,13 @@ impl<'t> Checkpoint<'t> {
         }
     }
 
-    /// The checkpoint with a token offered, which is held until it is shifted. Fails for want of memory alone.
+    /// Returns the checkpoint with this token offered; the token stays offered until it is shifted. Fails only if
+    /// memory runs out.
     pub fn offer(&self, token: Token) -> Result<Checkpoint<'t>, Memory>
-        requires asking { IsAsking (phase_of self.now) }
+        requires asking { CanOffer (phase_of self.now) }
         requires token { token < self.now.table.grammar.tokens }
         ensures made { IfOk result (λ c. c ≡ offered self.now token) }
-        ensures branch { IfOk result (λ c. (b : Branch) → StandsAt b self.now → StandsAt (with_token b token) c) }
+        ensures branch { IfOk result (λ c. (b : Branch) → HasPosition b self.now → HasPosition (with_token b token) c) }
     {
         Ok(Checkpoint {
             table: self.table,
@@ -148,9 +151,9 @@ impl<'t> Checkpoint<'t> {
         })
     }
 
-    /// The same moment with the token refused for good.
+    /// The same position with the offered token refused.
     fn refuse(&self) -> Result<Checkpoint<'t>, Memory>
-        ensures { IfOk result (λ c. c ≡ refused_at self.now) }
+        ensures { IfOk result (λ c. c ≡ refused_position self.now) }
     {
         Ok(Checkpoint {
             table: self.table,
@@ -160,7 +163,7 @@ impl<'t> Checkpoint<'t> {
         })
     }
 
-    /// A shift to a state.
+    /// The checkpoint after the offered token is shifted to the state `target`.
     fn shift(&self, alloc: Global, target: u32) -> Result<Checkpoint<'t>, ResumeFault>
         requires { next_move self.now ≡ Shifts target }
         ensures made { IfOk result (λ c. c ≡ resumed self.now) }
@@ -183,7 +186,7 @@ impl<'t> Checkpoint<'t> {
         })
     }
 
-    /// A reduction.
+    /// The checkpoint after a reduction of the production.
     fn reduce(&self, alloc: Global, production: u32) -> Result<Checkpoint<'t>, ResumeFault>
         requires next { next_move self.now ≡ Reduces production }
         requires can { CanReduce self.now production }
@@ -209,25 +212,25 @@ impl<'t> Checkpoint<'t> {
         })
     }
 
-    /// The checkpoint after the next step of the run; a refusal is one. It is too deep exactly where the step would make
-    /// more than 4,000 pairs of a state and a tree, or a tree of a height of more than 4,000.
+    /// Returns the checkpoint after the next step of the run; a refusal is a step. Fails with `TooDeep` exactly if the
+    /// step would make more than 4,000 pairs of a state and a tree, or a tree higher than 4,000.
     pub fn resume(&self, alloc: Global) -> Result<Checkpoint<'t>, ResumeFault>
-        requires { CanGoOn (phase_of self.now) }
+        requires { CanResume (phase_of self.now) }
         ensures made { IfOk result (λ c. c ≡ resumed self.now) }
-        ensures branch { IfOk result (λ c. (b : Branch) → StandsAt b self.now → StandsAt (with_step b) c) }
+        ensures branch { IfOk result (λ c. (b : Branch) → HasPosition b self.now → HasPosition (with_step b) c) }
         ensures fits { OnOk result (too_deep (resumed self.now).pairs.trees ≡ false) }
         ensures deep { IfErr result (λ fault. fault ≡ faults.TooDeep → too_deep (resumed self.now).pairs.trees ≡ true) }
     {
         let _rows = self.table.table();
         match self.choice() {
-            Choice::Shift(target) => self.shift(alloc, target),
-            Choice::Reduce(production) => self.reduce(alloc, production),
-            Choice::Refuse => match self.refuse() {
+            NextAction::Shift(target) => self.shift(alloc, target),
+            NextAction::Reduce(production) => self.reduce(alloc, production),
+            NextAction::Refuse => match self.refuse() {
                 Ok(refused) => Ok(refused),
                 Err(_) => Err(ResumeFault::Memory),
             },
-            Choice::Accept => unreachable!(),
-            Choice::Ask => unreachable!(),
+            NextAction::Accept => unreachable!(),
+            NextAction::Ask => unreachable!(),
         }
     }
 }

@@ -1,13 +1,13 @@
-//! Why a checkpoint is not resumed.
+//! The reasons why a checkpoint cannot be resumed.
 ghost use Rattle.std.specs.Prelude.{◌≡◌};
 ghost use Rattle.mh_engine.specs.declared.fault.ResumeFault.TheVariants as faults;
 
 use thiserror::Error;
 
-/// Why a checkpoint is not resumed.
+/// The reason why a checkpoint cannot be resumed.
 #[derive(Clone, Copy, Debug, PartialEq, Eq, Error)]
 pub enum ResumeFault {
-    /// The step would make more than 4,000 pairs of a state and a tree, or a tree of a height of more than 4,000.
+    /// The step would make more than 4,000 pairs of a state and a tree, or a tree higher than 4,000.
     #[error("the step is too deep")]
     TooDeep,
     /// Memory ran out.

@@ -1,4 +1,4 @@
-//! Checkpoints of a parser: moments of a run that are never changed, on stacks that share their cells.
+//! The parser as immutable checkpoints of a run, whose stacks share their cells; and runs of sentences that give trees.
 #![tactic(auto)]
 
 mod checkpoint;

@@ -1,11 +1,11 @@
-//! Runs of whole sentences with their trees, by checkpoints.
+//! Runs of whole sentences that give trees.
 ghost use Rattle.std.specs.Prelude.{◌≡◌, ◌<◌, ◌^◌, ℕ, List, [], length, true, false, IfOk, IfErr, OnOk, All};
-ghost use Rattle.mh_tables_core.specs.Deep.{too_deep};
+ghost use Rattle.mh_tables_core.specs.TooDeep.{too_deep};
 ghost use Rattle.mh_tables_core.specs.Table.{TableData};
 ghost use Rattle.mh_tables_core.specs.TreeRuns.{IsTreeEnding};
 ghost use Rattle.mh_engine.specs.Outcomes.{tree_ending_for};
-ghost use Rattle.mh_engine.specs.code.Reached.{HasReached, HasRead, ReadsNext, IsAccept};
-ghost use Rattle.mh_engine.specs.Phases.{phase_of, IsAsking, CanGoOn};
+ghost use Rattle.mh_engine.specs.code.SentenceOutcomes.{IsReachedOutcome, IsTokenOutcome, IsBeforeGivenToken, IsAcceptOutcome};
+ghost use Rattle.mh_engine.specs.Phases.{phase_of, CanOffer, CanResume};
 ghost use Rattle.mh_engine.specs.Steps.{offered, resumed};
 ghost use Rattle.mh_engine.specs.declared.fault.ResumeFault.TheVariants as faults;
 ghost use Rattle.mh_engine.specs.declared.phase.Phase.TheVariants as phases;
@@ -20,22 +20,22 @@ use mh_tables_core::Halting;
 use mh_tree::Tree;
 use std::alloc::Global;
 
-/// How the run of a sentence with its trees ends.
+/// The result of the run of a sentence with trees.
 #[derive(Drop)]
 pub enum TreeOutcome {
-    /// A state accepts after so many tokens were shifted, and this tree derives them; more may stand behind them.
+    /// The run accepts after `read` tokens were shifted, and `tree` derives them; more tokens may follow.
     Accept { read: u32, tree: Tree },
-    /// This state asks for a token where none is left.
+    /// The sentence ended, and this state needs one more token.
     Overshoot { state: u32 },
-    /// This state refuses the token at this place, counted from 0.
+    /// This state refuses the token at index `at`, from 0.
     Reject { at: u32, state: u32 },
-    /// A step would make more than 4,000 pairs of a state and a tree, or a tree of a height of more than 4,000.
+    /// A step would make more than 4,000 pairs of a state and a tree, or a tree higher than 4,000.
     TooDeep,
 }
 
-/// The run of a start, by its number, on a sentence of fewer than 2^32 tokens, with its trees. It is too deep exactly
-/// where a step of it, up to its end, makes more than 4,000 pairs of a state and a tree, or a tree of a height of more
-/// than 4,000. Fails for want of memory alone.
+/// Runs a sentence of fewer than 2^32 tokens from the start with this number, and returns how the run ends, with the
+/// tree. The outcome is `TooDeep` exactly if a step up to the end of the run makes more than 4,000 pairs of a state and
+/// a tree, or a tree higher than 4,000. Fails only if memory runs out.
 pub fn run_with_trees(
     alloc: Global,
     table: &Halting,
@@ -55,7 +55,7 @@ pub fn run_with_trees(
     }
 }
 
-/// The same, from checkpoint to checkpoint. It is too deep where a step of it is.
+/// Runs a sentence like `run_with_trees`, but reports `TooDeep` as a fault.
 fn run(
     alloc: Global,
     table: &Halting,
@@ -65,8 +65,8 @@ fn run(
     requires start { start < length table.now.grammar.starts }
     requires tokens { All (λ z. z < table.now.grammar.tokens) sentence.now }
     requires few { length sentence.now < 2 ^ 32 }
-    ensures reached { IfOk result (λ outcome. HasReached table.now start sentence.now outcome) }
-    ensures deep { IfErr result (λ fault. fault ≡ faults.TooDeep → HasReached table.now start sentence.now outcomes.TooDeep) }
+    ensures reached { IfOk result (λ outcome. IsReachedOutcome table.now start sentence.now outcome) }
+    ensures deep { IfErr result (λ fault. fault ≡ faults.TooDeep → IsReachedOutcome table.now start sentence.now outcomes.TooDeep) }
 {
     let mut at = begin(table, start);
     for (place, token) in sentence.iter().enumerate() {
@@ -87,16 +87,17 @@ fn run(
     }
 }
 
-/// What comes of one token of a sentence.
+/// The outcome of one token of a sentence.
 #[derive(Drop)]
 enum TokenOutcome<'t> {
-    /// It is shifted, and the run goes on from here.
+    /// The token is shifted, and the run continues from this checkpoint.
     Shifted(Checkpoint<'t>),
-    /// The run ends, at it or before it.
+    /// The run ends at this token or before it.
     Ended(TreeOutcome),
 }
 
-/// What comes of the token at this place, where all before it are shifted. It is too deep where a step of it is.
+/// Runs the token at index `place` of the sentence; all tokens before it are shifted. Fails with `TooDeep` if a step on
+/// the way is too deep.
 fn feed<'t>(
     alloc: Global,
     at: Checkpoint<'t>,
@@ -106,8 +107,8 @@ fn feed<'t>(
     requires empty { at.left ≡ [] }
     requires calm { at.refused ≡ false }
     requires token { token < at.table.grammar.tokens }
-    ensures read { IfOk result (λ outcome. (t : TableData) (start : ℕ) (w : List ℕ) → ReadsNext t start w place token at.entry → HasRead t start w place outcome) }
-    ensures deep { IfErr result (λ fault. fault ≡ faults.TooDeep → (t : TableData) (start : ℕ) (w : List ℕ) → ReadsNext t start w place token at.entry → HasReached t start w outcomes.TooDeep) }
+    ensures read { IfOk result (λ outcome. (t : TableData) (start : ℕ) (w : List ℕ) → IsBeforeGivenToken t start w place token at.entry → IsTokenOutcome t start w place outcome) }
+    ensures deep { IfErr result (λ fault. fault ≡ faults.TooDeep → (t : TableData) (start : ℕ) (w : List ℕ) → IsBeforeGivenToken t start w place token at.entry → IsReachedOutcome t start w outcomes.TooDeep) }
 {
     let asking = match settle(alloc, at) {
         Ok(asking) => asking,
@@ -137,18 +138,18 @@ fn feed<'t>(
     }
 }
 
-/// The checkpoint with a token offered, in place of the one that asks.
+/// The checkpoint with the token offered; it replaces the checkpoint `asking`.
 fn offer_to<'t>(asking: Checkpoint<'t>, token: Token) -> Result<Checkpoint<'t>, Memory>
-    requires asking { IsAsking (phase_of asking) }
+    requires asking { CanOffer (phase_of asking) }
     requires token { token < asking.table.grammar.tokens }
     ensures { IfOk result (λ c. c ≡ offered asking.entry token) }
 {
     asking.offer(token)
 }
 
-/// The checkpoint after the next step, in place of the one before it.
+/// The checkpoint after the next step; it replaces the checkpoint `from`.
 fn resume_from<'t>(alloc: Global, from: Checkpoint<'t>) -> Result<Checkpoint<'t>, ResumeFault>
-    requires { CanGoOn (phase_of from) }
+    requires { CanResume (phase_of from) }
     ensures made { IfOk result (λ c. c ≡ resumed from.entry) }
     ensures fits { OnOk result (too_deep (resumed from.entry).pairs.trees ≡ false) }
     ensures deep { IfErr result (λ fault. fault ≡ faults.TooDeep → too_deep (resumed from.entry).pairs.trees ≡ true) }
@@ -156,10 +157,10 @@ fn resume_from<'t>(alloc: Global, from: Checkpoint<'t>) -> Result<Checkpoint<'t>
     from.resume(alloc)
 }
 
-/// The answer where the run accepts.
+/// The outcome of a run that accepts at this checkpoint.
 fn accept(read: u32, at: &Checkpoint<'_>) -> Result<TreeOutcome, Memory>
     requires { phase_of at.now ≡ phases.Accepted }
-    ensures { IfOk result (λ outcome. IsAccept at.now.pairs.trees read outcome) }
+    ensures { IfOk result (λ outcome. IsAcceptOutcome at.now.pairs.trees read outcome) }
 {
     match at.tree() {
         Some(tree) => Ok(TreeOutcome::Accept {

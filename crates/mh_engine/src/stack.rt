@@ -1,9 +1,9 @@
-//! The stack of a run: a list of shared cells, none of which is changed after it was made.
+//! The stack of a run: a linked list of shared cells, which never change after they are made.
 ghost use Rattle.std.specs.Prelude.{◌≡◌, ◌↔◌, IsTrue, ◌+◌, ◌-◌, ◌<◌, ◌≤◌, ◌^◌, ◌++◌, ◌∷◌, [], length, take, drop, IfOk, IfSome, IfNone};
 ghost use Rattle.mh_tables_core.specs.Run.{top_of};
-ghost use Rattle.mh_tables_core.specs.Deep.{max_depth};
+ghost use Rattle.mh_tables_core.specs.TooDeep.{max_depth};
 ghost use Rattle.mh_engine.specs.Positions.{Pairs, bottom};
-ghost use Rattle.mh_engine.specs.code.Cells.{pushed, taken};
+ghost use Rattle.mh_engine.specs.code.Cells.{pushed, without_last};
 
 use mh_grammar::Memory;
 use mh_tree::Tree;
@@ -11,17 +11,17 @@ use std::alloc::Global;
 use std::marker::Model;
 use std::rc::Rc;
 
-/// The most trees on a stack, so also the most symbols: this project's own limit.
+/// The maximum number of trees on a stack, and so of symbols: this project's own limit.
 const MAX_PAIRS: u32 = 4_000;
 
-/// The states of a run, with a tree above each but the first.
+/// The states of a run, the start state first, with one tree for each state but the first.
 #[cycle(stack)]
 pub(crate) struct Stack {
     count: u32,
     link: Link,
 }
 
-/// The start's state, or a cell on others.
+/// The bottom of a stack, which is the start state, or a cell above another stack.
 #[derive(Drop)]
 #[cycle(stack)]
 enum Link {
@@ -54,12 +54,13 @@ impl Model for Stack {
 
     ghost size = { λ v. length v.trees };
 
-    ghost use Rattle.mh_engine.specs.code.Falls.{below_is_shorter};
+    ghost use Rattle.mh_engine.specs.code.BelowIsShorter.{below_is_shorter};
 
     ghost size_decreases = { λ s h. below_is_shorter s.link };
 }
 
-// A loop over the cells that have no other owner: the stack of calls would not hold a recursion over a long one.
+// Drops the cells that have no other owner in a loop, because a recursion over a long stack would overflow the call
+// stack.
 impl Drop for Stack {
     fn drop(mut self) {
         loop {
@@ -82,7 +83,7 @@ impl Drop for Stack {
 }
 
 impl Stack {
-    /// The stack of a start.
+    /// The stack that has only the start state.
     pub(crate) fn bottom(start: u32) -> Stack
         ensures { result ≡ bottom start }
     {
@@ -92,21 +93,21 @@ impl Stack {
         }
     }
 
-    /// How many trees there are.
+    /// The number of trees on the stack.
     pub(crate) fn count(&self) -> u32
         ensures { result ≡ length self.now.trees }
     {
         self.count
     }
 
-    /// Whether one more pair is not too many.
+    /// True if one more pair is within the limit.
     pub(crate) fn has_room(&self) -> bool
         ensures { IsTrue result ↔ (length self.now.trees < max_depth) }
     {
         self.count < MAX_PAIRS
     }
 
-    /// The newest state.
+    /// The top state.
     pub(crate) fn top(&self) -> u32
         ensures { result ≡ top_of self.now.states }
     {
@@ -116,7 +117,7 @@ impl Stack {
         }
     }
 
-    /// The newest tree.
+    /// The top tree, or nothing if the stack has only the start state.
     pub(crate) fn tree(&self) -> Option<&Tree>
         ensures some { IfSome result (λ tree. (below : Pairs) × (self.now.trees ≡ below.trees ++ tree.now ∷ [])) }
         ensures none { IfNone result (self.now.trees ≡ []) }
@@ -127,7 +128,7 @@ impl Stack {
         }
     }
 
-    /// An equal stack, which shares the cells of this one. Fails for want of memory alone.
+    /// Returns an equal stack that shares the cells of this one. Fails only if memory runs out.
     pub(crate) fn share(&self) -> Result<Stack, Memory>
         ensures { IfOk result (λ s. s ≡ self.now) }
     {
@@ -141,7 +142,7 @@ impl Stack {
         })
     }
 
-    /// One more pair. Fails for want of memory alone; what was given is dropped then.
+    /// Pushes a state and a tree. Fails only if memory runs out; then the stack and the tree are dropped.
     pub(crate) fn push(self, alloc: Global, state: u32, tree: Tree) -> Result<Stack, Memory>
         requires { length self.trees < 2 ^ 32 - 1 }
         ensures { IfOk result (λ s. s ≡ pushed self state tree) }
@@ -161,10 +162,11 @@ impl Stack {
         })
     }
 
-    /// What is below the last pairs, and the trees of those, the newest last. Fails for want of memory alone.
+    /// Returns the stack without its last `count` pairs, and the trees of these pairs, the newest last. Fails only if
+    /// memory runs out.
     pub(crate) fn split(&self, alloc: Global, count: usize) -> Result<(Stack, Vec<Tree>), Memory>
         requires { count ≤ length self.now.trees }
-        ensures below { IfOk result (λ r. r.0 ≡ taken count self.now) }
+        ensures below { IfOk result (λ r. r.0 ≡ without_last count self.now) }
         ensures trees { IfOk result (λ r. r.1.items ≡ drop (length self.now.trees - count) self.now.trees) }
     {
         let mut trees = Vec::new(alloc);

@@ -1,9 +1,9 @@
--- The instances of joined rules and the faults of their expansion (this project's profile of the Menhir manual's
--- parameterized rules).
+-- The instances of joined rules and the faults of their expansion (Menhir manual, parameterized rules; the limits and
+-- the order are rules of this project).
 use Rattle.std.specs.Prelude.{◌≡◌, ◌<◌, ◌↔◌, ℕ, List, [], ◌∷◌, ◌++◌, Option, Some, None, map, flat_map, length, slice_get}
 use Rattle.std.specs.Option.{option_map, unwrap_or}
 use Rattle.std.specs.List.{All, AllZip, Contains}
-use Rattle.mh_grammar.specs.Numbering.{AreDistinct, Names}
+use Rattle.mh_grammar.specs.Numbering.{AreDistinct, AreNumbersOf}
 use Rattle.mh_rules.specs.declared.joined.Head.{Head}
 use Rattle.mh_rules.specs.declared.joined.Head.TheVariants.{Formal, Token, Rule}
 use Rattle.mh_rules.specs.declared.joined.Applied.{Applied}
@@ -28,18 +28,18 @@ rule_at j (Formal k) = None
 rule_at j (Token z) = None
 rule_at j (Rule r) = slice_get j.rules r
 
--- the rule at the head of a term
+-- The rule at the head of a term.
 abbrev pub rule_of : Joined → Term → Option JoinedRule
 rule_of j t = rule_at j (head_of t)
 
 abbrev pub alternatives_of : Joined → Term → List JoinedAlternative
 alternatives_of j t = unwrap_or (option_map (λ (r : JoinedRule). r.alternatives) (rule_of j t)) []
 
--- the producers of an alternative of a term, the formals replaced by the term's arguments
+-- The producers of an alternative, with the formals replaced by the arguments of the term t.
 abbrev pub right_side : Term → JoinedAlternative → List Term
 right_side t a = map (λ p. replaced (arguments t) (term_of p)) a.producers
 
--- the producers of all its alternatives, in order
+-- The producers of all alternatives of a term's rule, in order.
 abbrev pub producers_of : Joined → Term → List Term
 producers_of j t = flat_map (right_side t) (alternatives_of j t)
 
@@ -56,118 +56,123 @@ IsRule (Formal k) = ⊥
 IsRule (Token z) = ⊥
 IsRule (Rule r) = Unit {0}
 
--- a rule is the term's head
+-- The head of the term is a rule.
 abbrev pub IsInstance : Term → Type 0
 IsInstance t = IsRule (head_of t)
 
--- the least set that holds the starts and each producer of an instance that has a rule as head
+-- The least set that contains the start terms, and with each term its producers whose heads are rules.
 pub data IsReached (j : Joined) : Term → Type 0 where
   start : {t : Term} → Contains (start_terms j) t → IsReached j t
   producer : {t x : Term} → IsReached j t → Contains (producers_of j t) x → IsInstance x → IsReached j x
 
--- all terms that are found while instances are gone through, in the order of finding
-abbrev pub finds : Joined → List Term → List Term
-finds j ts = start_terms j ++ flat_map (producers_of j) ts
+-- The terms that are found when the instances ts are expanded, in the order of finding: the start terms, then the
+-- producers of each instance.
+abbrev pub found_terms : Joined → List Term → List Term
+found_terms j ts = start_terms j ++ flat_map (producers_of j) ts
 
--- Instances in the order of finding: after some comes the first that is found among the starts and their producers and
--- is none of them.
-pub data AreFirst (j : Joined) : List Term → Type 0 where
-  none : AreFirst j []
-  more : {ts : List Term} {t : Term} (before after : List Term) → AreFirst j ts → finds j ts ≡ before ++ t ∷ after → IsInstance t →
-      (Contains ts t → ⊥) → ((x : Term) → Contains before x → IsInstance x → Contains ts x) → AreFirst j (ts ++ t ∷ [])
+-- The list is a prefix of the instances in the order of finding: each next element is the first instance among the
+-- terms found so far that is not yet in the list.
+pub data IsFindingOrder (j : Joined) : List Term → Type 0 where
+  none : IsFindingOrder j []
+  more : {ts : List Term} {t : Term} (before after : List Term) → IsFindingOrder j ts → found_terms j ts ≡ before ++ t ∷ after → IsInstance t →
+      (Contains ts t → ⊥) → ((x : Term) → Contains before x → IsInstance x → Contains ts x) → IsFindingOrder j (ts ++ t ∷ [])
 
 -- FAULTS
 
--- so many arguments a head takes
-abbrev pub Takes : Joined → Head → ℕ → Type 0
-Takes j (Formal k) n = ⊥
-Takes j (Token z) n = n ≡ 0
-Takes j (Rule r) n = option_map (λ (q : JoinedRule). q.formals) (slice_get j.rules r) ≡ Some n
+-- The head takes n arguments.
+abbrev pub TakesArguments : Joined → Head → ℕ → Type 0
+TakesArguments j (Formal k) n = ⊥
+TakesArguments j (Token z) n = n ≡ 0
+TakesArguments j (Rule r) n = option_map (λ (q : JoinedRule). q.formals) (slice_get j.rules r) ≡ Some n
 
-abbrev pub Fits : Joined → Term → Type 0
-Fits j t = Takes j (head_of t) (length (arguments t))
+-- The term has as many arguments as its head takes.
+abbrev pub HasRightArity : Joined → Term → Type 0
+HasRightArity j t = TakesArguments j (head_of t) (length (arguments t))
 
--- an instance that is not among what was found before
-pub record IsNew (before : List Term) (t : Term) : Type 0 where
+-- The term is an instance and has not been found before.
+pub record IsNewInstance (before : List Term) (t : Term) : Type 0 where
   pub instance : IsInstance t
   pub new : Contains before t → ⊥
 
--- as many instances as there may be were found before
-pub record IsFull (before : List Term) : Type 0 where
+-- The largest allowed number of different instances has been found before.
+pub record HasMaxInstances (before : List Term) : Type 0 where
   pub some : List Term
   pub found : All (λ t. Contains before t × IsInstance t) some
   pub distinct : AreDistinct some
   pub full : length some ≡ MAX_INSTANCES
 
--- the fault of a term that is found behind others
+-- The fault of a term that is found after the terms `before`.
 pub data IsFault (j : Joined) (before : List Term) (t : Term) : ExpandFault → Type 0 where
-  count : (Fits j t → ⊥) → IsFault j before t (Arity (text j t))
-  long : Fits j t → IsNew before t → MAX_NAME < length (text j t) → IsFault j before t (Expansion (head_name j (head_of t)))
-  full : Fits j t → IsNew before t → IsFull before → IsFault j before t (Expansion (head_name j (head_of t)))
+  count : (HasRightArity j t → ⊥) → IsFault j before t (Arity (text j t))
+  long : HasRightArity j t → IsNewInstance before t → MAX_NAME < length (text j t) → IsFault j before t (Expansion (head_name j (head_of t)))
+  full : HasRightArity j t → IsNewInstance before t → HasMaxInstances before → IsFault j before t (Expansion (head_name j (head_of t)))
 
--- no term of the list has a fault
-abbrev pub IsClear : Joined → List Term → Type 0
-IsClear j ts = (before after : List Term) (t : Term) (fault : ExpandFault) → ts ≡ before ++ t ∷ after → IsFault j before t fault → ⊥
+-- No term of the list has a fault.
+abbrev pub HasNoFault : Joined → List Term → Type 0
+HasNoFault j ts = (before after : List Term) (t : Term) (fault : ExpandFault) → ts ≡ before ++ t ∷ after → IsFault j before t fault → ⊥
 
--- the first fault of the terms of a list
-pub record Fails (j : Joined) (ts : List Term) (e : ExpandFault) : Type 0 where
+-- The first fault of the terms in a list.
+pub record IsFirstFaultIn (j : Joined) (ts : List Term) (e : ExpandFault) : Type 0 where
   pub before : List Term
   pub here : Term
   pub after : List Term
   pub split : ts ≡ before ++ here ∷ after
-  pub clear : IsClear j before
+  pub clear : HasNoFault j before
   pub fault : IsFault j before here e
 
--- the first fault in the order of finding
+-- The first fault in the order of finding.
 pub record IsFirstFault (j : Joined) (e : ExpandFault) : Type 0 where
   pub gone : List Term
-  pub order : AreFirst j gone
-  pub fails : Fails j (finds j gone) e
+  pub order : IsFindingOrder j gone
+  pub fails : IsFirstFaultIn j (found_terms j gone) e
 
--- a fault has this cause; want of memory has none
-abbrev pub Causes : (ExpandFault → Type 0) → ExpandFault → Type 0
-Causes P (Arity name) = P (Arity name)
-Causes P (Expansion name) = P (Expansion name)
-Causes P Memory = Unit {0}
+-- The fault satisfies P, unless it reports that memory ran out.
+abbrev pub IsMemoryOr : (ExpandFault → Type 0) → ExpandFault → Type 0
+IsMemoryOr P (Arity name) = P (Arity name)
+IsMemoryOr P (Expansion name) = P (Expansion name)
+IsMemoryOr P Memory = Unit {0}
 
 -- THE RESULT
 
--- some actual of the declaration stands for the term
+-- An actual of the declaration is the term.
 abbrev pub Declares : List Applied → Term → Type 0
 Declares d t = Contains (map term_of d) t
 
--- the place of the first declaration that names a term
-abbrev pub IsRank : List (List Applied) → Term → Option ℕ → Type 0
-IsRank ds t None = (k : ℕ) (d : List Applied) → slice_get ds k ≡ Some d → Declares d t → ⊥
-IsRank ds t (Some r) =
+-- The position of the first declaration that names the term, or none if no declaration does.
+abbrev pub IsOnErrorRank : List (List Applied) → Term → Option ℕ → Type 0
+IsOnErrorRank ds t None = (k : ℕ) (d : List Applied) → slice_get ds k ≡ Some d → Declares d t → ⊥
+IsOnErrorRank ds t (Some r) =
     ((d : List Applied) × (slice_get ds r ≡ Some d) × Declares d t) ×
     ((k : ℕ) (d : List Applied) → k < r → slice_get ds k ≡ Some d → Declares d t → ⊥)
 
--- a token, or the number of an instance
+-- The part is the token of the term, or the number of its instance.
 abbrev pub IsPart : List Term → Term → Part → Type 0
 IsPart ts t (parts.Token z) = t ≡ Atom (Token z)
 IsPart ts t (parts.Instance n) = slice_get ts n ≡ Some t
 
+-- The production p of the instance t for its alternative a.
 pub record IsProduction (ts : List Term) (t : Term) (a : JoinedAlternative) (p : InstanceProduction) : Type 0 where
   pub file : p.file ≡ a.file
   pub place : p.place ≡ a.place
   pub rhs : AllZip (IsPart ts) (right_side t a) p.rhs
   pub prec : p.prec ≡ a.prec
 
--- what an instance has, where these are the instances
+-- The instance i of the term t, where the terms ts are all instances.
 pub record IsInstanceOf (j : Joined) (ts : List Term) (t : Term) (i : Instance) : Type 0 where
   pub name : i.name ≡ text j t
   pub inlined : option_map (λ (r : JoinedRule). r.inlined) (rule_of j t) ≡ Some i.inlined
-  pub on_error : IsRank j.on_error t i.on_error
+  pub on_error : IsOnErrorRank j.on_error t i.on_error
   pub productions : AllZip (IsProduction ts t) (alternatives_of j t) i.productions
 
+-- The expansion e of the joined rules j: the instances that the start symbols reach, in the order of finding, with
+-- their alternatives.
 pub record IsExpanded (j : Joined) (e : Expanded) : Type 0 where
   pub tokens : e.tokens ≡ j.tokens
-  -- the instances are those that are reached, in the order of finding
+  -- The instances are the reached terms, in the order of finding.
   pub terms : List Term
   pub exact : (t : Term) → Contains terms t ↔ IsReached j t
-  pub order : AreFirst j terms
-  pub starts : Names terms e.starts (start_terms j)
+  pub order : IsFindingOrder j terms
+  pub starts : AreNumbersOf terms e.starts (start_terms j)
   pub each : AllZip (IsInstanceOf j terms) terms e.instances
-  -- and none of what is found has a fault
-  pub clear : IsClear j (finds j terms)
+  -- No term that is found has a fault.
+  pub clear : HasNoFault j (found_terms j terms)

@@ -1,4 +1,5 @@
--- Terms: a token or a rule with a list of terms (this project's profile of the Menhir manual's parameterized rules).
+-- Terms: a token, rule or formal applied to a list of terms (Menhir manual, parameterized rules; the choice is a rule
+-- of this project).
 use Rattle.std.specs.Prelude.{ℕ, List, [], ◌∷◌, ◌++◌, slice_get}
 use Rattle.std.specs.Option.{option_map, unwrap_or}
 use Rattle.mh_grammar.specs.declared.types.TokenInfo.{TokenInfo}
@@ -9,12 +10,13 @@ use Rattle.mh_rules.specs.declared.joined.Applied.TheOpen.{Applied-F}
 use Rattle.mh_rules.specs.declared.joined.JoinedRule.{JoinedRule}
 use Rattle.mh_rules.specs.declared.joined.Joined.{Joined}
 
--- a head, or a term with one argument more; a formal stands in terms that wait for what it stands for
+-- A term is a head, or a term applied to one more argument. Formals occur only in terms whose formals have not been
+-- replaced yet.
 pub data Term : Type 0 where
   Atom : (head : Head) → Term
   Apply : (operator : Term) → (argument : Term) → Term
 
--- a term with these arguments more
+-- The term applied to more arguments.
 abbrev pub apply_all : Term → List Term → Term
 apply_all t [] = t
 apply_all t (x ∷ xs) = apply_all (Apply t x) xs
@@ -27,24 +29,26 @@ abbrev pub arguments : Term → List Term
 arguments (Atom h) = []
 arguments (Apply f x) = arguments f ++ x ∷ []
 
--- an actual as a term: its head with the terms of its actuals
+-- The term of an actual: its head applied to the terms of its arguments.
 abbrev pub term_step : Applied-F Term → Term
 term_step a = apply_all (Atom a.head) a.args
 
 abbrev pub term_of : Applied → Term
 term_of = fold-Applied Term term_step
 
--- Each formal replaced by the term that it stands for. A formal with actuals appends them to its term's list.
+-- The head with a formal replaced by its term. A formal with arguments adds them to those of its term.
 abbrev pub replaced_head : List Term → Head → Term
 replaced_head ts (Formal k) = unwrap_or (slice_get ts k) (Atom (Formal k))
 replaced_head ts (Token z) = Atom (Token z)
 replaced_head ts (Rule r) = Atom (Rule r)
 
+-- The term with each formal replaced by the term with its number in ts.
 abbrev pub replaced : List Term → Term → Term
 replaced ts (Atom h) = replaced_head ts h
 replaced ts (Apply f x) = Apply (replaced ts f) (replaced ts x)
 
--- The printed name of a term: its head's name, with its arguments in `(`, `,` and `)`. A head that is not there has the empty name.
+-- The printed name of a term: the name of its head, with the arguments separated by `,` in parentheses. A head that
+-- does not exist has the empty name.
 abbrev pub head_name : Joined → Head → List ℕ
 head_name j (Formal k) = []
 head_name j (Token z) = unwrap_or (option_map (λ (i : TokenInfo). i.name) (slice_get j.tokens z)) []
@@ -59,7 +63,7 @@ abbrev mutual
   text j (Atom h) = head_name j h
   text j (Apply f x) = unclosed j f ++ (separator f ∷ text j x) ++ 41 ∷ []
 
-  -- the text without the bracket at its end
+  -- The printed name without its closing parenthesis.
   pub unclosed : Joined → Term → List ℕ
   unclosed j (Atom h) = head_name j h
   unclosed j (Apply f x) = unclosed j f ++ (separator f ∷ text j x)

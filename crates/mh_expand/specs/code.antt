@@ -1,3 +1,3 @@
-pub mod Searching
-pub mod Sharing
-pub mod Whole
+pub mod InstanceSearch
+pub mod SharedTerms
+pub mod Contract

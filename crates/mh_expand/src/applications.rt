@@ -1,10 +1,10 @@
-//! Heads with arguments.
+//! Heads applied to arguments.
 ghost use Rattle.std.specs.Prelude.{◌≡◌, ◌∷◌, ◌++◌, [], IfOk, OnOk};
 
 use mh_grammar::{Memory, Sequence};
 use mh_rules::Head;
 
-/// A head with the numbers of its arguments.
+/// A head with the numbers of its arguments among the terms.
 #[derive(Drop, PartialEq, Eq, Hash)]
 pub(crate) struct Application {
     pub head: Head,
@@ -12,7 +12,7 @@ pub(crate) struct Application {
 }
 
 impl Application {
-    /// The same head with the same arguments, which is what a formal stands for. Fails for want of memory alone.
+    /// A copy. A formal without arguments is replaced by a copy of its term. Fails only if memory runs out.
     pub(crate) fn copied(&self) -> Result<Application, Memory>
         ensures { IfOk result (λ n. n ≡ self.now) }
     {
@@ -22,7 +22,7 @@ impl Application {
         })
     }
 
-    /// Adds an argument after the others. Fails for want of memory alone.
+    /// Appends an argument. Fails only if memory runs out.
     pub(crate) fn add_argument(&mut self, number: usize) -> Result<(), Memory>
         ensures { OnOk result (self.new ≡ record { head = self.old.head; args = self.old.args ++ number ∷ [] }) }
     {

@@ -1,15 +1,15 @@
-//! The expansion of joined rules.
+//! The expansion of joined rules to instances.
 ghost use Rattle.std.specs.Prelude.{◌≡◌, ◌<◌, ◌≤◌, ◌++◌, ℕ, List, [], flat_map, length, slice_index, nat_eq, IsSome, IfOk, IfErr};
 ghost use Rattle.std.specs.List.{All};
 ghost use Rattle.indexmap.specs.IndexMap.{get};
 ghost use Rattle.mh_expand.specs.declared.fault.ExpandFault.{ExpandFault};
 ghost use Rattle.mh_expand.specs.Terms.{Term, arguments, text};
-ghost use Rattle.mh_expand.specs.Expansion.{Fails, Causes, IsExpanded, IsFirstFault, producers_of, right_side, rule_at, start_terms};
-ghost use Rattle.mh_rules.specs.Ready.{IsReady, IsExpandedReady};
+ghost use Rattle.mh_expand.specs.Expansion.{IsFirstFaultIn, IsMemoryOr, IsExpanded, IsFirstFault, producers_of, right_side, rule_at, start_terms};
+ghost use Rattle.mh_rules.specs.Ready.{IsJoinedReady, IsExpandedReady};
 ghost use Rattle.mh_expand.specs.Sentences.{HasSameSentences};
-ghost use Rattle.mh_expand.specs.code.Sharing.{terms_of, term_at, terms_at, Grows};
-ghost use Rattle.mh_expand.specs.code.Whole.{IsExpandedWhole};
-ghost use Rattle.mh_expand.specs.code.Searching.{IsSearch, IsFit, AreRanks, WentStarts, WentInstance, WentAlternatives, WentAlternative, IsExpanding, AreExpanded};
+ghost use Rattle.mh_expand.specs.code.SharedTerms.{terms_of, term_at, terms_at, IsExtendedBy};
+ghost use Rattle.mh_expand.specs.code.Contract.{ExpandContract};
+ghost use Rattle.mh_expand.specs.code.InstanceSearch.{IsInstanceSearch, IsExpandable, AreRanks, FindsStarts, FindsInstance, FindsAlternatives, FindsAlternative, IsExpanding, AreExpanded};
 
 use crate::applications::Application;
 use crate::fault::ExpandFault;
@@ -26,38 +26,40 @@ use mh_rules::{
 };
 use std::alloc::Global;
 
-/// The instances that the starts reach: rules applied to actuals, each formal replaced by what it stands for. They are
-/// found breadth first: the starts in order, and then, of each instance in order of finding, the producers of its
-/// alternatives in order and from left to right. Rules that no start reaches are dropped, and an on-error declaration of a
-/// term that is no instance has no effect. Answers the first fault in the order of finding: `Arity` where a term has not as
-/// many arguments as its rule has formals, or is a token with arguments; `Expansion` where a new instance has a printed
-/// name of more than 1,000 bytes, or is the 20,001st. At one place `Arity` comes first. Answers `Memory` only where memory
-/// runs out, or the name of a term with a wrong count of arguments has more than 16 MiB. (The Menhir manual on parameterized
-/// rules; the limits and the order are this project's profile.)
+/// Expands joined rules: finds the instances that the start symbols reach, which are rules applied to actuals in which
+/// each formal is replaced by its actual. The search is breadth-first: first the start symbols in order, and then, for
+/// each instance in the order of finding, the producers of its alternatives in order and from left to right. Rules that
+/// no start symbol reaches are dropped, and an on-error declaration of a term that is no instance has no effect.
+/// Returns the first fault in the order of finding: `Arity` if a term has not as many arguments as its rule has
+/// formals, or is a token with arguments; `Expansion` if a new instance has a printed name of more than 1,000 bytes, or
+/// is the 20,001st. If one term has both faults, `Arity` is returned. Returns `Memory` only if memory runs out, or if
+/// the name of a term with a wrong number of arguments has more than 16 MiB. (Menhir manual, parameterized rules; the
+/// limits and the order are rules of this project.)
 pub fn expand(alloc: Global, joined: &Joined) -> Result<Expanded, ExpandFault>
-    requires { IsReady joined.now }
+    requires { IsJoinedReady joined.now }
     ensures ok { IfOk result (IsExpanded joined.now) }
     ensures ready { IfOk result IsExpandedReady }
     ensures sentences { IfOk result (HasSameSentences joined.now) }
-    ensures err { IfErr result (Causes (IsFirstFault joined.now)) }
+    ensures err { IfErr result (IsMemoryOr (IsFirstFault joined.now)) }
     ensures exact { IfOk result (λ _. (fault : ExpandFault) → IsFirstFault joined.now fault → ⊥) }
 {
     let mut terms = Terms::new(alloc);
     expand_with(alloc, joined, &mut terms)
 }
 
-/// The expansion, from no terms. Each part of the work is owned by a function of its own: to let all go at each fault is
-/// far longer to prove.
+/// The expansion, with an empty table of terms. Each function of this chain owns one of the tables: a proof that a
+/// single function drops all of them at each fault would be far longer.
 fn expand_with(alloc: Global, joined: &Joined, terms: &mut Terms) -> Result<Expanded, ExpandFault>
     requires { terms_of terms.old.nodes.keys ≡ [] }
-    ensures ok { IfOk result (IsExpandedWhole joined.now) }
-    ensures err { IfErr result (Causes (IsFirstFault joined.now)) }
+    ensures ok { IfOk result (ExpandContract joined.now) }
+    ensures err { IfErr result (IsMemoryOr (IsFirstFault joined.now)) }
 {
     let ranks = ranks_of(alloc, terms, joined.on_error.as_slice())?;
     expand_ranked(alloc, joined, terms, &ranks)
 }
 
-/// The expansion, with the ranks of terms.
+/// The expansion, after the ranks were computed. The rank of a term is the index of the first `%on_error_reduce`
+/// declaration that names it.
 fn expand_ranked(
     alloc: Global,
     joined: &Joined,
@@ -65,14 +67,14 @@ fn expand_ranked(
     ranks: &Ranks,
 ) -> Result<Expanded, ExpandFault>
     requires { AreRanks joined.now.on_error (terms_of terms.old.nodes.keys) (get nat_eq ranks.now) }
-    ensures ok { IfOk result (IsExpandedWhole joined.now) }
-    ensures err { IfErr result (Causes (IsFirstFault joined.now)) }
+    ensures ok { IfOk result (ExpandContract joined.now) }
+    ensures err { IfErr result (IsMemoryOr (IsFirstFault joined.now)) }
 {
     let mut found = IndexSet::new(alloc);
     expand_found(alloc, joined, terms, ranks, &mut found)
 }
 
-/// The expansion, where nothing is found yet.
+/// The expansion, with an empty set of instances.
 fn expand_found(
     alloc: Global,
     joined: &Joined,
@@ -82,8 +84,8 @@ fn expand_found(
 ) -> Result<Expanded, ExpandFault>
     requires none { found.old.keys ≡ [] }
     requires ranks { AreRanks joined.now.on_error (terms_of terms.old.nodes.keys) (get nat_eq ranks.now) }
-    ensures ok { IfOk result (IsExpandedWhole joined.now) }
-    ensures err { IfErr result (Causes (IsFirstFault joined.now)) }
+    ensures ok { IfOk result (ExpandContract joined.now) }
+    ensures err { IfErr result (IsMemoryOr (IsFirstFault joined.now)) }
 {
     match find_starts(alloc, joined, terms, found) {
         Ok(starts) => match expand_all(alloc, joined, terms, ranks, found) {
@@ -97,7 +99,7 @@ fn expand_found(
     }
 }
 
-/// The instances with the tokens of the joined rules.
+/// The expanded value of these instances and start symbols, with the tokens of the joined rules.
 fn with_tokens(
     joined: &Joined,
     starts: Sequence<u32>,
@@ -113,7 +115,7 @@ fn with_tokens(
     })
 }
 
-/// The instances that were found, and those that are found while they are expanded.
+/// Expands the instances in the set, and the instances that are found while it does so.
 fn expand_all(
     alloc: Global,
     joined: &Joined,
@@ -125,7 +127,7 @@ fn expand_all(
     ensures ok { IfOk result
         (λ is. AreExpanded joined.now (terms_of terms.old.nodes.keys) (terms_of terms.new.nodes.keys)
         found.old.keys found.new.keys is (get nat_eq ranks.now)) }
-    ensures err { IfErr result (Causes (IsFirstFault joined.now)) }
+    ensures err { IfErr result (IsMemoryOr (IsFirstFault joined.now)) }
 {
     let mut instances = Sequence::new(alloc);
     'instances: while instances.len() < found.len() {
@@ -138,7 +140,7 @@ fn expand_all(
     Ok(instances)
 }
 
-/// The starts as instances.
+/// The numbers of the instances of the start symbols.
 fn find_starts(
     alloc: Global,
     joined: &Joined,
@@ -147,11 +149,11 @@ fn find_starts(
 ) -> Result<Sequence<u32>, ExpandFault>
     requires few { length found.old.keys ≤ MAX_INSTANCES }
     ensures few { IfOk result (λ _. length found.new.keys ≤ MAX_INSTANCES) }
-    ensures ok { IfOk result (λ s. IsSearch joined.now [] (terms_of terms.old.nodes.keys) found.old.keys →
-        WentStarts joined.now (terms_of terms.old.nodes.keys) (terms_of terms.new.nodes.keys)
+    ensures ok { IfOk result (λ s. IsInstanceSearch joined.now [] (terms_of terms.old.nodes.keys) found.old.keys →
+        FindsStarts joined.now (terms_of terms.old.nodes.keys) (terms_of terms.new.nodes.keys)
         found.old.keys found.new.keys s) }
-    ensures err { IfErr result (λ e. IsSearch joined.now [] (terms_of terms.old.nodes.keys) found.old.keys →
-        Causes (Fails joined.now (start_terms joined.now)) e) }
+    ensures err { IfErr result (λ e. IsInstanceSearch joined.now [] (terms_of terms.old.nodes.keys) found.old.keys →
+        IsMemoryOr (IsFirstFaultIn joined.now (start_terms joined.now)) e) }
 {
     let mut starts = Sequence::new(alloc);
     for rule in joined.starts.as_slice() {
@@ -167,7 +169,7 @@ fn find_starts(
     Ok(starts)
 }
 
-/// An instance that was found, with its alternatives.
+/// The expanded instance of a term: its name, its attributes and its alternatives.
 fn expand_instance(
     alloc: Global,
     joined: &Joined,
@@ -179,18 +181,18 @@ fn expand_instance(
     requires place { place < length found.old.keys }
     requires few { length found.old.keys ≤ MAX_INSTANCES }
     requires below { All (λ n. n < length (terms_of terms.old.nodes.keys)) found.old.keys }
-    requires fit { IsFit joined.now (term_at (terms_of terms.old.nodes.keys) (slice_index found.old.keys place)) }
+    requires fit { IsExpandable joined.now (term_at (terms_of terms.old.nodes.keys) (slice_index found.old.keys place)) }
     requires ranks { AreRanks joined.now.on_error (terms_of terms.old.nodes.keys) (get nat_eq ranks.now) }
     ensures few { IfOk result (λ _. length found.new.keys ≤ MAX_INSTANCES) }
     ensures ok { IfOk result (λ i. (before : List Term) →
-        IsSearch joined.now before (terms_of terms.old.nodes.keys) found.old.keys →
-        WentInstance joined.now before (terms_of terms.old.nodes.keys) (terms_of terms.new.nodes.keys)
+        IsInstanceSearch joined.now before (terms_of terms.old.nodes.keys) found.old.keys →
+        FindsInstance joined.now before (terms_of terms.old.nodes.keys) (terms_of terms.new.nodes.keys)
         found.old.keys found.new.keys
         (term_at (terms_of terms.old.nodes.keys) (slice_index found.old.keys place)) i) }
     ensures err { IfErr result (λ e. (before : List Term) →
-        IsSearch joined.now before (terms_of terms.old.nodes.keys) found.old.keys →
-        Causes
-        (Fails joined.now (before
+        IsInstanceSearch joined.now before (terms_of terms.old.nodes.keys) found.old.keys →
+        IsMemoryOr
+        (IsFirstFaultIn joined.now (before
         ++ producers_of joined.now
         (term_at (terms_of terms.old.nodes.keys) (slice_index found.old.keys place))))
         e) }
@@ -228,7 +230,7 @@ fn copy_of(numbers: &Sequence<usize>) -> Result<Sequence<usize>, Memory>
     Ok(numbers.clone()?)
 }
 
-/// The name of an instance.
+/// The printed name of an instance.
 fn name_of(alloc: Global, joined: &Joined, terms: &Terms, number: usize) -> Result<Name, Memory>
     requires number { number < length (terms_of terms.now.nodes.keys) }
     requires short { length (text joined.now (term_at (terms_of terms.now.nodes.keys) number)) ≤ MAX_NAME }
@@ -240,7 +242,7 @@ fn name_of(alloc: Global, joined: &Joined, terms: &Terms, number: usize) -> Resu
     }
 }
 
-/// The alternatives of a rule, its formals replaced by the arguments of a term.
+/// The alternatives of a rule with its formals replaced by the arguments of a term.
 fn expand_rule(
     alloc: Global,
     joined: &Joined,
@@ -253,14 +255,14 @@ fn expand_rule(
     requires number { number < length (terms_of terms.old.nodes.keys) }
     ensures few { IfOk result (λ _. length found.new.keys ≤ MAX_INSTANCES) }
     ensures ok { IfOk result (λ ps. (before : List Term) →
-        IsSearch joined.now before (terms_of terms.old.nodes.keys) found.old.keys →
-        WentAlternatives joined.now before (terms_of terms.old.nodes.keys)
+        IsInstanceSearch joined.now before (terms_of terms.old.nodes.keys) found.old.keys →
+        FindsAlternatives joined.now before (terms_of terms.old.nodes.keys)
         (terms_of terms.new.nodes.keys) found.old.keys found.new.keys
         (term_at (terms_of terms.old.nodes.keys) number) alternatives.now ps) }
     ensures err { IfErr result (λ e. (before : List Term) →
-        IsSearch joined.now before (terms_of terms.old.nodes.keys) found.old.keys →
-        Causes
-        (Fails joined.now (before
+        IsInstanceSearch joined.now before (terms_of terms.old.nodes.keys) found.old.keys →
+        IsMemoryOr
+        (IsFirstFaultIn joined.now (before
         ++ flat_map (right_side (term_at (terms_of terms.old.nodes.keys) number)) alternatives.now))
         e) }
 {
@@ -276,7 +278,7 @@ fn expand_rule(
     )
 }
 
-/// Alternatives with their formals replaced.
+/// The alternatives with their formals replaced.
 fn expand_alternatives(
     alloc: Global,
     joined: &Joined,
@@ -290,13 +292,13 @@ fn expand_alternatives(
     ensures few { IfOk result (λ _. length found.new.keys ≤ MAX_INSTANCES) }
     ensures ok { IfOk result (λ ps. (before : List Term) (t : Term) →
         arguments t ≡ terms_at (terms_of terms.old.nodes.keys) formals.now →
-        IsSearch joined.now before (terms_of terms.old.nodes.keys) found.old.keys →
-        WentAlternatives joined.now before (terms_of terms.old.nodes.keys)
+        IsInstanceSearch joined.now before (terms_of terms.old.nodes.keys) found.old.keys →
+        FindsAlternatives joined.now before (terms_of terms.old.nodes.keys)
         (terms_of terms.new.nodes.keys) found.old.keys found.new.keys t alternatives.now ps) }
     ensures err { IfErr result (λ e. (before : List Term) (t : Term) →
         arguments t ≡ terms_at (terms_of terms.old.nodes.keys) formals.now →
-        IsSearch joined.now before (terms_of terms.old.nodes.keys) found.old.keys →
-        Causes (Fails joined.now (before ++ flat_map (right_side t) alternatives.now)) e) }
+        IsInstanceSearch joined.now before (terms_of terms.old.nodes.keys) found.old.keys →
+        IsMemoryOr (IsFirstFaultIn joined.now (before ++ flat_map (right_side t) alternatives.now)) e) }
 {
     let mut productions = Sequence::new(alloc);
     for alternative in alternatives {
@@ -320,16 +322,16 @@ fn expand_alternative(
     requires few { length found.old.keys ≤ MAX_INSTANCES }
     requires formals { All (λ n. n < length (terms_of terms.old.nodes.keys)) formals.now }
     ensures few { IfOk result (λ _. length found.new.keys ≤ MAX_INSTANCES) }
-    ensures grows { IfOk result (λ _. Grows (terms_of terms.old.nodes.keys) (terms_of terms.new.nodes.keys)) }
+    ensures grows { IfOk result (λ _. IsExtendedBy (terms_of terms.old.nodes.keys) (terms_of terms.new.nodes.keys)) }
     ensures ok { IfOk result (λ p. (before : List Term) (t : Term) →
         arguments t ≡ terms_at (terms_of terms.old.nodes.keys) formals.now →
-        IsSearch joined.now before (terms_of terms.old.nodes.keys) found.old.keys →
-        WentAlternative joined.now before (terms_of terms.old.nodes.keys)
+        IsInstanceSearch joined.now before (terms_of terms.old.nodes.keys) found.old.keys →
+        FindsAlternative joined.now before (terms_of terms.old.nodes.keys)
         (terms_of terms.new.nodes.keys) found.old.keys found.new.keys t alternative.now p) }
     ensures err { IfErr result (λ e. (before : List Term) (t : Term) →
         arguments t ≡ terms_at (terms_of terms.old.nodes.keys) formals.now →
-        IsSearch joined.now before (terms_of terms.old.nodes.keys) found.old.keys →
-        Causes (Fails joined.now (before ++ right_side t alternative.now)) e) }
+        IsInstanceSearch joined.now before (terms_of terms.old.nodes.keys) found.old.keys →
+        IsMemoryOr (IsFirstFaultIn joined.now (before ++ right_side t alternative.now)) e) }
 {
     let mut rhs = Sequence::new(alloc);
     for producer in alternative.producers.as_slice() {

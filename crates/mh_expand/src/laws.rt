@@ -1,11 +1,11 @@
-//! Joined rules have one expansion, or one first fault.
+//! Laws of the definition: joined rules have at most one expansion and at most one first fault.
 ghost use Rattle.std.specs.Prelude.{◌≡◌};
 ghost use Rattle.mh_expand.specs.Expansion.{IsExpanded, IsFirstFault};
 
 use crate::fault::ExpandFault;
 use mh_rules::{Expanded, Joined};
 
-/// Two expansions of the same rules are one, with the same numbers and the same order of productions.
+/// Law: two expansions of the same rules are equal, with equal numbers of instances and equal order of productions.
 pub fn is_one_expansion(joined: &Joined, left: &Expanded, right: &Expanded)
     requires left { IsExpanded joined.now left.now }
     requires right { IsExpanded joined.now right.now }
@@ -16,7 +16,7 @@ pub fn is_one_expansion(joined: &Joined, left: &Expanded, right: &Expanded)
     let _right = right;
 }
 
-/// Two first faults of the same rules are one.
+/// Law: two first faults of the same rules are equal.
 pub fn is_one_fault(joined: &Joined, left: &ExpandFault, right: &ExpandFault)
     requires left { IsFirstFault joined.now left.now }
     requires right { IsFirstFault joined.now right.now }

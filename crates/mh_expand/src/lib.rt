@@ -1,4 +1,4 @@
-//! The instances of joined rules: what the starts reach, once each formal is replaced by what it stands for.
+//! Expands joined rules to the instances that the start symbols reach, with each formal replaced by its actual.
 #![tactic(auto)]
 
 mod applications;

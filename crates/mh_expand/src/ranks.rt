@@ -1,9 +1,9 @@
-//! The `%on_error_reduce` declarations, by the terms that they name.
+//! The ranks of terms by the `%on_error_reduce` declarations.
 ghost use Rattle.std.specs.Prelude.{◌≡◌, ◌∷◌, ◌++◌, [], List, length, nat_eq, IfOk, OnOk};
 ghost use Rattle.indexmap.specs.IndexMap.{get};
 ghost use Rattle.mh_rules.specs.declared.joined.Applied.{Applied as Actual};
-ghost use Rattle.mh_expand.specs.code.Sharing.{terms_of};
-ghost use Rattle.mh_expand.specs.code.Searching.{AreRanks, AddsRank};
+ghost use Rattle.mh_expand.specs.code.SharedTerms.{terms_of};
+ghost use Rattle.mh_expand.specs.code.InstanceSearch.{AreRanks, AddsRank};
 
 use crate::replacing::replace;
 use crate::terms::Terms;
@@ -12,10 +12,10 @@ use mh_grammar::{Memory, Sequence};
 use mh_rules::Applied;
 use std::alloc::Global;
 
-/// For each term the place of the first declaration that names it.
+/// The position of the first declaration that names each term, from 0.
 pub(crate) type Ranks = IndexMap<usize, u64>;
 
-/// Adds the rank of the terms that a declaration names, where those before it have theirs.
+/// Records the rank of the terms that a declaration names, unless an earlier declaration names them.
 fn add_ranks(
     alloc: Global,
     terms: &mut Terms,
@@ -57,14 +57,14 @@ pub(crate) fn ranks_of(
     Ok(ranks)
 }
 
-/// The rank of a term, if a declaration names it.
+/// The rank of a term, if a declaration names the term.
 pub(crate) fn rank_of(ranks: &Ranks, number: usize) -> Option<u64>
     ensures { result ≡ get nat_eq ranks.now number }
 {
     ranks.get(&number).copied()
 }
 
-/// The first declaration counts.
+/// Records a rank, unless the term has one already.
 fn add_rank(ranks: &mut Ranks, number: usize, rank: u64) -> Result<(), Memory>
     ensures { OnOk result (AddsRank (get nat_eq ranks.old) (get nat_eq ranks.new) number rank) }
 {

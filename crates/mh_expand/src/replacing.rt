@@ -1,8 +1,8 @@
-//! Actuals with their formals replaced.
+//! Replaces the formals in actuals.
 ghost use Rattle.std.specs.Prelude.{◌≡◌, ◌<◌, length, slice_get, IfOk};
 ghost use Rattle.std.specs.List.{All};
 ghost use Rattle.mh_expand.specs.Terms.{replaced, replaced_head, term_of};
-ghost use Rattle.mh_expand.specs.code.Sharing.{terms_of, terms_at, Grows, IsNode};
+ghost use Rattle.mh_expand.specs.code.SharedTerms.{terms_of, terms_at, IsExtendedBy, IsNode};
 
 use crate::applications::Application;
 use crate::terms::Terms;
@@ -10,8 +10,8 @@ use mh_grammar::{Memory, Sequence};
 use mh_rules::{Applied, Head};
 use std::alloc::Global;
 
-/// The term that an actual stands for, where the formals stand for these terms. It calls itself as often as the actual is
-/// deep, which is at most `MAX_DEPTH` in what `expand` is given.
+/// The number of the term of an actual in which the formals are replaced by these terms. The recursion is as deep as
+/// the actual, at most `MAX_DEPTH` for the rules that `expand` is given.
 pub(crate) fn replace(
     alloc: Global,
     terms: &mut Terms,
@@ -19,7 +19,7 @@ pub(crate) fn replace(
     applied: &Applied,
 ) -> Result<usize, Memory>
     requires { All (λ n. n < length (terms_of terms.old.nodes.keys)) formals.now }
-    ensures grows { IfOk result (λ _. Grows (terms_of terms.old.nodes.keys) (terms_of terms.new.nodes.keys)) }
+    ensures grows { IfOk result (λ _. IsExtendedBy (terms_of terms.old.nodes.keys) (terms_of terms.new.nodes.keys)) }
     ensures term { IfOk result (λ n. slice_get (terms_of terms.new.nodes.keys) n
         ≡ Some (replaced (terms_at (terms_of terms.old.nodes.keys) formals.now) (term_of applied.now))) }
 {
@@ -31,7 +31,8 @@ pub(crate) fn replace(
     Ok(terms.insert(node)?)
 }
 
-/// A formal stands for its term, with the arguments that this has.
+/// The head and first arguments of a term: a formal is replaced by its term with the arguments of that term; a token or
+/// rule stays.
 fn replace_head(
     alloc: Global,
     terms: &Terms,

@@ -1,10 +1,10 @@
-//! The instances that are found.
+//! The search for instances.
 ghost use Rattle.std.specs.Prelude.{◌≡◌, ◌<◌, ◌≤◌, ◌↔◌, ℕ, List, length, IsTrue, IfOk, IfErr};
 ghost use Rattle.mh_grammar.specs.Placed.{Placed};
 ghost use Rattle.mh_expand.specs.Terms.{Term, head_of, head_name, text};
-ghost use Rattle.mh_expand.specs.Expansion.{IsInstance, Fits, IsFault, Causes};
-ghost use Rattle.mh_expand.specs.code.Sharing.{terms_of, term_at};
-ghost use Rattle.mh_expand.specs.code.Searching.{IsSearch, Finds};
+ghost use Rattle.mh_expand.specs.Expansion.{IsInstance, HasRightArity, IsFault, IsMemoryOr};
+ghost use Rattle.mh_expand.specs.code.SharedTerms.{terms_of, term_at};
+ghost use Rattle.mh_expand.specs.code.InstanceSearch.{IsInstanceSearch, FindsTerm};
 
 use crate::fault::ExpandFault;
 use crate::terms::Terms;
@@ -14,13 +14,14 @@ use mh_grammar::{Memory, Name};
 use mh_rules::{Head, Joined, JoinedRule, MAX_INSTANCES, Part};
 use std::alloc::{AllocFailed, Global};
 
-/// The most bytes that the name of an instance may have.
+/// The largest number of bytes in the printed name of an instance.
 pub(crate) const MAX_NAME: usize = 1000;
 
-/// The most bytes of a name that a fault tells, as many as a file may have.
+/// The largest number of bytes of a name in a fault, which equals the largest size of a file.
 pub(crate) const MAX_FAULT_NAME: usize = 16_777_216;
 
-/// What a term is that was found: a token, or an instance, which is a new one where it was not there.
+/// The part of a right side that a term gives, a token or the number of an instance, or the fault of the term. A new
+/// instance is appended.
 pub(crate) fn find(
     alloc: Global,
     joined: &Joined,
@@ -32,12 +33,12 @@ pub(crate) fn find(
     requires few { length found.old.keys ≤ MAX_INSTANCES }
     ensures few { IfOk result (λ _. length found.new.keys ≤ MAX_INSTANCES) }
     ensures ok { IfOk result (λ p. (before : List Term) →
-        IsSearch joined.now before (terms_of terms.now.nodes.keys) found.old.keys →
-        Finds joined.now before (terms_of terms.now.nodes.keys)
+        IsInstanceSearch joined.now before (terms_of terms.now.nodes.keys) found.old.keys →
+        FindsTerm joined.now before (terms_of terms.now.nodes.keys)
         (term_at (terms_of terms.now.nodes.keys) number) found.old.keys found.new.keys p) }
     ensures err { IfErr result (λ e. (before : List Term) →
-        IsSearch joined.now before (terms_of terms.now.nodes.keys) found.old.keys →
-        Causes (IsFault joined.now before (term_at (terms_of terms.now.nodes.keys) number)) e) }
+        IsInstanceSearch joined.now before (terms_of terms.now.nodes.keys) found.old.keys →
+        IsMemoryOr (IsFault joined.now before (term_at (terms_of terms.now.nodes.keys) number)) e) }
 {
     let node = terms.at(number);
     match node.head {
@@ -50,7 +51,7 @@ pub(crate) fn find(
     }
 }
 
-/// The number of the instance that a term with this rule as head is.
+/// The number of the instance of a term whose head is a rule, or the fault of the term. A new instance is appended.
 pub(crate) fn find_instance(
     alloc: Global,
     joined: &Joined,
@@ -64,13 +65,13 @@ pub(crate) fn find_instance(
     requires rule { head_of (term_at (terms_of terms.now.nodes.keys) number) ≡ Head.Rule rule }
     ensures few { IfOk result (λ _. length found.new.keys ≤ MAX_INSTANCES) }
     ensures ok { IfOk result (λ p. (before : List Term) →
-        IsSearch joined.now before (terms_of terms.now.nodes.keys) found.old.keys →
-        Finds joined.now before (terms_of terms.now.nodes.keys)
+        IsInstanceSearch joined.now before (terms_of terms.now.nodes.keys) found.old.keys →
+        FindsTerm joined.now before (terms_of terms.now.nodes.keys)
         (term_at (terms_of terms.now.nodes.keys) number) found.old.keys found.new.keys
         (Part.Instance p)) }
     ensures err { IfErr result (λ e. (before : List Term) →
-        IsSearch joined.now before (terms_of terms.now.nodes.keys) found.old.keys →
-        Causes (IsFault joined.now before (term_at (terms_of terms.now.nodes.keys) number)) e) }
+        IsInstanceSearch joined.now before (terms_of terms.now.nodes.keys) found.old.keys →
+        IsMemoryOr (IsFault joined.now before (term_at (terms_of terms.now.nodes.keys) number)) e) }
 {
     let count = terms.at(number).args.len();
     match joined.rules.get(rule as usize) {
@@ -81,14 +82,14 @@ pub(crate) fn find_instance(
     }
 }
 
-/// Whether the rule takes so many arguments.
+/// Whether the rule has this number of formals.
 fn takes(rule: &JoinedRule, count: usize) -> bool
     ensures { IsTrue result ↔ (rule.now.formals ≡ count) }
 {
     rule.formals == count as u64
 }
 
-/// The number of an instance of the rule of this name; a new one is put behind the others, if it may be.
+/// The number of an instance of the rule with this name; a new instance is appended, if the limits allow another.
 fn add_instance(
     alloc: Global,
     joined: &Joined,
@@ -100,17 +101,17 @@ fn add_instance(
     requires number { number < length (terms_of terms.now.nodes.keys) }
     requires few { length found.old.keys ≤ MAX_INSTANCES }
     requires instance { IsInstance (term_at (terms_of terms.now.nodes.keys) number) }
-    requires fits { Fits joined.now (term_at (terms_of terms.now.nodes.keys) number) }
+    requires fits { HasRightArity joined.now (term_at (terms_of terms.now.nodes.keys) number) }
     requires rule { rule.now ≡ head_name joined.now (head_of (term_at (terms_of terms.now.nodes.keys) number)) }
     ensures few { IfOk result (λ _. length found.new.keys ≤ MAX_INSTANCES) }
     ensures ok { IfOk result (λ p. (before : List Term) →
-        IsSearch joined.now before (terms_of terms.now.nodes.keys) found.old.keys →
-        Finds joined.now before (terms_of terms.now.nodes.keys)
+        IsInstanceSearch joined.now before (terms_of terms.now.nodes.keys) found.old.keys →
+        FindsTerm joined.now before (terms_of terms.now.nodes.keys)
         (term_at (terms_of terms.now.nodes.keys) number) found.old.keys found.new.keys
         (Part.Instance p)) }
     ensures err { IfErr result (λ e. (before : List Term) →
-        IsSearch joined.now before (terms_of terms.now.nodes.keys) found.old.keys →
-        Causes (IsFault joined.now before (term_at (terms_of terms.now.nodes.keys) number)) e) }
+        IsInstanceSearch joined.now before (terms_of terms.now.nodes.keys) found.old.keys →
+        IsMemoryOr (IsFault joined.now before (term_at (terms_of terms.now.nodes.keys) number)) e) }
 {
     let known = found.len();
     let at = place(found, number)?;
@@ -124,7 +125,7 @@ fn add_instance(
     }
 }
 
-/// Whether a new instance may come after so many.
+/// Whether the limits allow a new instance after this number of instances.
 fn may_come(
     alloc: Global,
     joined: &Joined,
@@ -141,7 +142,7 @@ fn may_come(
     Ok(known < MAX_INSTANCES && name.is_some())
 }
 
-/// Where an instance stands; a new one is put behind the others.
+/// The position of an instance in the set; a new instance is appended.
 fn place(found: &mut IndexSet<usize>, number: usize) -> Result<usize, AllocFailed<usize>>
     ensures { IfOk result (Placed found.old.keys found.new.keys number) }
 {
@@ -149,13 +150,13 @@ fn place(found: &mut IndexSet<usize>, number: usize) -> Result<usize, AllocFaile
     Ok(at)
 }
 
-/// The fault of a term with too many or too few arguments. Where long terms stand for many formals its name may have gigabytes, more than
-/// memory is wanted for: that is answered as want of memory.
+/// The fault of a term with a wrong number of arguments. If long terms replace many formals, its name may have
+/// gigabytes; a name of more than 16 MiB is reported as `Memory`.
 fn wrong_count(alloc: Global, joined: &Joined, terms: &Terms, number: usize) -> ExpandFault
     requires number { number < length (terms_of terms.now.nodes.keys) }
-    requires count { Fits joined.now (term_at (terms_of terms.now.nodes.keys) number) → ⊥ }
+    requires count { HasRightArity joined.now (term_at (terms_of terms.now.nodes.keys) number) → ⊥ }
     ensures { (before : List Term) →
-        Causes (IsFault joined.now before (term_at (terms_of terms.now.nodes.keys) number)) result }
+        IsMemoryOr (IsFault joined.now before (term_at (terms_of terms.now.nodes.keys) number)) result }
 {
     match text_within(alloc, joined, terms, number, MAX_FAULT_NAME) {
         Ok(name) => match name {
@@ -166,9 +167,9 @@ fn wrong_count(alloc: Global, joined: &Joined, terms: &Terms, number: usize) -> 
     }
 }
 
-/// The fault of an instance too many of the rule of this name.
+/// The fault of an instance of this rule that exceeds a limit.
 fn one_too_many(rule: &Name) -> ExpandFault
-    ensures { Causes (λ e. e ≡ ExpandFault.Expansion rule.now) result }
+    ensures { IsMemoryOr (λ e. e ≡ ExpandFault.Expansion rule.now) result }
 {
     match rule.clone() {
         Ok(name) => ExpandFault::Expansion { name },

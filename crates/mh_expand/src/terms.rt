@@ -1,14 +1,14 @@
-//! Terms whose parts are shared.
+//! Terms that share their subterms.
 ghost use Rattle.std.specs.Prelude.{◌≡◌, ◌<◌, [], length, slice_get, IfOk, OnErr};
 ghost use Rattle.std.specs.List.{All};
 ghost use Rattle.mh_grammar.specs.Placed.{Placed};
-ghost use Rattle.mh_expand.specs.code.Sharing.{AreNodes, terms_of, node_term};
+ghost use Rattle.mh_expand.specs.code.SharedTerms.{AreNodes, terms_of, node_term};
 
 use crate::applications::Application;
 use indexmap::IndexSet;
 use std::alloc::{AllocError, AllocFailed, Global};
 
-/// Terms by number, each once, their arguments before them.
+/// Different terms with their numbers; the arguments of a term have smaller numbers than the term.
 #[derive(Drop)]
 pub(crate) struct Terms {
     pub nodes: IndexSet<Application>,
@@ -34,7 +34,7 @@ impl Terms {
         &self.nodes.as_slice()[number]
     }
 
-    /// The number of a term, a new one where it was not there.
+    /// The number of a term; a new term is appended.
     pub(crate) fn insert(&mut self, node: Application) -> Result<usize, AllocError>
         requires { All (λ a. a < length (terms_of self.old.nodes.keys)) node.args }
         ensures { IfOk result (Placed (terms_of self.old.nodes.keys) (terms_of self.new.nodes.keys)
@@ -44,7 +44,7 @@ impl Terms {
     }
 }
 
-/// Where a node stands; a new one is put behind the others.
+/// The position of a node in the set; a new node is appended.
 fn place(
     nodes: &mut IndexSet<Application>,
     node: Application,

@@ -2,15 +2,15 @@
 ghost use Rattle.std.specs.Prelude.{◌≡◌, ◌<◌, ◌≤◌, ◌++◌, length, take, IfOk, OnOk};
 ghost use Rattle.mh_expand.specs.Terms.{head_name};
 ghost use Rattle.mh_expand.specs.Terms as spec;
-ghost use Rattle.mh_expand.specs.code.Sharing.{terms_of, term_at};
-ghost use Rattle.mh_expand.specs.code.Searching.{IsTextWithin};
+ghost use Rattle.mh_expand.specs.code.SharedTerms.{terms_of, term_at};
+ghost use Rattle.mh_expand.specs.code.InstanceSearch.{IsTextWithin};
 
 use crate::terms::Terms;
 use mh_grammar::{Memory, Name, from_bytes};
 use mh_rules::{Head, Joined};
 use std::alloc::Global;
 
-/// The text of a term, if it has at most so many bytes.
+/// The text of a term, if it has at most this number of bytes.
 pub(crate) fn text_within(
     alloc: Global,
     joined: &Joined,
@@ -30,8 +30,9 @@ pub(crate) fn text_within(
     Ok(Some(from_bytes(alloc, text.as_slice())?))
 }
 
-/// Writes the text of a term, as far as there is room. It calls itself as often as the term is deep: at most `MAX_DEPTH` for
-/// the actual, and less than that for its formals, whose terms stand in an instance's name.
+/// Appends the text of a term, as far as there is room. The recursion is at most `MAX_DEPTH` deep for an actual. A term
+/// that replaces a formal is less deep than the limit, because the name of the instance contains the text of the term,
+/// and the length of this name is checked.
 fn write_term(
     text: &mut Vec<u8>,
     room: usize,
@@ -61,7 +62,7 @@ fn write_term(
     Ok(())
 }
 
-/// Writes the name of a token or a rule, as far as there is room.
+/// Appends the name of a token or rule, as far as there is room.
 fn write_head(text: &mut Vec<u8>, room: usize, joined: &Joined, head: Head) -> Result<(), Memory>
     requires { length text.old.items ≤ room }
     ensures { OnOk result (text.new.items ≡ take room (text.old.items ++ head_name joined.now head)) }
@@ -82,7 +83,7 @@ fn write_head(text: &mut Vec<u8>, room: usize, joined: &Joined, head: Head) -> R
     Ok(())
 }
 
-/// Writes bytes, as far as there is room.
+/// Appends bytes, as far as there is room.
 fn write_bytes(text: &mut Vec<u8>, room: usize, bytes: &[u8]) -> Result<(), Memory>
     requires { length text.old.items ≤ room }
     ensures { OnOk result (text.new.items ≡ take room (text.old.items ++ bytes.now)) }

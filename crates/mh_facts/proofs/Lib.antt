@@ -1,19 +1,19 @@
-mod Ordering
-pub mod Storing
-pub mod Best
-pub mod Bound
+mod OrderedEntries
+pub mod StoreEntries
+pub mod SearchInvariant
+pub mod LowerBound
 pub mod Complete
-pub mod Forward
-pub mod Least
-pub mod Orders
+pub mod StackBuilt
+pub mod LeastSentences
+pub mod OrderLaws
 pub mod Sound
-pub mod Collecting
-pub mod Counting
-pub mod Edging
-mod Firsts
-pub mod Gaining
-pub mod Keyed
-mod Lefting
-pub mod Putting
-pub mod Rowing
-pub mod Wording
+pub mod ListGains
+pub mod Unsettled
+pub mod Edges
+mod FirstElements
+pub mod QueueGains
+pub mod AssociationLists
+mod IsByLeftSide
+pub mod FactKeys
+pub mod QueueRows
+pub mod WordAssignment

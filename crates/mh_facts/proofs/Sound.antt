@@ -1,4 +1,4 @@
--- Each derivation is a run, from any stack with its state on top.
+-- Proves that the rules of the search are sound: each derivation is a run from any stack with its first state on top.
 use Rattle.std.proofs.Common.{◌≡◌, ℕ, suc, ◌+◌, ◌-◌, ◌<◌, ◌≤◌, inl, inr, List, [], ◌∷◌, ◌++◌, length, take, get_or, Some, refl, ap, arith, length-append, append_assoc, append-nil, ◌∙◌}
 use Rattle.std.specs.List.{slice_get, AllByRecursion}
 use Rattle.std.proofs.lemmas.Bool.{cases_lt}
@@ -12,46 +12,46 @@ use Rattle.mh_tables_core.specs.Table.{TableData, edge_of, cell_of, state_at}
 use Rattle.mh_grammar.specs.Plain.{rhs_of, lhs_of}
 use Rattle.mh_grammar.proofs.Lists.{recursion-append, recursion-push}
 use Rattle.mh_tables_core.specs.Facts.{Facts}
-use Rattle.mh_tables_core.specs.Run.{Config, Refuses, Shifts, Reduces, move_of, top_of, reduce, step, Goes, goes_to, after}
+use Rattle.mh_tables_core.specs.Run.{Config, Refuses, Shifts, Reduces, run_move_of, top_of, reduce, step, Goes, goes_to, after}
 use Rattle.mh_tables_core.specs.Failing.{Fails}
-use Rattle.mh_tables_core.proofs.Path.{Finds, reduce_finds}
+use Rattle.mh_tables_core.proofs.IsPath.{FindsStatesAndEdge, reduce_is}
 use Rattle.mh_tables_core.proofs.Reductions.{shifts_from_move, move_at_next, after-add}
-use Rattle.mh_tables_core.proofs.Ending.{step_moves}
-use Rattle.mh_facts.specs.Search.{front_of, Derives, Reaches, Refused}
+use Rattle.mh_tables_core.proofs.RunEnds.{step_moves}
+use Rattle.mh_facts.specs.Search.{leading_token, DerivesFact, ReachesState, IsRefusedSentence}
 use Rattle.mh_facts.specs.Search as rules
-use Rattle.mh_facts.proofs.Forward.{derives_front, length_more}
+use Rattle.mh_facts.proofs.StackBuilt.{leading_token-derives, length_more}
 
 abbrev pub at : List ℕ → ℕ → List ℕ → Config
 at stack read left = record { stack = stack; read = read; left = left }
 
--- one more step
+-- A run continues by one step.
 one_more : (t : TableData) (n : ℕ) (c mid new : Config) → after t n c ≡ mid → step t mid ≡ Goes new → after t (n + 1) c ≡ new
 one_more t n c mid new a b = after-add t n 1 c ∙ rw a (rw b refl)
 
 push_top : (stack : List ℕ) (j : ℕ) → top_of (stack ++ j ∷ []) ≡ j
 push_top stack j = let e : length (stack ++ j ∷ []) - 1 ≡ length stack = let l = length-append stack (j ∷ []) in omega arith in rw e (get_or-append_seam stack j [] 0)
 
--- a shift
-shift_on : (t : TableData) (n : ℕ) (c : Config) (stack : List ℕ) (read x j : ℕ) (left : List ℕ) → after t n c ≡ at stack read (x ∷ left) → move_of t (top_of stack) (x ∷ []) ≡ Shifts j → after t (n + 1) c ≡ at (stack ++ j ∷ []) (read + 1) left
+-- A run continues by a shift.
+shift_on : (t : TableData) (n : ℕ) (c : Config) (stack : List ℕ) (read x j : ℕ) (left : List ℕ) → after t n c ≡ at stack read (x ∷ left) → run_move_of t (top_of stack) (x ∷ []) ≡ Shifts j → after t (n + 1) c ≡ at (stack ++ j ∷ []) (read + 1) left
 shift_on t n c stack read x j left a m = one_more t n c (at stack read (x ∷ left)) _ a (step_moves t (at stack read (x ∷ left)) (Shifts j) (move_at_next t (top_of stack) x left ∙ m))
 
 reduce_above : (t : TableData) (q g : ℕ) (stack above : List ℕ) → 0 < length stack → length above ≡ length (rhs_of t.grammar q) → edge_of t (top_of stack) (N (lhs_of t.grammar q)) ≡ Some g → reduce t q (stack ++ above) ≡ Some (stack ++ g ∷ [])
 reduce_above t q g stack above lt high edge =
     let len = length-append stack above in
     let kept : take (length (stack ++ above) - length (rhs_of t.grammar q)) (stack ++ above) ≡ stack = take_at stack above (length (stack ++ above) - length (rhs_of t.grammar q)) (omega arith) in
-    let found : Finds t q (stack ++ above) = record { states = omega arith; goto = (g, rw kept edge) } in
-    reduce_finds t q (stack ++ above) found ∙ ap (λ (l : List ℕ). Some (l ++ g ∷ [])) kept
+    let found : FindsStatesAndEdge t q (stack ++ above) = record { states = omega arith; goto = (g, rw kept edge) } in
+    reduce_is t q (stack ++ above) found ∙ ap (λ (l : List ℕ). Some (l ++ g ∷ [])) kept
 
--- a reduction of all that stands above
-reduce_on : (t : TableData) (n : ℕ) (c : Config) (stack above : List ℕ) (read z q e g : ℕ) (left : List ℕ) → after t n c ≡ at (stack ++ above) read (z ∷ left) → top_of (stack ++ above) ≡ e → move_of t e (z ∷ []) ≡ Reduces q
+-- A run continues by a reduction that takes off all states above `stack`.
+reduce_on : (t : TableData) (n : ℕ) (c : Config) (stack above : List ℕ) (read z q e g : ℕ) (left : List ℕ) → after t n c ≡ at (stack ++ above) read (z ∷ left) → top_of (stack ++ above) ≡ e → run_move_of t e (z ∷ []) ≡ Reduces q
     → 0 < length stack → length above ≡ length (rhs_of t.grammar q) → edge_of t (top_of stack) (N (lhs_of t.grammar q)) ≡ Some g → after t (n + 1) c ≡ at (stack ++ g ∷ []) read (z ∷ left)
 reduce_on t n c stack above read z q e g left a top m lt high edge =
-    let move : move_of t (top_of (stack ++ above)) (z ∷ left) ≡ Reduces q = move_at_next t _ z left ∙ rw top m in
+    let move : run_move_of t (top_of (stack ++ above)) (z ∷ left) ≡ Reduces q = move_at_next t _ z left ∙ rw top m in
     one_more t n c (at (stack ++ above) read (z ∷ left)) _ a
     (step_moves t (at (stack ++ above) read (z ∷ left)) (Reduces q) move ∙ ap (goes_to (at (stack ++ above) read (z ∷ left))) (reduce_above t q g stack above lt high edge))
 
--- a run of a derivation
-pub record Ran (t : TableData) (r p d : ℕ) (stack : List ℕ) (read : ℕ) (v : List ℕ) (z : ℕ) (rest : List ℕ) (s : ℕ) : Type 0 where
+-- The run of a derivation: from a stack with r on top the run shifts v and pushes d states, with s on top and z next.
+pub record RunsAlong (t : TableData) (r p d : ℕ) (stack : List ℕ) (read : ℕ) (v : List ℕ) (z : ℕ) (rest : List ℕ) (s : ℕ) : Type 0 where
   pub steps : ℕ
   pub above : List ℕ
   pub stands : after t steps (at stack read (v ++ z ∷ rest)) ≡ at (stack ++ above) (read + length v) (z ∷ rest)
@@ -60,14 +60,14 @@ pub record Ran (t : TableData) (r p d : ℕ) (stack : List ℕ) (read : ℕ) (v 
   pub last : get_or (r ∷ above) d 0 ≡ s
   pub along : (k : ℕ) (x : Symbol) → k < d → slice_get (rhs_of t.grammar p) k ≡ Some x → edge_of t (get_or (r ∷ above) k 0) x ≡ Some (get_or (r ∷ above) (k + 1) 0)
 
--- the tokens behind the front
-abbrev pub behind : List ℕ → ℕ → List ℕ → List ℕ
-behind [] z rest = rest
-behind (x ∷ v) z rest = v ++ z ∷ rest
+-- The tokens after the first token of v, z and `rest`.
+abbrev pub rest_after_first : List ℕ → ℕ → List ℕ → List ℕ
+rest_after_first [] z rest = rest
+rest_after_first (x ∷ v) z rest = v ++ z ∷ rest
 
-front_behind : (v : List ℕ) (z : ℕ) (rest : List ℕ) → v ++ z ∷ rest ≡ front_of v z ∷ behind v z rest
-front_behind [] z rest = refl
-front_behind (x ∷ v) z rest = refl
+leading_token_split : (v : List ℕ) (z : ℕ) (rest : List ℕ) → v ++ z ∷ rest ≡ leading_token v z ∷ rest_after_first v z rest
+leading_token_split [] z rest = refl
+leading_token_split (x ∷ v) z rest = refl
 
 along_more : (t : TableData) (r p d : ℕ) (above : List ℕ) (s j : ℕ) (y : Symbol) → length above ≡ d → get_or (r ∷ above) d 0 ≡ s → slice_get (rhs_of t.grammar p) d ≡ Some y → edge_of t s y ≡ Some j
     → ((k : ℕ) (x : Symbol) → k < d → slice_get (rhs_of t.grammar p) k ≡ Some x → edge_of t (get_or (r ∷ above) k 0) x ≡ Some (get_or (r ∷ above) (k + 1) 0))
@@ -87,8 +87,8 @@ last_more : (r : ℕ) (above : List ℕ) (d j : ℕ) → length above ≡ d → 
 last_more r above d j len = let l : suc d ≡ length (r ∷ above) = omega arith in rw l (get_or-append_seam (r ∷ above) j [] 0)
 
 module _ (t : TableData) (f : Facts t) where
-  ran_shift : (r p d x z : ℕ) (v w : List ℕ) (s j : ℕ) (stack : List ℕ) (read : ℕ) (rest : List ℕ) → Ran t r p d stack read v x (z ∷ rest) s → slice_get (rhs_of t.grammar p) d ≡ Some (T x) → move_of t s (x ∷ []) ≡ Shifts j → w ≡ v ++ x ∷ []
-      → Ran t r p (suc d) stack read w z rest j
+  ran_shift : (r p d x z : ℕ) (v w : List ℕ) (s j : ℕ) (stack : List ℕ) (read : ℕ) (rest : List ℕ) → RunsAlong t r p d stack read v x (z ∷ rest) s → slice_get (rhs_of t.grammar p) d ≡ Some (T x) → run_move_of t s (x ∷ []) ≡ Shifts j → w ≡ v ++ x ∷ []
+      → RunsAlong t r p (suc d) stack read w z rest j
   ran_shift r p d x z v w s j stack read rest h symbol move word =
       let edge : edge_of t s (T x) ≡ Some j = f.shifts s x j (shifts_from_move t s x [] j move) in
       let left : w ++ z ∷ rest ≡ v ++ x ∷ (z ∷ rest) = rw word (append_assoc v (x ∷ []) (z ∷ rest)) in
@@ -104,9 +104,9 @@ module _ (t : TableData) (f : Facts t) where
         along = along_more t r p d h.above s j (T x) h.high h.last symbol edge h.along;
       }
 
-  ran_reduce : (r p d y z q : ℕ) (u v w : List ℕ) (s e g : ℕ) (stack : List ℕ) (read : ℕ) (rest rest' : List ℕ) → v ++ z ∷ rest ≡ y ∷ rest' → (h : Ran t r p d stack read u y rest' s) → slice_get (rhs_of t.grammar p) d ≡ Some (N (lhs_of t.grammar q)) → 0 < length stack
-      → Ran t s q (length (rhs_of t.grammar q)) (stack ++ h.above) (read + length u) v z rest e → move_of t e (z ∷ []) ≡ Reduces q → edge_of t s (N (lhs_of t.grammar q)) ≡ Some g → w ≡ u ++ v
-      → Ran t r p (suc d) stack read w z rest g
+  ran_reduce : (r p d y z q : ℕ) (u v w : List ℕ) (s e g : ℕ) (stack : List ℕ) (read : ℕ) (rest rest' : List ℕ) → v ++ z ∷ rest ≡ y ∷ rest' → (h : RunsAlong t r p d stack read u y rest' s) → slice_get (rhs_of t.grammar p) d ≡ Some (N (lhs_of t.grammar q)) → 0 < length stack
+      → RunsAlong t s q (length (rhs_of t.grammar q)) (stack ++ h.above) (read + length u) v z rest e → run_move_of t e (z ∷ []) ≡ Reduces q → edge_of t s (N (lhs_of t.grammar q)) ≡ Some g → w ≡ u ++ v
+      → RunsAlong t r p (suc d) stack read w z rest g
   ran_reduce r p d y z q u v w s e g stack read rest rest' front h symbol lt inner move edge word =
       let left : w ++ z ∷ rest ≡ u ++ (v ++ z ∷ rest) = rw word (append_assoc u v (z ∷ rest)) in
       let first : after t h.steps (at stack read (u ++ (v ++ z ∷ rest))) ≡ at (stack ++ h.above) (read + length u) (v ++ z ∷ rest) = rw front h.stands in
@@ -125,8 +125,8 @@ module _ (t : TableData) (f : Facts t) where
         along = along_more t r p d h.above s g (N (lhs_of t.grammar q)) h.high h.last symbol edge h.along;
       }
 
-  pub derives_ran : (r p d a z : ℕ) (v : List ℕ) (s : ℕ) → Derives t r p d a z v s → (stack : List ℕ) (read : ℕ) (rest : List ℕ) → 0 < length stack → top_of stack ≡ r → Ran t r p d stack read v z rest s
-  derives_ran r p d a z v s (rules.Derives.Empty o g) stack read rest lt top = record {
+  pub derives_ran : (r p d a z : ℕ) (v : List ℕ) (s : ℕ) → DerivesFact t r p d a z v s → (stack : List ℕ) (read : ℕ) (rest : List ℕ) → 0 < length stack → top_of stack ≡ r → RunsAlong t r p d stack read v z rest s
+  derives_ran r p d a z v s (rules.DerivesFact.Empty o g) stack read rest lt top = record {
     steps = 0;
     above = [];
     stands = let e : read + 0 ≡ read = omega arith in rw (e, append-nil stack) refl;
@@ -135,26 +135,26 @@ module _ (t : TableData) (f : Facts t) where
     last = refl;
     along = λ k x l e. absurd (omega arith);
   }
-  derives_ran r p d a z w j (rules.Derives.Shifted {d = d0} {x = x} {s = s} {v = v} h symbol move word) stack read rest lt top =
+  derives_ran r p d a z w j (rules.DerivesFact.Shifted {d = d0} {x = x} {s = s} {v = v} h symbol move word) stack read rest lt top =
       ran_shift r p d0 x z v w s j stack read rest (derives_ran r p d0 a x v s h stack read (z ∷ rest) lt top) symbol move word
-  derives_ran r p d a z w g (rules.Derives.Reduced {d = d0} {y = y} {s = s} {e = e} {u = u} {v = v} q h symbol inner move edge word) stack read rest lt top =
-      let front : v ++ z ∷ rest ≡ y ∷ behind v z rest = front_behind v z rest ∙ ap (λ (k : ℕ). k ∷ behind v z rest) (derives_front t s q (length (rhs_of t.grammar q)) y z v e inner) in
-      let one = derives_ran r p d0 a y u s h stack read (behind v z rest) lt top in
-      ran_reduce r p d0 y z q u v w s e g stack read rest (behind v z rest) front one symbol lt
+  derives_ran r p d a z w g (rules.DerivesFact.Reduced {d = d0} {y = y} {s = s} {e = e} {u = u} {v = v} q h symbol inner move edge word) stack read rest lt top =
+      let front : v ++ z ∷ rest ≡ y ∷ rest_after_first v z rest = leading_token_split v z rest ∙ ap (λ (k : ℕ). k ∷ rest_after_first v z rest) (leading_token-derives t s q (length (rhs_of t.grammar q)) y z v e inner) in
+      let one = derives_ran r p d0 a y u s h stack read (rest_after_first v z rest) lt top in
+      ran_reduce r p d0 y z q u v w s e g stack read rest (rest_after_first v z rest) front one symbol lt
       (derives_ran s q (length (rhs_of t.grammar q)) y z v e inner (stack ++ one.above) (read + length u) rest (let l = length-append stack one.above in omega arith) one.top) move edge word
 
--- where a run of a start stands
-pub record StandsAt (t : TableData) (i s z : ℕ) (v rest : List ℕ) : Type 0 where
+-- The run from the start i on v, z and `rest` comes to a stack with s on top and z next.
+pub record RunsToState (t : TableData) (i s z : ℕ) (v rest : List ℕ) : Type 0 where
   pub steps : ℕ
   pub stack : List ℕ
   pub stands : after t steps (at (i ∷ []) 0 (v ++ z ∷ rest)) ≡ at stack (length v) (z ∷ rest)
   pub top : top_of stack ≡ s
   pub begun : 0 < length stack
 
-pub reaches_stands : (t : TableData) (f : Facts t) (i s z : ℕ) (v : List ℕ) → Reaches t i s z v → (rest : List ℕ) → StandsAt t i s z v rest
-reaches_stands t f i s z v rules.Reaches.Begins rest = record { steps = 0; stack = i ∷ []; stands = refl; top = refl; begun = omega arith }
-reaches_stands t f i j z w (rules.Reaches.Steps {s = s} {y = y} {v = v} h move word) rest =
-    let one = reaches_stands t f i s y v h (z ∷ rest) in
+pub RunsToState-reaches : (t : TableData) (f : Facts t) (i s z : ℕ) (v : List ℕ) → ReachesState t i s z v → (rest : List ℕ) → RunsToState t i s z v rest
+RunsToState-reaches t f i s z v rules.ReachesState.Begins rest = record { steps = 0; stack = i ∷ []; stands = refl; top = refl; begun = omega arith }
+RunsToState-reaches t f i j z w (rules.ReachesState.Steps {s = s} {y = y} {v = v} h move word) rest =
+    let one = RunsToState-reaches t f i s y v h (z ∷ rest) in
     let left : w ++ z ∷ rest ≡ v ++ y ∷ (z ∷ rest) = rw word (append_assoc v (y ∷ []) (z ∷ rest)) in
     let count : length v + 1 ≡ length w = let l = length_more w v y word in omega arith in
     record {
@@ -164,9 +164,9 @@ reaches_stands t f i j z w (rules.Reaches.Steps {s = s} {y = y} {v = v} h move w
       top = push_top one.stack j;
       begun = let l = length-append one.stack (j ∷ []) in omega arith;
     }
-reaches_stands t f i g z w (rules.Reaches.Goes {s = s} {y = y} {e = e} {u = u} {v = v} q h inner move edge word) rest =
-    let front : v ++ z ∷ rest ≡ y ∷ behind v z rest = front_behind v z rest ∙ ap (λ (k : ℕ). k ∷ behind v z rest) (derives_front t s q (length (rhs_of t.grammar q)) y z v e inner) in
-    let one = reaches_stands t f i s y u h (behind v z rest) in
+RunsToState-reaches t f i g z w (rules.ReachesState.Goes {s = s} {y = y} {e = e} {u = u} {v = v} q h inner move edge word) rest =
+    let front : v ++ z ∷ rest ≡ y ∷ rest_after_first v z rest = leading_token_split v z rest ∙ ap (λ (k : ℕ). k ∷ rest_after_first v z rest) (leading_token-derives t s q (length (rhs_of t.grammar q)) y z v e inner) in
+    let one = RunsToState-reaches t f i s y u h (rest_after_first v z rest) in
     let two = derives_ran t f s q (length (rhs_of t.grammar q)) y z v e inner one.stack (length u) rest one.begun one.top in
     let left : w ++ z ∷ rest ≡ u ++ (v ++ z ∷ rest) = rw word (append_assoc u v (z ∷ rest)) in
     let first : after t one.steps (at (i ∷ []) 0 (u ++ (v ++ z ∷ rest))) ≡ at one.stack (length u) (v ++ z ∷ rest) = rw front one.stands in
@@ -181,50 +181,50 @@ reaches_stands t f i g z w (rules.Reaches.Goes {s = s} {y = y} {e = e} {u = u} {
       begun = let l = length-append one.stack (g ∷ []) in omega arith;
     }
 
--- only known tokens are shifted
+-- Only tokens of the table are shifted.
 shift_cell : (t : TableData) (s x j : ℕ) → length (state_at t s).cells ≤ x → cell_of t s x ≡ actions.Shift j → ⊥
 unfolding cell_of
 shift_cell t s x j le e = let past = get_or_past (state_at t s).cells x actions.Refuse le in let none : actions.Refuse ≡ actions.Shift j = rw past at e in cc
 
-pub shift_known : (t : TableData) (f : Facts t) (s x j : ℕ) → s < length t.states → move_of t s (x ∷ []) ≡ Shifts j → x < t.grammar.tokens
+pub shift_known : (t : TableData) (f : Facts t) (s x j : ℕ) → s < length t.states → run_move_of t s (x ∷ []) ≡ Shifts j → x < t.grammar.tokens
 shift_known t f s x j lt move =
     elim (cases_lt x t.grammar.tokens) [
       | inl l ↦ l
       | inr le ↦ absurd (shift_cell t s x j (let row = f.ranges.each_row s lt in omega arith) (shifts_from_move t s x [] j move))
     ]
 
--- known states and tokens
-pub record Known (t : TableData) (v : List ℕ) (s : ℕ) : Type 0 where
+-- The state s and the tokens of v belong to the table.
+pub record InRangeAt (t : TableData) (v : List ℕ) (s : ℕ) : Type 0 where
   pub state : s < length t.states
   pub tokens : AllByRecursion (λ z. z < t.grammar.tokens) v
 
-known_shift : (t : TableData) (f : Facts t) (v w : List ℕ) (s x j : ℕ) → Known t v s → move_of t s (x ∷ []) ≡ Shifts j → w ≡ v ++ x ∷ [] → Known t w j
+known_shift : (t : TableData) (f : Facts t) (v w : List ℕ) (s x j : ℕ) → InRangeAt t v s → run_move_of t s (x ∷ []) ≡ Shifts j → w ≡ v ++ x ∷ [] → InRangeAt t w j
 known_shift t f v w s x j k move word = record {
   state = f.each_target s (T x) j (f.shifts s x j (shifts_from_move t s x [] j move));
   tokens = rw word (recursion-push (λ (z : ℕ). z < t.grammar.tokens) v x k.tokens (shift_known t f s x j k.state move));
 }
 
-pub derives_known : (t : TableData) (f : Facts t) (r p d a z : ℕ) (v : List ℕ) (s : ℕ) → r < length t.states → Derives t r p d a z v s → Known t v s
-derives_known t f r p d a z v s lt (rules.Derives.Empty o g) = record { state = lt; tokens = tt }
-derives_known t f r p d a z w j lt (rules.Derives.Shifted {d = d0} {x = x} {s = s} {v = v} h symbol move word) = known_shift t f v w s x j (derives_known t f r p d0 a x v s lt h) move word
-derives_known t f r p d a z w g lt (rules.Derives.Reduced {d = d0} {y = y} {s = s} {e = e} {u = u} {v = v} q h symbol inner move edge word) =
+pub derives_known : (t : TableData) (f : Facts t) (r p d a z : ℕ) (v : List ℕ) (s : ℕ) → r < length t.states → DerivesFact t r p d a z v s → InRangeAt t v s
+derives_known t f r p d a z v s lt (rules.DerivesFact.Empty o g) = record { state = lt; tokens = tt }
+derives_known t f r p d a z w j lt (rules.DerivesFact.Shifted {d = d0} {x = x} {s = s} {v = v} h symbol move word) = known_shift t f v w s x j (derives_known t f r p d0 a x v s lt h) move word
+derives_known t f r p d a z w g lt (rules.DerivesFact.Reduced {d = d0} {y = y} {s = s} {e = e} {u = u} {v = v} q h symbol inner move edge word) =
     let one = derives_known t f r p d0 a y u s lt h in
     let two = derives_known t f s q (length (rhs_of t.grammar q)) y z v e one.state inner in
     record { state = f.each_target s (N (lhs_of t.grammar q)) g edge; tokens = rw word (recursion-append (λ (z : ℕ). z < t.grammar.tokens) u v one.tokens two.tokens) }
 
-pub reaches_known : (t : TableData) (f : Facts t) (i s z : ℕ) (v : List ℕ) → i < length t.grammar.starts → Reaches t i s z v → Known t v s
-reaches_known t f i s z v lt rules.Reaches.Begins = record { state = let l = f.enough_states in omega arith; tokens = tt }
-reaches_known t f i j z w lt (rules.Reaches.Steps {s = s} {y = y} {v = v} h move word) = known_shift t f v w s y j (reaches_known t f i s y v lt h) move word
-reaches_known t f i g z w lt (rules.Reaches.Goes {s = s} {y = y} {e = e} {u = u} {v = v} q h inner move edge word) =
+pub reaches_known : (t : TableData) (f : Facts t) (i s z : ℕ) (v : List ℕ) → i < length t.grammar.starts → ReachesState t i s z v → InRangeAt t v s
+reaches_known t f i s z v lt rules.ReachesState.Begins = record { state = let l = f.enough_states in omega arith; tokens = tt }
+reaches_known t f i j z w lt (rules.ReachesState.Steps {s = s} {y = y} {v = v} h move word) = known_shift t f v w s y j (reaches_known t f i s y v lt h) move word
+reaches_known t f i g z w lt (rules.ReachesState.Goes {s = s} {y = y} {e = e} {u = u} {v = v} q h inner move edge word) =
     let one = reaches_known t f i s y u lt h in
     let two = derives_known t f s q (length (rhs_of t.grammar q)) y z v e one.state inner in
     record { state = f.each_target s (N (lhs_of t.grammar q)) g edge; tokens = rw word (recursion-append (λ (z : ℕ). z < t.grammar.tokens) u v one.tokens two.tokens) }
 
--- What the search's rules say is refused fails.
-pub refused_fails : (t : TableData) (f : Facts t) (i : ℕ) (w : List ℕ) (s : ℕ) → Refused t i w s → Fails t i w s
-refused_fails t f i w s h =
+-- Each sentence that the rules of the search refuse fails.
+pub Fails-refused : (t : TableData) (f : Facts t) (i : ℕ) (w : List ℕ) (s : ℕ) → IsRefusedSentence t i w s → Fails t i w s
+Fails-refused t f i w s h =
     let k = reaches_known t f i s h.last h.before h.start h.reaches in
-    let ran = reaches_stands t f i s h.last h.before h.reaches [] in
+    let ran = RunsToState-reaches t f i s h.last h.before h.reaches [] in
     let len : length w ≡ length h.before + 1 = length_more w h.before h.last h.word in
     let one : length w - 1 ≡ length h.before = omega arith in
     record {

@@ -1,6 +1,7 @@
--- Costs of words, up to the highest (this project's own).
+-- The highest cost of words (this project's own).
 use Rattle.std.specs.Prelude.{ℕ}
 
--- the highest cost: one more than the dearest sentence of a catalogue may cost, for all words that cost more than that
+-- The highest cost: one more than the greatest cost of a sentence of a catalogue. All words of a greater cost are given
+-- this cost.
 abbrev pub cap : ℕ
 cap = 1000001

@@ -1,4 +1,4 @@
-//! Costs of words, up to the highest.
+//! Sums of costs, up to the highest cost.
 ghost use Rattle.std.specs.Prelude.{◌≡◌, ◌≤◌, ◌<◌, ◌+◌, min};
 ghost use Rattle.mh_tables_core.specs.Table.{cost_of_token};
 ghost use Rattle.mh_facts.specs.Costs.{cap};
@@ -6,10 +6,10 @@ ghost use Rattle.mh_facts.specs.Costs.{cap};
 use mh_grammar::Token;
 use mh_tables_core::Table;
 
-/// The highest cost: that of each word that costs more than 1,000,000.
+/// The highest cost. All words that cost more than 1,000,000 are given this cost.
 pub const CAP: u32 = 1_000_001;
 
-/// The sum of two costs, up to the highest.
+/// The sum of two costs, or the highest cost if the sum is greater.
 pub fn add_costs(left: u32, right: u32) -> u32
     requires left { left ≤ cap }
     requires right { right ≤ cap }
@@ -19,8 +19,8 @@ pub fn add_costs(left: u32, right: u32) -> u32
     if sum < CAP { sum } else { CAP }
 }
 
-/// The cost of a word with one more token at its end, up to the highest.
-#[tactic(auto, using(crate::proofs::Wording::token_cheap))]
+/// The cost of a word that is extended by a token, or the highest cost if the sum is greater.
+#[tactic(auto, using(crate::proofs::WordAssignment::token_cost_below_cap))]
 pub fn add_token(table: &Table, cost: u32, token: Token) -> u32
     requires cost { cost ≤ cap }
     requires token { token < table.now.grammar.tokens }

@@ -1,11 +1,11 @@
-//! A queue by cost.
+//! A queue of items by cost.
 ghost use Rattle.std.specs.Prelude.{◌≡◌, [], OnOk};
-ghost use Rattle.mh_facts.specs.code.Rows.{Gains, IsOne, Takes};
+ghost use Rattle.mh_facts.specs.code.Queues.{QueueGains, IsOne, TakesFromQueue};
 
 use mh_grammar::Memory;
 use std::alloc::Global;
 
-/// Items that wait, each with a cost: a bucket for each cost up to the highest.
+/// A queue with a bucket for each cost up to the highest cost in use.
 #[derive(Drop)]
 pub struct Queue<T> {
     pub buckets: Vec<Vec<T>>,
@@ -20,9 +20,9 @@ pub fn empty_queue<T>(alloc: Global) -> Queue<T>
     }
 }
 
-/// Puts an item in. Fails for want of memory alone.
+/// Adds an item with its cost. Fails for want of memory alone.
 pub fn push<T: Drop>(alloc: Global, queue: &mut Queue<T>, cost: u32, item: T) -> Result<(), Memory>
-    ensures { OnOk result (Gains (IsOne cost item) queue.old.buckets.items queue.new.buckets.items) }
+    ensures { OnOk result (QueueGains (IsOne cost item) queue.old.buckets.items queue.new.buckets.items) }
 {
     'buckets: while queue.buckets.len() <= cost as usize {
         queue.buckets.push(Vec::new(alloc))?;
@@ -31,9 +31,9 @@ pub fn push<T: Drop>(alloc: Global, queue: &mut Queue<T>, cost: u32, item: T) ->
     Ok(())
 }
 
-/// Takes an item of this cost out.
+/// Removes and returns an item of the given cost, if there is one.
 pub fn take<T>(queue: &mut Queue<T>, cost: u32) -> Option<T>
-    ensures { Takes queue.old.buckets.items queue.new.buckets.items cost result }
+    ensures { TakesFromQueue queue.old.buckets.items queue.new.buckets.items cost result }
 {
     if cost as usize >= queue.buckets.len() {
         return None;

@@ -1,48 +1,50 @@
-//! The facts that a search settled, in order, each with its cost and what it came from.
+//! The store of settled facts, in order of their costs, each with the facts that it was derived from.
 ghost use Rattle.std.specs.Prelude.{◌≡◌, ◌≤◌, ◌↔◌, [], ◌∷◌, ◌++◌, true, false, None, Some, IfOk, IfSome, OnErr};
 ghost use Rattle.std.specs.Option.{option_map};
-ghost use Rattle.mh_facts.specs.Stored.{IsPlace, fact_at, last_of};
+ghost use Rattle.mh_facts.specs.Stored.{IsIndexOf, fact_at, highest_cost};
 
-use crate::ordered::OrderedMap;
+use crate::ordered_map::OrderedMap;
 use mh_grammar::{Memory, Token};
 use std::alloc::Global;
 use std::marker::Model;
 
-/// A path from a state along a production's prefix, by the first token to come and the token after. Tokens that a state
-/// treats alike may be named by one of them.
+/// The key of a fact: a path from a state along a prefix of a production's right side, with the first token to come at
+/// its beginning and the next token at its end. A token may be named by the representative of its class in the state.
 #[derive(Clone, Copy, PartialEq, Eq, Hash, Drop)]
 pub struct FactKey {
-    /// The state that the path begins in.
+    /// The state in which the path begins.
     pub from: u32,
-    /// The production, an ordinary one.
+    /// The number of an ordinary production.
     pub production: u32,
-    /// How many symbols of its right side the path goes along.
+    /// The number of symbols of the right side before the dot, which is the length of the path.
     pub dot: u32,
-    /// The first token to come at the beginning.
+    /// The first token to come at the beginning of the path.
     pub first: Token,
-    /// The token to come at the end.
+    /// The token to come at the end of the path.
     pub next: Token,
 }
 
-/// The facts that a fact came from.
+/// The facts that a fact was derived from.
 #[derive(Clone, Copy, Drop)]
 pub enum Back {
-    /// None: the path is empty.
+    /// No facts: the path is empty.
     Empty,
-    /// The path without its last symbol, a token that was shifted.
+    /// The path without its last symbol, which is a token that was shifted.
     Shifted(FactKey),
-    /// The path without its last symbol, a nonterminal, and the whole path that was reduced to it.
+    /// The path without its last symbol, which is a nonterminal, and the complete path that was reduced to the
+    /// nonterminal.
     Reduced { path: FactKey, inner: FactKey },
 }
 
-/// What is stored of a key.
+/// The value that is stored for a key: the least cost of the path's words, and the facts that it was derived from.
 #[derive(Clone, Copy, Drop)]
 pub struct Fact {
     pub cost: u32,
     pub back: Back,
 }
 
-/// A map from keys to costs, each with what it came from. What is stored of a key stays, and costs never fall.
+/// A map from keys to costs, each with the facts that it was derived from. Stored facts never change, and each new cost
+/// is at least the highest stored cost.
 #[derive(Drop)]
 pub struct FactStore {
     facts: OrderedMap<FactKey, Fact>,
@@ -51,13 +53,13 @@ pub struct FactStore {
 
 impl Model for FactStore {
     ghost use Rattle.std.specs.Prelude.{◌≡◌};
-    ghost use Rattle.mh_facts.specs.Stored.{Facts, last_of};
+    ghost use Rattle.mh_facts.specs.Stored.{Facts, highest_cost};
 
     ghost Value = { Facts };
 
     ghost view = { λ s. s.facts };
 
-    ghost invariant = { λ s. s.last ≡ last_of s.facts };
+    ghost invariant = { λ s. s.last ≡ highest_cost s.facts };
 }
 
 impl FactStore {
@@ -71,14 +73,14 @@ impl FactStore {
         }
     }
 
-    /// What is stored of a key.
+    /// The stored fact of a key, if there is one.
     fn fact(&self, key: &FactKey) -> Option<Fact>
         ensures { result ≡ fact_at self.now key.now }
     {
         self.facts.get(key).copied()
     }
 
-    /// The stored cost, where there is one.
+    /// The stored cost of a key, if there is one.
     pub fn cost(&self, key: &FactKey) -> Option<u32>
         ensures { result ≡ option_map (λ fact. fact.cost) (fact_at self.now key.now) }
     {
@@ -88,7 +90,7 @@ impl FactStore {
         }
     }
 
-    /// What is stored with the cost, where there is one.
+    /// The facts that the key's fact was derived from, if one is stored.
     pub fn back(&self, key: &FactKey) -> Option<Back>
         ensures { result ≡ option_map (λ fact. fact.back) (fact_at self.now key.now) }
     {
@@ -98,25 +100,25 @@ impl FactStore {
         }
     }
 
-    /// Where the entry of a key stands, the first at 0: entries stand in the order in which they were stored.
+    /// The index of a key's fact in the order of storing, from 0, if one is stored.
     pub fn place(&self, key: &FactKey) -> Option<usize>
         ensures none { (result ≡ None) ↔ (fact_at self.now key.now ≡ None) }
-        ensures place { IfSome result (IsPlace self.now key.now) }
+        ensures place { IfSome result (IsIndexOf self.now key.now) }
     {
         self.facts.place(key)
     }
 
-    /// The highest stored cost, 0 where none is stored.
+    /// The highest stored cost, 0 if nothing is stored.
     pub fn last(&self) -> u32
-        ensures { result ≡ last_of self.now }
+        ensures { result ≡ highest_cost self.now }
     {
         self.last
     }
 
-    /// Stores a cost, which is no lower than the highest, and what it came from, and answers true, where the key has no
-    /// cost. Else it changes nothing and answers false. Fails for want of memory alone; the store is as before then.
+    /// Stores a fact and returns true if the key has none; else changes nothing and returns false. The cost must be at
+    /// least the highest stored cost. Fails for want of memory alone; the store then stays as it was.
     pub fn settle(&mut self, key: FactKey, cost: u32, back: Back) -> Result<bool, Memory>
-        requires { last_of self.old ≤ cost }
+        requires { highest_cost self.old ≤ cost }
         ensures fresh { IfOk result (λ stored. (stored ≡ true) ↔ (fact_at self.old key ≡ None)) }
         ensures stored { IfOk result (λ stored. stored ≡ true → self.new ≡ self.old ++ (key, record { cost = cost; back = back }) ∷ []) }
         ensures same { IfOk result (λ stored. stored ≡ false → self.new ≡ self.old) }

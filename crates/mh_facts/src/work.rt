@@ -1,29 +1,30 @@
-//! What the search keeps beside the facts that are settled.
+//! The working data of the search, apart from the store of settled facts. A fact is settled when it is taken from the
+//! queue, with its least cost.
 use crate::queue::Queue;
 use crate::store::{Back, FactKey};
 use mh_grammar::Token;
 use std::collections::HashSet;
 
-/// A fact that waits: the state at its end and what it came from.
+/// A fact that waits in the queue: its key, the state at the end of its path, and the facts that it was derived from.
 #[derive(Clone, Copy, Drop)]
-pub struct Item {
+pub struct QueuedFact {
     pub key: FactKey,
     pub end: u32,
     pub back: Back,
 }
 
-/// A settled fact: the state at its end and its cost.
+/// A settled fact: its key, the state at the end of its path, and its cost.
 #[derive(Clone, Copy, Drop)]
-pub struct Path {
+pub struct SettledFact {
     pub key: FactKey,
     pub end: u32,
     pub cost: u32,
 }
 
-/// A way over a nonterminal: the whole fact that is reduced to it, the state that it leads to, and a representative of
-/// that state which may come next.
+/// A complete path and the goto after its reduction: the key of the path, the nonterminal, the target of the goto, a
+/// representative of the target as the next token, and the cost.
 #[derive(Clone, Copy, Drop)]
-pub struct Whole {
+pub struct CompletePath {
     pub inner: FactKey,
     pub nonterminal: u16,
     pub target: u32,
@@ -31,21 +32,23 @@ pub struct Whole {
     pub cost: u32,
 }
 
-/// What two ways may have in common, so that the first found serves for both.
+/// A goto fact: the state, the nonterminal, and the tokens at the beginning and at the end. Complete paths with one
+/// goto fact have the same consequences, so only the first found, which is the cheapest, is kept.
 #[derive(Clone, Copy, PartialEq, Eq, Hash, Drop)]
-pub struct Way {
+pub struct GotoFact {
     pub from: u32,
     pub nonterminal: u16,
     pub first: Token,
     pub next: Token,
 }
 
-/// What waits; the settled paths before a nonterminal, by the state at their end and the token to come; the ways over
-/// nonterminals, by the state that they begin in and the token to come; and which ways are there.
+/// The working data of the search: the queue; the settled paths with a nonterminal after the dot, by the class of the
+/// next token in their end state; the complete paths, by the class of the first token in the state where they begin;
+/// and the goto facts that are known.
 #[derive(Drop)]
-pub struct Work {
-    pub queue: Queue<Item>,
-    pub paths: Vec<Vec<Path>>,
-    pub wholes: Vec<Vec<Whole>>,
-    pub known: HashSet<Way>,
+pub struct SearchData {
+    pub queue: Queue<QueuedFact>,
+    pub paths: Vec<Vec<SettledFact>>,
+    pub wholes: Vec<Vec<CompletePath>>,
+    pub known: HashSet<GotoFact>,
 }

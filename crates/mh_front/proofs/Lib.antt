@@ -1,3 +1,3 @@
-pub mod Passing
-pub mod Composing
-pub mod OneGrammar
+pub mod StageFaults
+pub mod SentencesKept
+pub mod GrammarUnique

@@ -1,5 +1,5 @@
--- The grammar of several files and the faults, stage by stage: joining, expansion, inlining. Source: the Menhir manual on
--- grammars split into files, parameterized rules and inline rules; this project's profile.
+-- The grammar of several files and their faults, stage by stage: joining, expansion, inlining (Menhir manual on
+-- grammars split into files, parameterized rules and inline rules; the choice is a rule of this project).
 use Rattle.std.specs.Prelude.{◌≡◌, Bool, List, Some, Ok}
 use Rattle.mh_grammar.specs.declared.types.Grammar.{Grammar}
 use Rattle.mh_rules.specs.declared.modules.Module.{Module}
@@ -14,12 +14,13 @@ use Rattle.mh_rules.specs.declared.instances.Expanded.{Expanded}
 use Rattle.mh_expand.specs.Expansion.{IsExpanded, IsFirstFault}
 use Rattle.mh_inline.specs.declared.fault.InlineFault.{InlineFault}
 use Rattle.mh_inline.specs.declared.fault.InlineFault.TheVariants as inlining
-use Rattle.mh_inline.specs.Faults.{IsGrammarOf, IsFault, IsNoMemory}
+use Rattle.mh_inline.specs.Faults.{IsGrammarOf, IsFault, IsNotMemory}
 use Rattle.mh_front.specs.declared.fault.GrammarFault.{GrammarFault}
 use Rattle.mh_front.specs.declared.fault.GrammarFault.TheVariants.{Join, Expand, Inline, Memory}
 
--- THE FAULTS OF THE STAGES AS FAULTS OF THE WHOLE: want of memory is that of the whole, whatever the stage
+-- The faults of the stages as faults of all stages together. Lack of memory is one fault, whatever the stage.
 
+-- The faults of the stages as faults of all stages together. Lack of memory is one fault for all stages.
 abbrev pub of_join : JoinFault → GrammarFault
 of_join joining.Memory = Memory
 of_join fault = Join fault
@@ -32,55 +33,55 @@ abbrev pub of_inline : InlineFault → GrammarFault
 of_inline inlining.Memory = Memory
 of_inline fault = Inline fault
 
--- OF JOINED RULES
+-- The grammar and the faults of joined rules.
 
--- the grammar of the instances
+-- The grammar of the instances of the joined rules.
 pub record IsGrammarOfJoined (j : Joined) (g : Grammar) : Type 0 where
   pub expanded : Expanded
   pub expands : IsExpanded j expanded
   pub grammar : IsGrammarOf expanded g
 
--- the instances are there, and this is their fault; want of memory is none
+-- The joined rules have instances, and this is the first fault of the instances. Lack of memory is not their fault.
 pub record IsInstancesFault (j : Joined) (fault : InlineFault) : Type 0 where
   pub expanded : Expanded
   pub expands : IsExpanded j expanded
   pub faulty : IsFault expanded fault
-  pub told : IsNoMemory fault
+  pub told : IsNotMemory fault
 
--- The fault of expansion, or that of the instances. Joined rules have no fault of joining, and want of memory is no fault
--- of theirs.
+-- The first fault of expansion, or the first fault of the instances. Joined rules have no other faults, and lack of
+-- memory is not their fault.
 abbrev pub IsJoinedFault : Joined → GrammarFault → Type 0
 IsJoinedFault j (Expand fault) = IsFirstFault j fault
 IsJoinedFault j (Inline fault) = IsInstancesFault j fault
 IsJoinedFault j _ = ⊥
 
--- OF MODULES
+-- The grammar and the faults of modules.
 
--- the modules join, and this is the grammar of the joined rules
+-- The modules have joined rules, and this is their grammar.
 pub record IsGrammarOfModules (prelude : Bool) (modules : List Module) (g : Grammar) : Type 0 where
   pub joined : Joined
   pub joins : Joins prelude modules (Ok joined)
   pub grammar : IsGrammarOfJoined joined g
 
--- the first fault of joining
+-- The first fault of joining.
 abbrev pub IsJoinFault : Bool → List Module → JoinFault → Type 0
 IsJoinFault prelude modules fault = first (join_faults prelude modules) ≡ Some fault
 
--- the modules join, and this is the fault of the joined rules
+-- The modules have joined rules, and this is the first fault of these.
 pub record IsLaterFault (prelude : Bool) (modules : List Module) (fault : GrammarFault) : Type 0 where
   pub joined : Joined
   pub joins : Joins prelude modules (Ok joined)
   pub faulty : IsJoinedFault joined fault
 
--- The fault of the first stage that has one; want of memory is no fault of the modules.
+-- The fault of the first stage that has one. Lack of memory is not a fault of the modules.
 abbrev pub IsGrammarFault : Bool → List Module → GrammarFault → Type 0
 IsGrammarFault prelude modules (Join fault) = IsJoinFault prelude modules fault
 IsGrammarFault prelude modules Memory = ⊥
 IsGrammarFault prelude modules fault = IsLaterFault prelude modules fault
 
--- WANT OF MEMORY
+-- Faults of calls, which include lack of memory.
 
--- a fault has this cause; want of memory has none, and may come at any place
-abbrev pub Causes : (GrammarFault → Type 0) → GrammarFault → Type 0
-Causes P Memory = Unit {0}
-Causes P fault = P fault
+-- The fault has this cause. Lack of memory has no cause, and may occur anywhere.
+abbrev pub HasCauseOrMemory : (GrammarFault → Type 0) → GrammarFault → Type 0
+HasCauseOrMemory P Memory = Unit {0}
+HasCauseOrMemory P fault = P fault

@@ -1,4 +1,4 @@
-//! Why modules give no grammar.
+//! Why modules have no grammar.
 use mh_expand::ExpandFault;
 use mh_inline::InlineFault;
 use mh_join::JoinFault;
@@ -6,19 +6,20 @@ use thiserror::Error;
 
 /// The first fault of the modules, by the stage that finds it.
 ///
-/// The text of a fault is what `fault_line` tells of it; only that line has a name behind the text, since a name is bytes.
+/// `fault_line` gives the whole text of a fault. The `Display` text lacks the name that ends it, because a name is
+/// bytes.
 #[derive(Debug, Drop, Error)]
 pub enum GrammarFault {
-    /// The modules are not joined.
+    /// The modules could not be joined.
     #[error(transparent)]
     Join(JoinFault),
-    /// The joined rules are not expanded.
+    /// The joined rules could not be expanded.
     #[error(transparent)]
     Expand(ExpandFault),
-    /// The instances give no grammar.
+    /// The instances have no grammar.
     #[error(transparent)]
     Inline(InlineFault),
-    /// Memory ran out, whatever the stage.
+    /// Memory ran out, in any stage.
     #[error("out of memory")]
     Memory,
 }

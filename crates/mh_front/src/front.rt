@@ -1,10 +1,10 @@
-//! The stages one after another: joining, expansion, inlining.
+//! The stages in sequence: joining, expansion, inlining.
 ghost use Rattle.std.specs.Prelude.{◌≤◌, length, IfOk, IfErr};
 ghost use Rattle.mh_grammar.specs.Costs.{HaveCosts};
 ghost use Rattle.mh_grammar.specs.Numbering.{AreDistinct};
 ghost use Rattle.mh_grammar.specs.Plain.{plain_of, IsInRange};
-ghost use Rattle.mh_rules.specs.Ready.{AreModulesReady, IsReady};
-ghost use Rattle.mh_front.specs.Stages.{Causes, IsGrammarOfJoined, IsGrammarOfModules, IsJoinedFault, IsGrammarFault};
+ghost use Rattle.mh_rules.specs.Ready.{AreModulesReady, IsJoinedReady};
+ghost use Rattle.mh_front.specs.Stages.{HasCauseOrMemory, IsGrammarOfJoined, IsGrammarOfModules, IsJoinedFault, IsGrammarFault};
 ghost use Rattle.mh_front.specs.Sentences.{HasSentencesOfModules};
 
 use crate::fault::GrammarFault;
@@ -15,11 +15,11 @@ use mh_join::join;
 use mh_rules::{Joined, MAX_TOKENS, Module};
 use std::alloc::Global;
 
-/// The grammar of joined rules.
+/// Returns the grammar of joined rules.
 fn grammar_of_joined(alloc: Global, joined: &Joined) -> Result<Grammar, GrammarFault>
-    requires { IsReady joined.now }
+    requires { IsJoinedReady joined.now }
     ensures grammar { IfOk result (IsGrammarOfJoined joined.now) }
-    ensures fault { IfErr result (Causes (IsJoinedFault joined.now)) }
+    ensures fault { IfErr result (HasCauseOrMemory (IsJoinedFault joined.now)) }
 {
     match expand(alloc, joined) {
         Ok(expanded) => match inline_rules(alloc, &expanded) {
@@ -30,14 +30,17 @@ fn grammar_of_joined(alloc: Global, joined: &Joined) -> Result<Grammar, GrammarF
     }
 }
 
-/// The grammar that the modules of a grammar's files give, with the prelude or without: they are joined, each rule that
-/// is reached is expanded to its instances, and inline instances are replaced by their alternatives. Answers the fault of
-/// the first stage that has one, and `Memory` where memory runs out. Each start symbol has the sentences of the joined
-/// rules, whose formals are replaced at need.
+/// Returns the grammar of the modules of a grammar's files, with the prelude or without. The modules are joined, each
+/// rule that the starts reach is expanded to its instances, and inline instances are replaced by their alternatives.
+/// Each start symbol has the sentences of the joined rules, with their formals replaced.
+///
+/// # Errors
+///
+/// The fault of the first stage that has one, and `Memory` if memory runs out.
 pub fn grammar_of(alloc: Global, modules: &[Module], prelude: bool) -> Result<Grammar, GrammarFault>
     requires { AreModulesReady modules.now }
     ensures grammar { IfOk result (IsGrammarOfModules prelude modules.now) }
-    ensures fault { IfErr result (Causes (IsGrammarFault prelude modules.now)) }
+    ensures fault { IfErr result (HasCauseOrMemory (IsGrammarFault prelude modules.now)) }
     ensures tokens { IfOk result (λ g. length g.tokens ≤ MAX_TOKENS) }
     ensures range { IfOk result (λ g. IsInRange (plain_of g)) }
     ensures costs { IfOk result (λ g. HaveCosts g.tokens) }

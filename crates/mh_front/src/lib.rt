@@ -1,4 +1,4 @@
-//! From the modules of a grammar to the grammar.
+//! The front end: from the modules of a grammar to the grammar.
 #![tactic(auto)]
 
 mod fault;

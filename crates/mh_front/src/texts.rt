@@ -1,6 +1,6 @@
-//! The lines that say why there is no grammar.
+//! The lines that report why there is no grammar.
 ghost use Rattle.std.specs.Prelude.{◌≡◌, ◌++◌, decimal, IfOk};
-ghost use Rattle.mh_front.specs.Texts.{expand_text, fault_text, inline_text, join_text};
+ghost use Rattle.mh_front.specs.Texts.{expand_text, grammar_fault_text, inline_text, join_text};
 
 use crate::fault::GrammarFault;
 use mh_expand::ExpandFault;
@@ -9,7 +9,7 @@ use mh_inline::InlineFault;
 use mh_join::JoinFault;
 use std::alloc::Global;
 
-/// A fixed text.
+/// The line with this text.
 fn plain(alloc: Global, text: &[u8]) -> Result<Vec<u8>, Memory>
     ensures { IfOk result (λ line. line.items ≡ text.now) }
 {
@@ -18,7 +18,7 @@ fn plain(alloc: Global, text: &[u8]) -> Result<Vec<u8>, Memory>
     Ok(line)
 }
 
-/// A text with a name after it.
+/// The line with this text and a name after it.
 fn named(alloc: Global, text: &[u8], name: &Name) -> Result<Vec<u8>, Memory>
     ensures { IfOk result (λ line. line.items ≡ text.now ++ name.now) }
 {
@@ -27,7 +27,7 @@ fn named(alloc: Global, text: &[u8], name: &Name) -> Result<Vec<u8>, Memory>
     Ok(line)
 }
 
-/// A text with a number after it.
+/// The line with this text and a number after it.
 fn counted(alloc: Global, text: &[u8], count: u64) -> Result<Vec<u8>, Memory>
     ensures { IfOk result (λ line. line.items ≡ text.now ++ decimal count) }
 {
@@ -73,10 +73,10 @@ fn inline_line(alloc: Global, fault: &InlineFault) -> Result<Vec<u8>, Memory>
     }
 }
 
-/// The text that reports a fault, without the program's name before it and without the end of the line. A program that ends by
-/// another status where memory runs out does not come to the text of `Memory`.
+/// Returns the text that reports a fault, without the program's name before it and without the end of the line. A
+/// program that reports lack of memory by its exit status alone does not need the text of `Memory`.
 pub fn fault_line(alloc: Global, fault: &GrammarFault) -> Result<Vec<u8>, Memory>
-    ensures { IfOk result (λ line. line.items ≡ fault_text fault.now) }
+    ensures { IfOk result (λ line. line.items ≡ grammar_fault_text fault.now) }
 {
     match fault {
         GrammarFault::Join(fault) => join_line(alloc, fault),

@@ -1,4 +1,4 @@
--- A tree of a list is no higher than the highest.
+-- Lemmas on the height of a list of trees: no tree of the list is higher than the list.
 use Rattle.std.proofs.Common.{◌≡◌, ℕ, zero, suc, max, ◌≤◌, ◌<◌, List, [], ◌∷◌, ◌++◌, length, slice_index_or, arith, subst, sym}
 use Rattle.mh_grammar.specs.Trees.{SyntaxTree, height_of, forest_height, forest_of}
 

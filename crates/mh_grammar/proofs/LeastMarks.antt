@@ -1,4 +1,5 @@
--- Marks that are sound and closed are the least, and these mark what derives the empty word, or any word.
+-- Proves that sound and closed marks are the least marks, and that these mark the nonterminals that derive the empty
+-- word, or any word.
 use Rattle.std.proofs.Common.{◌≡◌, ℕ, ◌+◌, ◌<◌, Bool, true, false, not, List, [], ◌∷◌, ◌++◌, Some, length, get_or, set, count_by, refl, sym, ap, ◌∙◌, arith, ◌↔◌, cond, inl, inr, get_or-set_other}
 use Rattle.std.specs.List.{slice_get}
 use Rattle.std.proofs.lemmas.Bool.{cases_eq}
@@ -11,11 +12,11 @@ use Rattle.mh_grammar.specs.Derivations.{Derivation, Derivations}
 use Rattle.mh_grammar.specs.Plain.{PlainGrammar, IsToken, Produces, Derives, DerivesAll, IsNullable, IsProductive}
 use Rattle.std.proofs.lemmas.Bool.{and_from, and_parts}
 use Rattle.mh_grammar.proofs.Lists.{nil_parts}
-use Rattle.mh_grammar.proofs.Numbered.{produces_at, listed_from_for}
+use Rattle.mh_grammar.proofs.ProductionNumbers.{produces_at, listed_from_for}
 use Rattle.mh_grammar.specs.Marked.{Marked, AllMarked, mark_of, all_marked, AreSound, AreClosed, AreMarks}
 use Rattle.mh_grammar.specs.Marked as marked
 
--- marks that are closed hold of all that is marked
+-- Closed marks mark every symbol that `Marked` holds of.
 module _ (tokens : Bool) (ps : List Production) (marks : List Bool) (c : AreClosed tokens ps marks) where
   mutual
     pub mark_of-marked : (X : Symbol) → Marked tokens ps X → mark_of tokens marks X ≡ true
@@ -26,7 +27,7 @@ module _ (tokens : Bool) (ps : List Production) (marks : List Bool) (c : AreClos
     all_marked-marked Xs marked.AllMarked.none = refl
     all_marked-marked Xs (marked.AllMarked.more m ms) = and_from _ _ (mark_of-marked _ m) (all_marked-marked _ ms)
 
--- what sound marks hold of is marked
+-- `Marked` holds of every symbol that sound marks mark.
 module _ (tokens : Bool) (ps : List Production) (marks : List Bool) (s : AreSound tokens ps marks) where
   pub marked-mark_of : (X : Symbol) → mark_of tokens marks X ≡ true → Marked tokens ps X
   marked-mark_of (T a) e = marked.Marked.token e
@@ -36,29 +37,29 @@ module _ (tokens : Bool) (ps : List Production) (marks : List Bool) (s : AreSoun
   marked-all_marked [] e = marked.AllMarked.none
   marked-all_marked (X ∷ Xs) e = let b = and_parts (mark_of tokens marks X) _ e in marked.AllMarked.more (marked-mark_of X b.0) (marked-all_marked Xs b.1)
 
--- sound and closed marks are the least
-pub marks_of : (tokens : Bool) (ps : List Production) (marks : List Bool) → AreSound tokens ps marks → AreClosed tokens ps marks → AreMarks tokens ps marks
-marks_of tokens ps marks s c n = (s.sound n, mark_of-marked tokens ps marks c (N n))
+-- Sound and closed marks are the least marks.
+pub are_marks : (tokens : Bool) (ps : List Production) (marks : List Bool) → AreSound tokens ps marks → AreClosed tokens ps marks → AreMarks tokens ps marks
+are_marks tokens ps marks s c n = (s.sound n, mark_of-marked tokens ps marks c (N n))
 
--- a new mark leaves one fewer unmarked
-pub unmarked-set : (marks : List Bool) (n : ℕ) → n < length marks → get_or marks n false ≡ false → count_by not (set marks n true) + 1 ≡ count_by not marks
-unmarked-set marks n l e =
+-- A new mark decreases the number of unmarked nonterminals by one.
+pub unmarked_falls : (marks : List Bool) (n : ℕ) → n < length marks → get_or marks n false ≡ false → count_by not (set marks n true) + 1 ≡ count_by not marks
+unmarked_falls marks n l e =
     let h = sum_by-set (λ b. cond (not b) 1 0) marks n true false l in
     let one : ℕ = 1 in
     let k : cond (not (get_or marks n false)) 1 0 ≡ one = rw e refl in
     omega (arith, h, k)
 
--- a mark whose production is marked is right
+-- Marking the left side of a production whose symbols are all marked keeps the marks sound.
 pub sound-set : (tokens : Bool) (ps : List Production) (marks : List Bool) (k : ℕ) (p : Production) → AreSound tokens ps marks → slice_get ps k ≡ Some p → all_marked tokens marks p.rhs ≡ true → AreSound tokens ps (set marks p.lhs true)
 sound-set tokens ps marks k p s at all = record {
   sound = λ n e. elim (cases_eq n p.lhs) [ inl same ↦ marked.Marked.produced k p at (sym same) (marked-all_marked tokens ps marks s p.rhs all) | inr other ↦ s.sound n (sym (get_or-set_other marks p.lhs n true false other) ∙ e) ];
 }
 
--- a production whose symbols are all marked has its left side marked
+-- If all symbols of the production are marked, so is its left side.
 abbrev pub Closes : Bool → List Bool → Production → Type 0
 Closes tokens marks p = all_marked tokens marks p.rhs ≡ true → get_or marks p.lhs false ≡ true
 
--- with no token counted, what is marked is what derives the empty word
+-- If tokens do not count as marked, a symbol is marked exactly if it derives the empty word.
 module _ (g : PlainGrammar) where
   node_marked : (tokens : Bool) (X : Symbol) (rhs : List Symbol) → Produces g X rhs → AllMarked tokens g.productions rhs → Marked tokens g.productions X
   node_marked tokens (T a) rhs p all = absurd p
@@ -78,7 +79,7 @@ module _ (g : PlainGrammar) where
     all-from_nil Xs w trees.Derivations.none e = marked.AllMarked.none
     all-from_nil Xs w (trees.Derivations.more j t f) e = let n = nil_parts _ _ (sym j ∙ e) in marked.AllMarked.more (marked-from_nil _ _ t n.0) (all-from_nil _ _ f n.1)
 
-  -- with each token counted, what has a derivation is marked
+  -- If tokens count as marked, a symbol that derives a word is marked.
   mutual
     pub marked-from_tree : (X : Symbol) (w : List ℕ) → Derives g X w → Marked true g.productions X
     marked-from_tree X w (trees.Derivation.leaf {a = a} t) = leaf_marked X a t
@@ -97,7 +98,7 @@ module _ (g : PlainGrammar) where
     nils_from-all Xs marked.AllMarked.none = trees.Derivations.none
     nils_from-all Xs (marked.AllMarked.more m ms) = trees.Derivations.more refl (nil_from-marked _ m) (nils_from-all _ ms)
 
-  -- what is marked has a derivation
+  -- If tokens count as marked, a marked symbol derives a word.
   mutual
     pub tree_from-marked : (X : Symbol) → Marked true g.productions X → (w : List ℕ) × Derives g X w
     tree_from-marked X (marked.Marked.token {a = a} e) = (a ∷ [], trees.Derivation.leaf refl)

@@ -1,6 +1,7 @@
--- Lists, for every crate above: items by their places, what a list contains, fronts that grow by one item, items that are set, pairs at
--- equal places, lists that rise, and the keys of a set in its order. Where std has a lemma it is cited from there (`List.Elements`: of
--- `Contains` and `++`, of `All`; `Bool`: `and_parts`, `or_parts`; `Math.Bool`: `or-false`, `or_assoc`; `Option`: `same_Some`, `none-some`).
+-- Lemmas on lists, for every crate that depends on this one: elements by index, elements that a list contains, prefixes
+-- that grow by one element, elements that are set, pairs at equal indices of two lists, rising lists, and the keys of
+-- an ordered set. Lemmas that std has are not repeated here: see `List.Elements` for `Contains`, `++` and `All`; `Bool`
+-- for `and_parts` and `or_parts`; `Math.Bool` for `or-false` and `or_assoc`; `Option` for `same_Some` and `none-some`.
 use Rattle.std.proofs.Common.{◌≡◌, ℕ, zero, suc, ◌+◌, ◌<◌, ◌≤◌, ◌⊎◌, ◌↔◌, List, [], ◌∷◌, ◌++◌, Option, None, Some, length, get_or, take, drop, map, set, flat_map, refl, sym, ap, ◌∙◌, arith, inl, inr}
 use Rattle.std.specs.List.{slice_get, All, AllByRecursion, AllZip, Contains}
 use Rattle.std.specs.declared.cmp.Ordering.{Ordering}
@@ -18,18 +19,18 @@ use Rattle.std.proofs.lemmas.Option.{slice_get-get_or, get_or_from_slice_get, sl
 use Rattle.mh_grammar.specs.Edges.{IsRising}
 
 module _ {X : Type 0} where
-  -- a place of the first of two lists
+  -- An element of the first of two lists has the same index in the appended list.
   pub get_left : (xs ys : List X) (i : ℕ) (x : X) → slice_get xs i ≡ Some x → slice_get (xs ++ ys) i ≡ Some x
   get_left xs ys i x e =
       let l = slice_get_within xs i x e in
       let m : i < length (xs ++ ys) = omega (arith, length-append xs ys) in
       slice_get-get_or (xs ++ ys) i x m ∙ ap Some (get_or_append_left xs ys x i l ∙ get_or_from_slice_get xs i x x e)
 
-  -- the last place
+  -- The last element of a list has the index of the list before it was appended.
   pub get_last : (xs : List X) (y : X) (i : ℕ) → i ≡ length xs → slice_get (xs ++ y ∷ []) i ≡ Some y
   get_last xs y i e = let m : i < length (xs ++ y ∷ []) = omega (arith, length_push xs y) in slice_get-get_or (xs ++ y ∷ []) i y m ∙ ap Some (get_or_push xs y y i (sym e))
 
-  -- a place in a list with one more item
+  -- An element of a list with one appended element is an element of the list, or is the appended one.
   pub get_cases : (xs : List X) (y : X) (i : ℕ) (x : X) → slice_get (xs ++ y ∷ []) i ≡ Some x → (slice_get xs i ≡ Some x) ⊎ ((i ≡ length xs) × (x ≡ y))
   get_cases xs y i x e =
       let at = get_or_from_slice_get (xs ++ y ∷ []) i x x e in
@@ -39,48 +40,48 @@ module _ {X : Type 0} where
             inl (slice_get-get_or xs i x l ∙ ap Some (sym (get_or_append_left xs (y ∷ []) x i l) ∙ at)))
       ]
 
-  -- the place behind a front
-  pub get_behind : (before : List X) (x : X) (xs : List X) → slice_get (before ++ x ∷ xs) (length before) ≡ Some x
-  get_behind [] x xs = refl
-  get_behind (y ∷ before) x xs = get_behind before x xs
+  -- The element after a prefix has the prefix's length as its index.
+  pub get_after_prefix : (before : List X) (x : X) (xs : List X) → slice_get (before ++ x ∷ xs) (length before) ≡ Some x
+  get_after_prefix [] x xs = refl
+  get_after_prefix (y ∷ before) x xs = get_after_prefix before x xs
 
-  -- one place has one item
-  pub same_at : (xs : List X) (i : ℕ) (x y : X) → slice_get xs i ≡ Some x → slice_get xs i ≡ Some y → x ≡ y
-  same_at xs i x y e f = cc
+  -- Two elements at one index are equal.
+  pub get_unique : (xs : List X) (i : ℕ) (x y : X) → slice_get xs i ≡ Some x → slice_get xs i ≡ Some y → x ≡ y
+  get_unique xs i x y e f = cc
 
-  -- each place has an item
-  pub has_place : (xs : List X) (i : ℕ) → i < length xs → (x : X) × (slice_get xs i ≡ Some x)
-  has_place [] i l = absurd (omega arith)
-  has_place (x ∷ xs) zero l = (x, refl)
-  has_place (x ∷ xs) (suc i) l = has_place xs i (omega arith)
+  -- Each index below the length has an element.
+  pub get_within : (xs : List X) (i : ℕ) → i < length xs → (x : X) × (slice_get xs i ≡ Some x)
+  get_within [] i l = absurd (omega arith)
+  get_within (x ∷ xs) zero l = (x, refl)
+  get_within (x ∷ xs) (suc i) l = get_within xs i (omega arith)
 
-  -- an item that is read stands at its place
-  pub read_again : (xs : List X) (i : ℕ) (d : X) → i < length xs → get_or xs i d ≡ get_or xs i (get_or xs i d)
-  read_again xs i d l = get_or_default xs i d (get_or xs i d) l
+  -- An element that was read does not depend on the default value.
+  pub get_or_own_default : (xs : List X) (i : ℕ) (d : X) → i < length xs → get_or xs i d ≡ get_or xs i (get_or xs i d)
+  get_or_own_default xs i d l = get_or_default xs i d (get_or xs i d) l
 
-  -- what is left begins with the item at this place
-  pub left_at : (xs : List X) (i : ℕ) (x : X) → i < length xs → x ≡ get_or xs i x → drop i xs ≡ x ∷ drop (i + 1) xs
-  left_at xs i x l at = drop_more xs i x l ∙ ap (λ (y : X). y ∷ drop (i + 1) xs) (sym at)
+  -- The suffix from an index begins with the element at this index.
+  pub drop_step : (xs : List X) (i : ℕ) (x : X) → i < length xs → x ≡ get_or xs i x → drop i xs ≡ x ∷ drop (i + 1) xs
+  drop_step xs i x l at = drop_more xs i x l ∙ ap (λ (y : X). y ∷ drop (i + 1) xs) (sym at)
 
-  -- a front is not longer than it is said to be
+  -- A prefix of n elements has at most n elements.
   pub take_few : (xs : List X) (n : ℕ) → length (take n xs) ≤ n
   take_few xs n = omega (arith, length-take n xs)
 
-  -- the first item behind a front
-  pub at_drop : (xs : List X) (i : ℕ) (x : X) (ys : List X) → drop i xs ≡ x ∷ ys → slice_get xs i ≡ Some x
-  at_drop [] zero x ys e = cc
-  at_drop [] (suc i) x ys e = cc
-  at_drop (z ∷ xs) zero x ys e = cc
-  at_drop (z ∷ xs) (suc i) x ys e = at_drop xs i x ys e
+  -- The first element of the suffix from an index has this index.
+  pub get_from_drop : (xs : List X) (i : ℕ) (x : X) (ys : List X) → drop i xs ≡ x ∷ ys → slice_get xs i ≡ Some x
+  get_from_drop [] zero x ys e = cc
+  get_from_drop [] (suc i) x ys e = cc
+  get_from_drop (z ∷ xs) zero x ys e = cc
+  get_from_drop (z ∷ xs) (suc i) x ys e = get_from_drop xs i x ys e
 
-  -- from a place to what the list contains, and back
+  -- A list contains the element at each index, and each element that it contains has an index.
   pub contains_at : (xs : List X) (i : ℕ) (x : X) → slice_get xs i ≡ Some x → Contains xs x
   contains_at xs i x e = (i, slice_get_within xs i x e, get_or_from_slice_get xs i x x e)
 
   pub at_contains : (xs : List X) (x : X) → Contains xs x → (i : ℕ) × (slice_get xs i ≡ Some x)
   at_contains xs x c = (c.0, slice_get-get_or xs c.0 x c.1 ∙ ap Some c.2)
 
-  -- what lists contain, by their first item
+  -- The elements that a list contains, by its first element.
   pub contains_here : (x : X) (xs : List X) → Contains (x ∷ xs) x
   contains_here x xs = (0, omega arith, refl)
 
@@ -100,7 +101,7 @@ module _ {X : Type 0} where
   pub contains_one : (x y : X) → Contains (x ∷ []) y → x ≡ y
   contains_one x y c = elim (contains_cases x [] y c) [ inl e ↦ e | inr d ↦ absurd (contains_none y d) ]
 
-  -- and by their last
+  -- The elements that a list contains, by its last element.
   pub contains_last : (xs : List X) (y : X) → Contains (xs ++ y ∷ []) y
   contains_last xs y = Contains-append_right xs (y ∷ []) y (contains_here y [])
 
@@ -109,17 +110,17 @@ module _ {X : Type 0} where
       let at = at_contains (xs ++ y ∷ []) x c in
       elim (get_cases xs y at.0 x at.1) [ inl e ↦ inl (contains_at xs at.0 x e) | inr l ↦ inr l.1 ]
 
-  -- an item of a list that is not empty
+  -- A list that is not empty contains an element.
   pub some_item : (xs : List X) → 0 < length xs → (x : X) × Contains xs x
   some_item [] l = absurd (omega arith)
   some_item (x ∷ xs) l = (x, contains_here x xs)
 
-  -- a list that is not empty has items
+  -- A list that is not empty has a positive length.
   pub some_length : (xs : List X) → (xs ≡ [] → ⊥) → 0 < length xs
   some_length [] h = absurd (h refl)
   some_length (x ∷ xs) h = omega arith
 
-  -- equal lists have equal parts, and lists with equal parts are equal
+  -- Equal lists have equal parts, and lists with equal parts are equal.
   pub first_same : (x y : X) (xs ys : List X) → x ∷ xs ≡ y ∷ ys → x ≡ y
   first_same x y xs ys e = cc
 
@@ -130,7 +131,7 @@ module _ {X : Type 0} where
   nil_parts [] ys e = (refl, e)
   nil_parts (x ∷ xs) ys e = cc
 
-  -- where a list that ends in y is split
+  -- The two ways to split a list at an element, if the list ends with y.
   pub split_push : (xs : List X) (y : X) (before : List X) (x : X) (after : List X) → xs ++ y ∷ [] ≡ before ++ x ∷ after → ((xs ≡ before) × (y ≡ x)) ⊎ ((rest : List X) × (xs ≡ before ++ x ∷ rest))
   split_push [] y [] x after e = let same : y ≡ x = cc in inl (refl, same)
   split_push [] y (z ∷ []) x after e = cc
@@ -144,30 +145,30 @@ module _ {X : Type 0} where
         | inr r ↦ inr (r.0, (λ i. same i ∷ r.1 i))
       ]
 
-  -- a front with one more item: what it is, and what it contains
-  pub taken : (xs : List X) (i : ℕ) (x : X) → i < length xs → x ≡ get_or xs i x → take (i + 1) xs ≡ take i xs ++ x ∷ []
-  taken xs i x l e = take_more xs i x l ∙ ap (λ z. take i xs ++ z ∷ []) (sym e)
+  -- A prefix that grows by one element.
+  pub take_step : (xs : List X) (i : ℕ) (x : X) → i < length xs → x ≡ get_or xs i x → take (i + 1) xs ≡ take i xs ++ x ∷ []
+  take_step xs i x l e = take_more xs i x l ∙ ap (λ z. take i xs ++ z ∷ []) (sym e)
 
-  -- one more copy, where a list is made item by item
-  pub copied_more : (xs : List X) (i : ℕ) (x y : X) (old new : List X) → i < length xs → x ≡ get_or xs i x → old ≡ take i xs → y ≡ x → new ≡ old ++ y ∷ [] → new ≡ take (i + 1) xs
-  copied_more xs i x y old new l at before is e = e ∙ (λ j. before j ++ is j ∷ []) ∙ sym (taken xs i x l at)
+  -- The invariant of a loop that copies a list, after one more element.
+  pub copy_step : (xs : List X) (i : ℕ) (x y : X) (old new : List X) → i < length xs → x ≡ get_or xs i x → old ≡ take i xs → y ≡ x → new ≡ old ++ y ∷ [] → new ≡ take (i + 1) xs
+  copy_step xs i x y old new l at before is e = e ∙ (λ j. before j ++ is j ∷ []) ∙ sym (take_step xs i x l at)
 
-  pub taken_cases : (xs : List X) (i : ℕ) (x : X) → i < length xs → x ≡ get_or xs i x → (y : X) → Contains (take (i + 1) xs) y → Contains (take i xs) y ⊎ (x ≡ y)
-  taken_cases xs i x l e y c = let more = taken xs i x l e in Contains-push_cases (take i xs) x y (rw more at c)
+  pub take_step_cases : (xs : List X) (i : ℕ) (x : X) → i < length xs → x ≡ get_or xs i x → (y : X) → Contains (take (i + 1) xs) y → Contains (take i xs) y ⊎ (x ≡ y)
+  take_step_cases xs i x l e y c = let more = take_step xs i x l e in Contains-push_cases (take i xs) x y (rw more at c)
 
-  pub taken_last : (xs : List X) (i : ℕ) (x : X) → i < length xs → x ≡ get_or xs i x → Contains (take (i + 1) xs) x
-  taken_last xs i x l e = let more = taken xs i x l e in rw more (Contains-push (take i xs) x)
+  pub take_step_last : (xs : List X) (i : ℕ) (x : X) → i < length xs → x ≡ get_or xs i x → Contains (take (i + 1) xs) x
+  take_step_last xs i x l e = let more = take_step xs i x l e in rw more (Contains-push (take i xs) x)
 
-  pub taken_before : (xs : List X) (i : ℕ) (x : X) → i < length xs → Contains (take i xs) x → Contains (take (i + 1) xs) x
-  taken_before xs i x l c = let more = take_more xs i x l in rw more (Contains-append_left (take i xs) (get_or xs i x ∷ []) x c)
+  pub take_step_keeps : (xs : List X) (i : ℕ) (x : X) → i < length xs → Contains (take i xs) x → Contains (take (i + 1) xs) x
+  take_step_keeps xs i x l c = let more = take_more xs i x l in rw more (Contains-append_left (take i xs) (get_or xs i x ∷ []) x c)
 
-  -- the parts of a list before and behind an item
+  -- A list is the elements before an index, the element at it, and the elements after it.
   pub split_at : (xs : List X) (i : ℕ) (x : X) → i < length xs → x ≡ get_or xs i x → xs ≡ take i xs ++ x ∷ drop (suc i) xs
   split_at [] i x l e = absurd (omega arith)
   split_at (y ∷ xs) zero x l e = λ i. sym e i ∷ xs
   split_at (y ∷ xs) (suc n) x l e = ap (λ zs. y ∷ zs) (split_at xs n x (omega arith) e)
 
-  -- one item is set
+  -- The elements of a list after one of them was set.
   pub set_here : (xs : List X) (n : ℕ) (y : X) → n < length xs → slice_get (set xs n y) n ≡ Some y
   set_here [] n y l = absurd (omega arith)
   set_here (z ∷ xs) zero y l = refl
@@ -190,7 +191,7 @@ module _ {X : Type 0} where
     | inr h ↦ inr ((λ f. h.0 (omega arith)), h.1)
   ]
 
-  -- what holds of every item
+  -- A property of every value is a property of all elements of a list.
   pub all_always : (P : X → Type 0) → ((x : X) → P x) → (xs : List X) → All P xs
   all_always P h [] = All-nil P
   all_always P h (x ∷ xs) = All-cons P x xs (h x) (all_always P h xs)
@@ -198,14 +199,14 @@ module _ {X : Type 0} where
   pub all_at : (P : X → Type 0) (xs : List X) (i : ℕ) (x : X) → All P xs → i < length xs → x ≡ get_or xs i x → P x
   all_at P xs i x h l e = rw (← e) at (h i x l)
 
-  -- what holds of all items, by recursion, holds of one of them
+  -- `AllByRecursion` gives the property of each element.
   pub recursion_contains : (P : X → Type 0) (xs : List X) → AllByRecursion P xs → (x : X) → Contains xs x → P x
   recursion_contains P xs a x c = All-contains P xs x (All-from_recursion P xs a) c
 
   pub recursion_at : (P : X → Type 0) (xs : List X) → AllByRecursion P xs → (k : ℕ) (x : X) → slice_get xs k ≡ Some x → P x
   recursion_at P xs a k x e = recursion_contains P xs a x (contains_at xs k x e)
 
-  -- and the other way, for lists with one more item, joined lists, and weaker facts
+  -- `AllByRecursion` for a list, for a list with one more element, for two appended lists, and for a weaker property.
   pub recursion-from : (P : X → Type 0) (xs : List X) → ((x : X) → Contains xs x → P x) → AllByRecursion P xs
   recursion-from P [] h = tt
   recursion-from P (x ∷ xs) h = (h x (contains_here x xs), recursion-from P xs (λ z c. h z (contains_there x xs z c)))
@@ -221,7 +222,7 @@ module _ {X : Type 0} where
   recursion-weaker P Q w [] h = tt
   recursion-weaker P Q w (x ∷ xs) h = (w x h.0, recursion-weaker P Q w xs h.1)
 
-  -- a rising list with items behind it
+  -- Two rising lists append to a rising list if each element of the first is before each of the second.
   pub rising-append : (R : X → X → Type 0) (xs ys : List X) → IsRising R xs → IsRising R ys → ((x y : X) → Contains xs x → Contains ys y → R x y) → IsRising R (xs ++ ys)
   rising-append R [] ys h k b = k
   rising-append R (x ∷ xs) ys h k b = (
@@ -232,14 +233,14 @@ module _ {X : Type 0} where
   pub rising-push : (R : X → X → Type 0) (xs : List X) (y : X) → IsRising R xs → ((x : X) → Contains xs x → R x y) → IsRising R (xs ++ y ∷ [])
   rising-push R xs y h b = rising-append R xs (y ∷ []) h (tt, tt) (λ x z c d. let same : z ≡ y = sym (contains_one y z d) in rw same (b x c))
 
-  -- of two items of a rising list the earlier comes before
+  -- In a rising list, an element of lower index is before an element of higher index.
   pub rising_at : (R : X → X → Type 0) (xs : List X) → IsRising R xs → (i j : ℕ) (x y : X) → i < j → slice_get xs i ≡ Some x → slice_get xs j ≡ Some y → R x y
   rising_at R [] h i j x y l e f = cc
   rising_at R (z ∷ xs) h i zero x y l e f = absurd (let n : ⊥ = omega (arith, l) in n)
   rising_at R (z ∷ xs) h zero (suc j) x y l e f = let same : z ≡ x = cc in rw same at (recursion_at (R z) xs h.0 j y f)
   rising_at R (z ∷ xs) h (suc i) (suc j) x y l e f = rising_at R xs h.1 i j x y (omega arith) e f
 
-  -- a rising list is the only one of its items
+  -- Two rising lists with the same elements are equal.
   module _ (R : X → X → Type 0) (never : (x y : X) → R x y → R y x → ⊥) where
     behind_first : (x y : X) (xs ys : List X) → x ≡ y → AllByRecursion (R x) xs → (z : X) → Contains xs z → Contains (y ∷ ys) z → Contains ys z
     behind_first x y xs ys e below z c d = elim (contains_cases y ys z d) [
@@ -265,7 +266,7 @@ module _ {X : Type 0} where
         )) in
         λ i. same i ∷ rest i
 
-  -- the keys of an ordered set rise, in any relation that the order gives
+  -- The keys of an ordered set rise in every relation that the order implies.
   pub rising_keys : (compare : X → X → Ordering) (R : X → X → Type 0) → ((x y : X) → compare x y ≡ Less → R x y) → (s : BTreeSet X) → IsOrdered compare s → IsRising R s.keys
   rising_keys compare R less s o = go s.keys o
     where
@@ -273,7 +274,7 @@ module _ {X : Type 0} where
       go [] o = tt
       go (x ∷ xs) o = (recursion_from_All (R x) xs (All-weaker (λ y. compare x y ≡ Less) (R x) (less x) xs (All-after_first compare x xs o)), go xs (sorted_tail compare x xs o))
 
-  -- the keys with one put in its place, in any order in which only one item is equal to it
+  -- The keys after one key was inserted, in an order in which only equal keys compare as equal.
   module _ (compare : X → X → Ordering) (same : (x y : X) → compare x y ≡ Equal → x ≡ y) where
     pub inserted_contains : (xs : List X) (x y : X) → Contains (insert_key compare xs x) y ↔ ((x ≡ y) ⊎ Contains xs y)
     inserted_contains [] x y = ((λ c. elim (contains_cases x [] y c) [ inl e ↦ inl e | inr d ↦ absurd (contains_none y d) ]), (λ c. elim c [ inl e ↦ rw (← e) (contains_here x []) | inr d ↦ absurd (contains_none y d) ]))
@@ -296,7 +297,7 @@ module _ {X : Type 0} where
           ]),
         )
 
--- what a list of values contains, and of lists
+-- The elements of a mapped list, and of a concatenation of lists.
 pub option_map_some : {X Y : Type 0} (f : X → Y) (o : Option X) (y : Y) → option_map f o ≡ Some y → (x : X) × (o ≡ Some x) × (f x ≡ y)
 option_map_some f None y h = cc
 option_map_some f (Some x) y h = (x, refl, cc)
@@ -326,16 +327,16 @@ contains_flat_map f (z ∷ xs) x y c d = elim (contains_cases z xs x c) [
   | inr h ↦ Contains-append_right (f z) (flat_map f xs) y (contains_flat_map f xs x y h d)
 ]
 
--- the images of a list that is not empty
+-- Mapping a list that is not empty gives a list that is not empty.
 pub map_some : {X Y : Type 0} (f : X → Y) (xs : List X) → (xs ≡ [] → ⊥) → map f xs ≡ [] → ⊥
 map_some f [] h e = h refl
 map_some f (x ∷ xs) h e = absurd (cc)
 
--- a number below the next one
+-- A number below n + 1 is below n or equal to n.
 pub below_next : (i n : ℕ) → i < n + 1 → (i < n) ⊎ (i ≡ n)
 below_next i n lt = elim (cases_lt i n) [ inl l ↦ inl l | inr le ↦ inr (omega arith) ]
 
--- pairs at equal places of two lists
+-- Pairs of elements at equal indices of two lists.
 module _ {A B : Type 0} (R : A → B → Type 0) where
   pub zip_push : (xs : List A) (ys : List B) (x : A) (y : B) → AllZip R xs ys → R x y → AllZip R (xs ++ x ∷ []) (ys ++ y ∷ [])
   zip_push [] [] x y z r = (r, tt)
@@ -369,14 +370,14 @@ module _ {A B : Type 0} (R : A → B → Type 0) where
   zip_length (x ∷ xs) [] z = absurd z
   zip_length (x ∷ xs) (y ∷ ys) z = ap suc (zip_length xs ys z.1)
 
-  pub zip_one : ((x : A) (y z : B) → R x y → R x z → y ≡ z) → (xs : List A) (ys zs : List B) → AllZip R xs ys → AllZip R xs zs → ys ≡ zs
-  zip_one one [] [] [] p q = refl
-  zip_one one [] [] (z ∷ zs) p q = absurd q
-  zip_one one [] (y ∷ ys) zs p q = absurd p
-  zip_one one (x ∷ xs) [] zs p q = absurd p
-  zip_one one (x ∷ xs) (y ∷ ys) [] p q = absurd q
-  zip_one one (x ∷ xs) (y ∷ ys) (z ∷ zs) p q = let here = one x y z p.0 q.0 in let more = zip_one one xs ys zs p.1 q.1 in λ i. here i ∷ more i
+  pub zip_unique : ((x : A) (y z : B) → R x y → R x z → y ≡ z) → (xs : List A) (ys zs : List B) → AllZip R xs ys → AllZip R xs zs → ys ≡ zs
+  zip_unique one [] [] [] p q = refl
+  zip_unique one [] [] (z ∷ zs) p q = absurd q
+  zip_unique one [] (y ∷ ys) zs p q = absurd p
+  zip_unique one (x ∷ xs) [] zs p q = absurd p
+  zip_unique one (x ∷ xs) (y ∷ ys) [] p q = absurd q
+  zip_unique one (x ∷ xs) (y ∷ ys) (z ∷ zs) p q = let here = one x y z p.0 q.0 in let more = zip_unique one xs ys zs p.1 q.1 in λ i. here i ∷ more i
 
--- one more image, where a list is made item by item
-pub mapped_more : {A B : Type 0} (f : A → B) (xs : List A) (i : ℕ) (d x : A) (old new : List B) (y : B) → i < length xs → x ≡ get_or xs i d → old ≡ map f (take i xs) → y ≡ f x → new ≡ old ++ y ∷ [] → new ≡ map f (take (i + 1) xs)
-mapped_more f xs i d x old new y l at before is e = e ∙ (λ j. before j ++ is j ∷ []) ∙ ap (λ z. map f (take i xs) ++ f z ∷ []) at ∙ sym (map_more f xs i d l)
+-- The invariant of a loop that maps a list, after one more element.
+pub map_step : {A B : Type 0} (f : A → B) (xs : List A) (i : ℕ) (d x : A) (old new : List B) (y : B) → i < length xs → x ≡ get_or xs i d → old ≡ map f (take i xs) → y ≡ f x → new ≡ old ++ y ∷ [] → new ≡ map f (take (i + 1) xs)
+map_step f xs i d x old new y l at before is e = e ∙ (λ j. before j ++ is j ∷ []) ∙ ap (λ z. map f (take i xs) ++ f z ∷ []) at ∙ sym (map_more f xs i d l)

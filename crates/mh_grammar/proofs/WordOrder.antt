@@ -1,24 +1,24 @@
--- The order of words: by the numbers of their tokens, a front first.
+-- Lemmas on the lexicographic order of words.
 use Rattle.std.proofs.Common.{◌≡◌, ◌∙◌, ◌<◌, ◌⊎◌, ℕ, inl, inr, List, [], ◌∷◌, ◌++◌, refl, arith}
 use Rattle.mh_grammar.specs.WordOrder.{LexLe}
 
-pub lex_same : (u : List ℕ) → LexLe u u
-lex_same [] = tt
-lex_same (x ∷ u) = inr (refl, lex_same u)
+pub lex_refl : (u : List ℕ) → LexLe u u
+lex_refl [] = tt
+lex_refl (x ∷ u) = inr (refl, lex_refl u)
 
--- two heads, and what holds of the tails where they are one
+-- One step of the order's transitivity, by the first tokens of the three words.
 pub lower_or_same : {P Q R : Type 0} (x y z : ℕ) → (P → Q → R) → (x < y) ⊎ ((x ≡ y) × P) → (y < z) ⊎ ((y ≡ z) × Q) → (x < z) ⊎ ((x ≡ z) × R)
 lower_or_same x y z on (inl a) (inl b) = inl (omega arith)
 lower_or_same x y z on (inl a) (inr b) = inl (let e = b.0 in omega arith)
 lower_or_same x y z on (inr a) (inl b) = inl (let e = a.0 in omega arith)
 lower_or_same x y z on (inr a) (inr b) = inr (a.0 ∙ b.0, on a.1 b.1)
 
-pub lex_after : (u v w : List ℕ) → LexLe u v → LexLe v w → LexLe u w
-lex_after [] v w a b = tt
-lex_after (x ∷ u) [] w a b = absurd a
-lex_after (x ∷ u) (y ∷ v) [] a b = absurd b
-lex_after (x ∷ u) (y ∷ v) (z ∷ w) a b = lower_or_same x y z (λ p q. lex_after u v w p q) a b
+pub lex_trans : (u v w : List ℕ) → LexLe u v → LexLe v w → LexLe u w
+lex_trans [] v w a b = tt
+lex_trans (x ∷ u) [] w a b = absurd a
+lex_trans (x ∷ u) (y ∷ v) [] a b = absurd b
+lex_trans (x ∷ u) (y ∷ v) (z ∷ w) a b = lower_or_same x y z (λ p q. lex_trans u v w p q) a b
 
-pub lex_front : (u v : List ℕ) → LexLe u (u ++ v)
-lex_front [] v = tt
-lex_front (x ∷ u) v = inr (refl, lex_front u v)
+pub lex_prefix : (u v : List ℕ) → LexLe u (u ++ v)
+lex_prefix [] v = tt
+lex_prefix (x ∷ u) v = inr (refl, lex_prefix u v)

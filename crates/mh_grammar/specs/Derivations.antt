@@ -1,8 +1,8 @@
--- Derivation trees over any family of productions: of terms, of instances, of a grammar's symbols (textbook).
+-- Derivation trees over any family of productions: of terms, of instances, or of a grammar's symbols (textbook).
 use Rattle.std.specs.Prelude.{◌≡◌, ℕ, List, [], ◌∷◌, ◌++◌}
 
--- A derivation for a symbol is a leaf where the symbol is a token, or one of its right sides with a derivation for
--- each symbol of it. Its leaves spell a word.
+-- A derivation for a symbol is a leaf if the symbol is a token, or else one of the symbol's right sides with a
+-- derivation for each symbol in it. The leaves spell a word.
 mutual
   pub data Derivation {S : Type 0} (IsToken : S → ℕ → Type 0) (Produces : S → List S → Type 0) : S → List ℕ → Type 0 where
     leaf : {X : S} {a : ℕ} → IsToken X a → Derivation IsToken Produces X (a ∷ [])

@@ -1,11 +1,11 @@
--- FIRST of symbols and strings, by the textbook rule.
+-- FIRST of symbols and of strings of symbols (textbook).
 use Rattle.std.specs.Prelude.{ℕ, List, [], ◌∷◌}
 use Rattle.mh_grammar.specs.declared.types.Symbol.{Symbol}
 use Rattle.mh_grammar.specs.declared.types.Symbol.TheVariants.{T, N}
 use Rattle.mh_grammar.specs.Plain.{PlainGrammar, Produces, Derives}
 
--- A token has itself, and a nonterminal what one of its right sides has. A string has what its first symbol has,
--- and where that derives the empty word also what the rest has.
+-- FIRST of a token is the token; FIRST of a nonterminal has FIRST of each of its right sides. FIRST of a string has
+-- FIRST of its first symbol, and if this derives the empty word, also FIRST of the rest.
 mutual
   pub data First (g : PlainGrammar) : Symbol → ℕ → Type 0 where
     token : {a : ℕ} → First g (T a) a

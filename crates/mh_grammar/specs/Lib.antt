@@ -12,5 +12,5 @@ pub mod Text
 pub mod Trees
 pub mod WordOrder
 pub mod FirstFlags
-pub mod Grid
+pub mod FlagTable
 pub mod Marked

@@ -18,11 +18,11 @@ abbrev pub symbol_name : Grammar → Symbol → List ℕ
 symbol_name g (T z) = token_name g z
 symbol_name g (N n) = nonterminal_name g n
 
--- the left side of an ordinary production; a start production has none of its own
+-- The name of an ordinary production's left side; empty for a start production.
 unfoldable pub left_side_name : Grammar → ℕ → List ℕ
 left_side_name g p =
     if nat_lt p (length g.starts) then [] else unwrap_or (option_map (λ (q : Production). nonterminal_name g q.lhs) (slice_get g.productions (p - length g.starts))) []
 
--- the symbol of a start
+-- The name of a start's symbol.
 unfoldable pub start_name : Grammar → ℕ → List ℕ
 start_name g i = unwrap_or (option_map (nonterminal_name g) (slice_get g.starts i)) []

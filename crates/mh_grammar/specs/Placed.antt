@@ -1,13 +1,13 @@
--- Where items were placed in a list in which each stands once, new ones at its end.
+-- The indices of items that are placed in a list without repetition; new items are appended to the list.
 use Rattle.std.specs.Prelude.{◌≡◌, ◌<◌, ◌⊎◌, ℕ, List, [], ◌∷◌, ◌++◌, Some, length, slice_get}
 use Rattle.std.specs.List.{Contains}
 
--- where an item was placed: it was there, or is the new last one
+-- Item x has index n: it was in the list already, or was appended as the last item.
 pub record Placed {X : Type 0} (old new : List X) (x : X) (n : ℕ) : Type 0 where
   pub at : slice_get new n ≡ Some x
   pub grown : ((new ≡ old) × (n < length old)) ⊎ ((new ≡ old ++ x ∷ []) × (n ≡ length old) × (Contains old x → ⊥))
 
--- where items were placed, one after the other
+-- Items were placed one after the other.
 abbrev pub AllPlaced : {X : Type 0} → List X → List X → List X → List ℕ → Type 0
 AllPlaced old new [] [] = new ≡ old
 AllPlaced old new [] (n ∷ ns) = ⊥

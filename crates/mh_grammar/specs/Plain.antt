@@ -1,4 +1,4 @@
--- A grammar without its names: what trees, FIRST, items, automata and tables speak of.
+-- A grammar without its names: trees, FIRST, items, automata and tables are defined over it.
 use Rattle.std.specs.Prelude.{◌≡◌, ◌<◌, ◌≤◌, ◌+◌, ◌-◌, ◌++◌, ◌^◌, ℕ, List, [], ◌∷◌, length, slice_get, slice_index, nat_lt, if◌then◌else◌}
 use Rattle.std.specs.Option.{option_map, unwrap_or}
 use Rattle.std.specs.List.{All}
@@ -11,7 +11,7 @@ use Rattle.mh_grammar.specs.declared.types.Grammar.{Grammar}
 use Rattle.mh_grammar.specs.declared.types.TheConstants.{MAX_NUMBERED}
 use Rattle.mh_grammar.specs.Derivations.{Derivation, Derivations}
 
--- the numbers of tokens and nonterminals, the nonterminal of each start, the ordinary productions
+-- The number of tokens, the number of nonterminals, the nonterminal of each start, and the ordinary productions.
 pub record PlainGrammar : Type 0 where
   pub tokens : ℕ
   pub nonterminals : ℕ
@@ -21,19 +21,19 @@ pub record PlainGrammar : Type 0 where
 abbrev pub plain_of : Grammar → PlainGrammar
 plain_of g = record { tokens = length g.tokens; nonterminals = length g.nonterminals; starts = g.starts; productions = g.productions }
 
--- how many productions there are, with the start productions, which come first
+-- The number of productions. The start productions come first.
 abbrev pub production_count : PlainGrammar → ℕ
 production_count g = length g.starts + length g.productions
 
--- the right side of a production; that of a start production is its start symbol
+-- The right side of a production; that of a start production is its start symbol.
 unfoldable pub rhs_of : PlainGrammar → ℕ → List Symbol
 rhs_of g p = if nat_lt p (length g.starts) then N (slice_index g.starts p) ∷ [] else unwrap_or (option_map (λ q. q.rhs) (slice_get g.productions (p - length g.starts))) []
 
--- the left side of an ordinary production
+-- The left side of an ordinary production.
 unfoldable pub lhs_of : PlainGrammar → ℕ → ℕ
 lhs_of g p = unwrap_or (option_map (λ q. q.lhs) (slice_get g.productions (p - length g.starts))) 0
 
--- an ordinary production for a nonterminal
+-- Production p is an ordinary production for nonterminal n.
 pub record IsProductionFor (g : PlainGrammar) (n p : ℕ) : Type 0 where
   pub ordinary : length g.starts ≤ p
   pub known : p < production_count g
@@ -47,11 +47,11 @@ abbrev pub Produces : PlainGrammar → Symbol → List Symbol → Type 0
 Produces g (T a) rhs = ⊥
 Produces g (N n) rhs = (p : ℕ) × IsProductionFor g n p × (rhs_of g p ≡ rhs)
 
--- the symbol derives the word
+-- The symbol derives the word.
 abbrev pub Derives : PlainGrammar → Symbol → List ℕ → Type 0
 Derives g X w = Derivation IsToken (Produces g) X w
 
--- so do the symbols
+-- The symbols, in sequence, derive the word.
 abbrev pub DerivesAll : PlainGrammar → List Symbol → List ℕ → Type 0
 DerivesAll g Xs w = Derivations IsToken (Produces g) Xs w
 
@@ -61,18 +61,18 @@ IsNullable g n = Derives g (N n) []
 abbrev pub IsProductive : PlainGrammar → ℕ → Type 0
 IsProductive g n = (w : List ℕ) × Derives g (N n) w
 
--- the symbol of a start
+-- The symbol of a start.
 abbrev pub start_symbol : PlainGrammar → ℕ → Symbol
 start_symbol g start = N (slice_index g.starts start)
 
 abbrev pub IsSentence : PlainGrammar → ℕ → List ℕ → Type 0
 IsSentence g start w = Derives g (start_symbol g start) w
 
--- some sentence begins with these tokens
+-- Some sentence begins with these tokens.
 abbrev pub BeginsSentence : PlainGrammar → ℕ → List ℕ → Type 0
 BeginsSentence g start w = (v : List ℕ) × IsSentence g start (w ++ v)
 
--- numbers are in range
+-- The numbers of symbols are below the numbers of tokens and nonterminals.
 abbrev pub IsSymbolBelow : ℕ → ℕ → Symbol → Type 0
 IsSymbolBelow tokens nonterminals (T a) = a < tokens
 IsSymbolBelow tokens nonterminals (N n) = n < nonterminals
@@ -85,7 +85,7 @@ pub record IsProductionBelow (tokens nonterminals : ℕ) (p : Production) : Type
   pub lhs : p.lhs < nonterminals
   pub rhs : All (IsSymbolBelow tokens nonterminals) p.rhs
 
--- left sides, symbols and starts are in range, and there are not too many of anything
+-- Left sides, symbols and starts are in range, and every count is within its limit.
 pub record IsInRange (g : PlainGrammar) : Type 0 where
   pub productions : All (IsProductionBelow g.tokens g.nonterminals) g.productions
   pub starts : All (λ s. s < g.nonterminals) g.starts

@@ -1,4 +1,4 @@
--- Texts, as bytes one after another.
+-- Texts as lists of bytes.
 use Rattle.std.specs.Prelude.{ℕ, List}
 
 abbrev pub Text : Type 0

@@ -6,7 +6,7 @@ use Rattle.mh_grammar.specs.declared.types.Symbol.TheVariants.{T, N}
 use Rattle.mh_grammar.specs.Plain.{PlainGrammar, production_count, rhs_of, lhs_of}
 use Rattle.mh_grammar.specs.Names.{token_name, left_side_name}
 
--- a token, or a production with one tree for each symbol of its right side (Knuth 1965)
+-- A tree is a token, or a production with one tree for each symbol of its right side (Knuth 1965).
 mutual
   pub data SyntaxTree : Type 0 where
     Leaf : (token : ℕ) → SyntaxTree
@@ -20,7 +20,8 @@ abbrev pub forest_of : List SyntaxTree → Forest
 forest_of [] = Nil
 forest_of (tree ∷ trees) = Cons tree (forest_of trees)
 
--- a leaf and an empty node have height 1, another node has one more than its highest child
+-- The height of a leaf, and of a node without children, is 1; that of another node is one more than its highest
+-- child's.
 abbrev mutual
   pub height_of : SyntaxTree → ℕ
   height_of (Leaf z) = 1
@@ -30,7 +31,7 @@ abbrev mutual
   forest_height Nil = 0
   forest_height (Cons first rest) = max (height_of first) (forest_height rest)
 
--- the tokens of a tree, from left to right
+-- The tokens of a tree, from left to right.
 abbrev mutual
   pub yield_of : SyntaxTree → List ℕ
   yield_of (Leaf z) = z ∷ []
@@ -40,7 +41,7 @@ abbrev mutual
   forest_yield Nil = []
   forest_yield (Cons first rest) = yield_of first ++ forest_yield rest
 
--- A tree of the grammar for a symbol: a leaf of that token, or an ordinary production of that nonterminal over trees for
+-- A tree of the grammar for a symbol: a leaf of the token, or an ordinary production of the nonterminal with trees for
 -- its right side.
 abbrev mutual
   pub IsTreeFor : PlainGrammar → Symbol → SyntaxTree → Type 0
@@ -53,12 +54,13 @@ abbrev mutual
   IsForestFor g (x ∷ xs) Nil = ⊥
   IsForestFor g (x ∷ xs) (Cons first rest) = IsTreeFor g x first × IsForestFor g xs rest
 
--- A leaf is its token's name. A node is `[`, the name of its left side, `:`, each child after one space, and `]`.
+-- The text of a leaf is its token's name. The text of a node is `[`, the name of its left side, `:`, each child after
+-- one space, and `]` (Menhir manual, `--interpret-show-cst`).
 abbrev mutual
-  pub text_of : Grammar → SyntaxTree → List ℕ
-  text_of g (Leaf z) = token_name g z
-  text_of g (Node p kids) = 91 ∷ left_side_name g p ++ 58 ∷ forest_text g kids ++ 93 ∷ []
+  pub tree_text : Grammar → SyntaxTree → List ℕ
+  tree_text g (Leaf z) = token_name g z
+  tree_text g (Node p kids) = 91 ∷ left_side_name g p ++ 58 ∷ forest_text g kids ++ 93 ∷ []
 
   pub forest_text : Grammar → Forest → List ℕ
   forest_text g Nil = []
-  forest_text g (Cons first rest) = 32 ∷ text_of g first ++ forest_text g rest
+  forest_text g (Cons first rest) = 32 ∷ tree_text g first ++ forest_text g rest

@@ -1,7 +1,7 @@
--- Words by the numbers of their tokens.
+-- The lexicographic order of words, by the numbers of their tokens.
 use Rattle.std.specs.Prelude.{◌≡◌, ◌<◌, ◌⊎◌, ℕ, List, [], ◌∷◌}
 
--- at the first place where they differ u has the lower number, or u is a front of v
+-- The words are equal up to a first difference, where u has the lower token, or u is a prefix of v.
 abbrev pub LexLe : List ℕ → List ℕ → Type 0
 LexLe [] v = Unit {0}
 LexLe (x ∷ u) [] = ⊥

@@ -1,19 +1,19 @@
-//! Edges between states, and how one is found.
+//! Edges between states, and the search for the edge on a symbol.
 ghost use Rattle.std.specs.Prelude.{◌≡◌, ◌↔◌, IsTrue};
 ghost use Rattle.mh_grammar.specs.Edges.{IsRising, IsEdgeBefore, IsSymbolBefore, same_symbol, find_edge as edge_on};
 
 use crate::types::Symbol;
 
-/// An edge of an automaton, which leads from the state that holds it to another.
+/// An edge of an automaton, from the state that contains it to another state.
 #[derive(Clone, Copy, PartialEq, Eq)]
 pub struct Edge {
-    /// The symbol that it is followed on.
+    /// The symbol of the edge.
     pub symbol: Symbol,
-    /// The state that it leads to, by number.
+    /// The number of the state that the edge leads to.
     pub target: u32,
 }
 
-/// Whether two symbols are one.
+/// Returns whether two symbols are equal.
 fn is_same(left: Symbol, right: Symbol) -> bool
     ensures { result ≡ same_symbol left right }
 {
@@ -24,7 +24,7 @@ fn is_same(left: Symbol, right: Symbol) -> bool
     }
 }
 
-/// Whether a symbol comes before another: tokens rising, then nonterminals rising.
+/// Returns whether a symbol is before another: tokens by number, then nonterminals by number.
 fn is_before(left: Symbol, right: Symbol) -> bool
     ensures { IsTrue result ↔ IsSymbolBefore left right }
 {
@@ -36,7 +36,7 @@ fn is_before(left: Symbol, right: Symbol) -> bool
     }
 }
 
-/// Where the edge on a symbol leads, by binary search. The edges stand in the order of symbols.
+/// Finds the target of the edge on a symbol by binary search. The edges are in the order of their symbols.
 pub fn find_edge(edges: &[Edge], symbol: Symbol) -> Option<u32>
     requires { IsRising IsEdgeBefore edges.now }
     ensures { result ≡ edge_on edges.now symbol }

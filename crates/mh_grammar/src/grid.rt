@@ -1,8 +1,8 @@
-//! A table of flags in rows, and how it grows.
+//! A table of flags, stored row by row, and the calls that set flags in it.
 ghost use Rattle.std.specs.Prelude.{◌≡◌, ◌<◌, ◌≤◌, ◌+◌, ◌*◌, ℕ, true, false, length, slice_set, slice_index_or};
-ghost use Rattle.mh_grammar.specs.Grid.{flag, Grows, AddsRow};
+ghost use Rattle.mh_grammar.specs.FlagTable.{flag, Grows, IsKeptOrCopied};
 
-/// Sets a flag, and says whether it was new.
+/// Sets a flag, and returns whether it was new.
 pub(crate) fn insert(flags: &mut [bool], width: usize, row: usize, column: usize) -> bool
     requires column { column < width }
     requires row { row * width + width ≤ length flags.old }
@@ -15,12 +15,12 @@ pub(crate) fn insert(flags: &mut [bool], width: usize, row: usize, column: usize
     new
 }
 
-/// Adds a row's flags to another, and says whether any was new.
+/// Adds the flags of one row to another, and returns whether any was new.
 pub(crate) fn add_row(flags: &mut [bool], width: usize, to: usize, from: usize) -> bool
     requires to { to * width + width ≤ length flags.old }
     requires from { from * width + width ≤ length flags.old }
     ensures grows { Grows flags.old flags.new result }
-    ensures from { (row column : ℕ) → column < width → flag width flags.new row column ≡ true → AddsRow width flags.old to from row column }
+    ensures from { (row column : ℕ) → column < width → flag width flags.new row column ≡ true → IsKeptOrCopied width flags.old to from row column }
     ensures to { (column : ℕ) → column < width → flag width flags.old from column ≡ true → flag width flags.new to column ≡ true }
 {
     let mut grown = false;

@@ -6,7 +6,8 @@ ghost use Rattle.mh_grammar.specs.First.{First, FirstOf};
 
 use crate::types::Grammar;
 
-/// The first token of each word that a symbol derives is in the symbol's FIRST, and so for strings of symbols.
+/// Law: the first token of each word that a symbol derives is in FIRST of the symbol; the same holds for strings of
+/// symbols.
 pub fn words_begin_with_first(grammar: &Grammar)
     ensures symbol { (x : Symbol) (a : ℕ) (w : List ℕ) → Derives (plain_of grammar.now) x (a ∷ w) → First (plain_of grammar.now) x a }
     ensures string { (xs : List Symbol) (a : ℕ) (w : List ℕ) → DerivesAll (plain_of grammar.now) xs (a ∷ w) → FirstOf (plain_of grammar.now) xs a }

@@ -1,10 +1,8 @@
-//! The plain grammar: its types, and the definitions that every layer above shares (derivations, FIRST, sets of LR(1) items,
-//! breadth-first numbering).
+//! The plain grammar: its types, and the definitions that all crates above share, namely derivations, FIRST, sets of
+//! LR(1) items and breadth-first numbering.
 //!
-//! What the nonterminals of a grammar derive: which derive the empty word, which derive a word at all, and the tokens that
-//! the words of each may begin with.
-//!
-//! Whether the numbers and the costs of a grammar are in range.
+//! The crate also computes which nonterminals derive the empty word, which derive a word at all, and FIRST of each; and
+//! it tests whether the numbers and the costs of a grammar are in range.
 #![tactic(auto)]
 
 mod edges;

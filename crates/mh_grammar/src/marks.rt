@@ -1,14 +1,14 @@
-//! Which nonterminals derive the empty word, and which derive a word at all.
+//! The nonterminals that derive the empty word, and those that derive some word.
 ghost use Rattle.std.specs.Prelude.{◌≡◌, ◌^◌, ◌<◌, ◌≤◌, ◌↔◌, ℕ, List, Some, true, false, not, length, count_by, slice_get, slice_index_or, vec_len, IsTrue, IfOk};
 ghost use Rattle.std.specs.List.{All};
-ghost use Rattle.mh_grammar.specs.Grid.{Grows};
+ghost use Rattle.mh_grammar.specs.FlagTable.{Grows};
 ghost use Rattle.mh_grammar.specs.Plain.{plain_of, IsInRange, IsSymbolBelow, IsProductionBelow, IsNullable, IsProductive};
-ghost use Rattle.mh_grammar.specs.Marked.{mark_of, all_marked, AreSound, AreClosed, AreMarks, IsMarkable};
+ghost use Rattle.mh_grammar.specs.Marked.{mark_of, all_marked, AreSound, AreClosed, AreMarks, HasMark};
 
 use crate::types::{Grammar, Memory, Production, Symbol};
 use std::alloc::Global;
 
-/// For each nonterminal, whether it derives the empty word. It fails for want of memory alone.
+/// Returns, for each nonterminal, whether it derives the empty word. It fails only for lack of memory.
 pub fn nullable(alloc: Global, grammar: &Grammar) -> Result<Vec<bool>, Memory>
     requires { IsInRange (plain_of grammar.now) }
     ensures len { IfOk result (λ v. vec_len v ≡ length grammar.now.nonterminals) }
@@ -17,7 +17,7 @@ pub fn nullable(alloc: Global, grammar: &Grammar) -> Result<Vec<bool>, Memory>
     least_marks(alloc, grammar, false)
 }
 
-/// For each nonterminal, whether it derives some word. It fails for want of memory alone.
+/// Returns, for each nonterminal, whether it derives some word. It fails only for lack of memory.
 pub fn productive(alloc: Global, grammar: &Grammar) -> Result<Vec<bool>, Memory>
     requires { IsInRange (plain_of grammar.now) }
     ensures len { IfOk result (λ v. vec_len v ≡ length grammar.now.nonterminals) }
@@ -26,8 +26,8 @@ pub fn productive(alloc: Global, grammar: &Grammar) -> Result<Vec<bool>, Memory>
     least_marks(alloc, grammar, true)
 }
 
-/// The least marks such that a nonterminal is marked where all symbols of one of its right sides are. Tokens
-/// count as marked where `tokens` says so.
+/// Returns the least marks such that a nonterminal is marked if all symbols of one of its right sides are. If `tokens`
+/// is true, every token counts as marked; otherwise none does.
 fn least_marks(alloc: Global, grammar: &Grammar, tokens: bool) -> Result<Vec<bool>, Memory>
     requires { IsInRange (plain_of grammar.now) }
     ensures len { IfOk result (λ v. vec_len v ≡ length grammar.now.nonterminals) }
@@ -41,9 +41,9 @@ fn least_marks(alloc: Global, grammar: &Grammar, tokens: bool) -> Result<Vec<boo
     Ok(marks)
 }
 
-/// Adds the marks that one pass over the productions backward and one forward find, and says whether there were any.
-/// Marks go from right sides to left sides: in a file written top down a forward pass alone would carry them up by
-/// one rule, and in one written bottom up a backward pass alone.
+/// Adds the marks that one backward and one forward pass over the productions find, and returns whether there were any.
+/// Marks pass from right sides to left sides: in a file written top down a forward pass alone would carry them up by
+/// one rule, and in one written bottom up a backward pass alone would.
 fn mark_once(tokens: bool, productions: &[Production], marks: &mut [bool]) -> bool
     requires { All (IsProductionBelow (2 ^ 16) (length marks.old)) productions.now }
     ensures sound { AreSound tokens productions.now marks.old → AreSound tokens productions.now marks.new }
@@ -61,7 +61,7 @@ fn mark_once(tokens: bool, productions: &[Production], marks: &mut [bool]) -> bo
     changed
 }
 
-/// Marks the left side of a production whose symbols are all marked, and says whether the mark was new.
+/// Marks the left side of a production whose symbols are all marked, and returns whether the mark is new.
 fn mark_left_side(tokens: bool, production: &Production, marks: &mut [bool]) -> bool
     requires { IsProductionBelow (2 ^ 16) (length marks.old) production.now }
     ensures grows { Grows marks.old marks.new result }
@@ -79,7 +79,7 @@ fn mark_left_side(tokens: bool, production: &Production, marks: &mut [bool]) -> 
     true
 }
 
-/// Whether all symbols of a right side are marked.
+/// Returns whether all symbols of a right side are marked.
 fn are_marked(tokens: bool, marks: &[bool], symbols: &[Symbol]) -> bool
     requires { All (IsSymbolBelow (2 ^ 16) (length marks.now)) symbols.now }
     ensures { result ≡ all_marked tokens marks.now symbols.now }
@@ -92,9 +92,9 @@ fn are_marked(tokens: bool, marks: &[bool], symbols: &[Symbol]) -> bool
     true
 }
 
-/// Whether a symbol is marked.
+/// Returns whether a symbol is marked.
 pub(crate) fn is_marked(tokens: bool, marks: &[bool], symbol: Symbol) -> bool
-    requires { IsMarkable (length marks.now) symbol }
+    requires { HasMark (length marks.now) symbol }
     ensures { result ≡ mark_of tokens marks.now symbol }
 {
     match symbol {

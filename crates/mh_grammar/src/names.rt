@@ -4,7 +4,7 @@ ghost use Rattle.mh_grammar.specs.Names.{token_name, nonterminal_name, symbol_na
 
 use crate::types::{Grammar, Symbol, Token};
 
-/// The name of a token, empty where the grammar lacks it.
+/// The name of a token; empty if the grammar lacks the token.
 #[tactic(auto, unfolding(crate::specs::Names::token_name))]
 pub fn token_name(grammar: &Grammar, token: Token) -> &[u8]
     ensures { result.now ≡ token_name grammar.now token }
@@ -15,7 +15,7 @@ pub fn token_name(grammar: &Grammar, token: Token) -> &[u8]
     }
 }
 
-/// The name of a nonterminal, empty where the grammar lacks it.
+/// The name of a nonterminal; empty if the grammar lacks the nonterminal.
 #[tactic(auto, unfolding(crate::specs::Names::nonterminal_name))]
 pub fn nonterminal_name(grammar: &Grammar, nonterminal: u16) -> &[u8]
     ensures { result.now ≡ nonterminal_name grammar.now nonterminal }
@@ -26,7 +26,7 @@ pub fn nonterminal_name(grammar: &Grammar, nonterminal: u16) -> &[u8]
     }
 }
 
-/// The name of a symbol, empty where the grammar lacks it.
+/// The name of a symbol; empty if the grammar lacks the symbol.
 pub fn symbol_name(grammar: &Grammar, symbol: Symbol) -> &[u8]
     ensures { result.now ≡ symbol_name grammar.now symbol }
 {
@@ -50,7 +50,7 @@ pub fn left_side_name(grammar: &Grammar, production: u32) -> &[u8]
     }
 }
 
-/// The name of a start's symbol, by the start's number; empty where there is no such start.
+/// The name of a start's symbol, by the start's number; empty if the grammar lacks the start.
 #[tactic(auto, unfolding(crate::specs::Names::start_name))]
 pub fn start_name(grammar: &Grammar, start: u16) -> &[u8]
     ensures { result.now ≡ start_name grammar.now start }

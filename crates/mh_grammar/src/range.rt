@@ -1,4 +1,4 @@
-//! Whether a grammar's numbers are in range, and its costs.
+//! Tests whether the numbers and the costs of a grammar are in range.
 ghost use Rattle.std.specs.Prelude.{◌≡◌, ◌<◌, ◌≤◌, ◌↔◌, IsTrue, length, ◌^◌};
 ghost use Rattle.std.specs.List.{All};
 ghost use Rattle.mh_grammar.specs.Costs.{HaveCosts, IsCost};
@@ -6,10 +6,11 @@ ghost use Rattle.mh_grammar.specs.Plain.{plain_of, IsInRange, IsSymbolBelow, IsP
 
 use crate::types::{Grammar, MAX_COST, MAX_NUMBERED, Production, Symbol};
 
-/// The most productions, with the starts', and the most symbols of a right side: their places have 32 bits.
+/// The greatest number of productions, including those of the starts, and of symbols in a right side: both are counted
+/// in 32 bits.
 const MAX_PLACES: usize = 0xffff_ffff;
 
-/// Whether left sides, symbols and starts are in range, and there are not too many of anything.
+/// Returns whether left sides, symbols and starts are in range, and every count is within its limit.
 pub fn is_in_range(grammar: &Grammar) -> bool
     ensures { IsTrue result ↔ IsInRange (plain_of grammar.now) }
 {
@@ -63,7 +64,7 @@ fn is_symbol_in_range(symbol: Symbol, tokens: usize, nonterminals: usize) -> boo
     }
 }
 
-/// Whether the cost of each token is from 1 to [`MAX_COST`](crate::types::MAX_COST).
+/// Returns whether the cost of each token is from 1 to [`MAX_COST`](crate::types::MAX_COST).
 pub fn has_costs_in_range(grammar: &Grammar) -> bool
     ensures { IsTrue result ↔ HaveCosts grammar.now.tokens }
 {

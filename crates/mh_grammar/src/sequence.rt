@@ -1,4 +1,4 @@
-//! A `Vec` that contracts see as the list of its items.
+//! A `Vec` whose model in contracts is the list of its items.
 ghost use Rattle.std.specs.Prelude.{◌≡◌, [], ◌∷◌, ◌++◌, ◌<◌, ◌↔◌, length, slice_get, slice_index_or, IsTrue, IfOk, OnOk, OnErr, OnSome};
 ghost use Rattle.std.specs.Option.{option_copied};
 ghost use Rattle.std.specs.List.{AllZip};
@@ -11,7 +11,7 @@ use std::hash::{Hash, Hasher};
 use std::marker::Model;
 use std::ops::Index;
 
-/// A list of items. Two with the same items are the same value.
+/// A list of items. Two sequences with equal items are equal.
 #[derive(Drop)]
 pub struct Sequence<T> {
     items: Vec<T>,
@@ -60,21 +60,21 @@ impl<T> Sequence<T> {
         self.items.as_slice()
     }
 
-    /// How many items there are.
+    /// The number of items.
     pub fn len(&self) -> usize
         ensures { result ≡ length self.now }
     {
         self.items.len()
     }
 
-    /// Whether there is no item.
+    /// Returns whether there is no item.
     pub fn is_empty(&self) -> bool
         ensures { IsTrue result ↔ (self.now ≡ []) }
     {
         self.items.is_empty()
     }
 
-    /// The item at a place, counted from 0, or none where the list ends before.
+    /// The item at an index, from 0; `None` past the end.
     pub fn get(&self, at: usize) -> Option<&T>
         ensures value { option_copied result ≡ slice_get self.now at }
         ensures within { OnSome result (at < length self.now) }
@@ -84,7 +84,7 @@ impl<T> Sequence<T> {
 }
 
 impl<T: Drop> Sequence<T> {
-    /// Puts an item at the end. Where there is no memory the list is as before.
+    /// Appends an item. If there is no memory for it, the list does not change.
     pub fn push(&mut self, item: T) -> Result<(), AllocError>
         ensures ok { OnOk result (self.new ≡ self.old ++ item ∷ []) }
         ensures err { OnErr result (self.new ≡ self.old) }

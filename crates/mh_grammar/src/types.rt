@@ -3,7 +3,7 @@ use crate::name::Name;
 use crate::sequence::Sequence;
 use std::alloc::{AllocError, AllocFailed};
 
-/// There was no memory.
+/// The fault of a call that had no memory.
 #[derive(Clone, Copy, Debug, PartialEq, Eq)]
 pub struct Memory;
 
@@ -19,30 +19,31 @@ impl<T: Drop> From<AllocFailed<T>> for Memory {
     }
 }
 
-/// There was no memory to go on with a value, which is let go in one call: to do so field by field is far longer to prove.
+/// Drops a value after a lack of memory, and returns the fault. One call for the whole value is much cheaper to prove
+/// than to drop each field.
 pub fn lost<T: Drop>(value: T) -> Memory {
     drop(value);
     Memory
 }
 
-/// The number of a token, in order of first declaration.
+/// The number of a token, from 0, in order of first declaration.
 pub type Token = u16;
 
-/// A token or a nonterminal, by its number.
+/// A token or a nonterminal, by its number, from 0.
 #[derive(Clone, Copy, Debug, PartialEq, Eq)]
 pub enum Symbol {
     T(Token),
     N(u16),
 }
 
-/// What may come behind an item: a token, or the end of the stream, which no lexer delivers.
+/// A lookahead of an item: a token, or the end of the stream, which is not a token.
 #[derive(Clone, Copy, Debug, PartialEq, Eq)]
 pub enum Look {
     Token(Token),
     End,
 }
 
-/// How a token of a level groups with itself.
+/// The associativity of a precedence level.
 #[derive(Clone, Copy, PartialEq, Eq)]
 pub enum Assoc {
     Left,
@@ -50,61 +51,62 @@ pub enum Assoc {
     Nonassoc,
 }
 
-/// A level of precedence. Two levels are comparable only within one file; the later is higher.
+/// A level of precedence. Two levels are comparable only if they are of one file; the later level is higher.
 #[derive(Clone, Copy, PartialEq, Eq)]
 pub struct Level {
-    /// The file of its declaration: files are counted from 1, in the order of the command line.
+    /// The number of the file that declares the level: files are counted from 1, in the order of the command line.
     pub file: u64,
-    /// Its place among the declarations of levels in that file, counted from 0.
+    /// The index, from 0, among the declarations of levels in the file.
     pub rank: u64,
-    /// How its tokens group.
+    /// The associativity of its tokens.
     pub assoc: Assoc,
 }
 
-/// The most tokens, nonterminals or starts: each has a number of 16 bits.
+/// The greatest number of tokens, of nonterminals or of starts: each has a number of 16 bits.
 pub const MAX_NUMBERED: usize = 65_535;
 
 /// The highest cost of a token; the lowest is 1.
 pub const MAX_COST: u32 = 1000;
 
-/// The greatest height of a syntax tree, so that no walk over one is deeper: this project's own limit.
+/// The greatest height of a syntax tree, a limit of this project; it bounds the depth of every walk over a tree.
 pub const MAX_HEIGHT: u32 = 4000;
 
-/// A token.
+/// A token of the grammar: its name, cost and level.
 #[derive(Clone, Drop, PartialEq, Eq)]
 pub struct TokenInfo {
-    /// Its name, as it is declared.
+    /// The name, as declared.
     pub name: Name,
-    /// Its level of precedence, where a declaration gives it one.
+    /// The level of precedence, if a declaration gives one.
     pub level: Option<Level>,
-    /// What it costs in a least sentence: from 1 to [`MAX_COST`](crate::types::MAX_COST), and 1 where no declaration gives it a cost.
+    /// The cost of the token in a sentence: from 1 to [`MAX_COST`](crate::types::MAX_COST), and 1 if no declaration
+    /// gives a cost.
     pub cost: u32,
 }
 
-/// A nonterminal.
+/// A nonterminal of the grammar: its name and its on-error declaration.
 #[derive(Drop)]
 pub struct NontermInfo {
-    /// Its name, with its arguments where it is an instance.
+    /// The name; that of an instance has the arguments in it.
     pub name: Name,
-    /// The place of the first `%on_error_reduce` declaration that names it.
+    /// The index, from 0, of the first `%on_error_reduce` declaration that names it.
     pub on_error: Option<u64>,
 }
 
 /// An ordinary production.
 #[derive(Drop)]
 pub struct Production {
-    /// The nonterminal of its left side, by number.
+    /// The number of the nonterminal on the left side.
     pub lhs: u16,
-    /// Its right side.
+    /// The right side.
     pub rhs: Sequence<Symbol>,
-    /// Its level of precedence, where it has one.
+    /// The level of precedence, if the production has one.
     pub level: Option<Level>,
 }
 
-/// A grammar. Production number i below the count of starts is that of start i, `S' -> S`; the ordinary productions
-/// of the list follow in order. Tokens, nonterminals and starts are at most 65,535 each, productions with the starts'
-/// are below 2^32, and so are the symbols of a right side; `is_in_range` of mh_grammar says whether a grammar keeps to this and each
-/// number in it names something.
+/// A grammar. Productions are numbered with those of the starts first: production i below the number of starts is `S'
+/// -> S` for start i, and the ordinary productions follow in order. There are at most 65,535 tokens, nonterminals and
+/// starts each, fewer than 2^32 productions, and fewer than 2^32 symbols in a right side. `is_in_range` of mh_grammar
+/// tests these limits, and that each number in the grammar names something.
 #[derive(Drop)]
 pub struct Grammar {
     /// The tokens, by number.
@@ -113,11 +115,11 @@ pub struct Grammar {
     pub nonterminals: Sequence<NontermInfo>,
     /// The ordinary productions.
     pub productions: Sequence<Production>,
-    /// The nonterminal of each start, by number.
+    /// The nonterminal of each start, by the start's number.
     pub starts: Sequence<u16>,
 }
 
-/// A start, by its number among the starts, and tokens.
+/// A sentence: the number of a start, from 0, and tokens.
 #[derive(Drop)]
 pub struct Sentence {
     pub start: u16,

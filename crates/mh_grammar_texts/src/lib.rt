@@ -1,4 +1,4 @@
-//! The texts of numbers, symbols and productions, which several rooms write.
+//! The texts of numbers, symbols and productions, which several crates write.
 #![tactic(auto)]
 
 mod numbers;

@@ -1,10 +1,10 @@
-//! The texts of numbers. Each function adds to the end of a text.
+//! The texts of numbers. Each function appends to a text.
 ghost use Rattle.std.specs.Prelude.{◌≡◌, ◌++◌, decimal, OnOk};
 
 use mh_grammar::Memory;
 use std::alloc::Global;
 
-/// Writes a number in decimal. Fails for want of memory alone; then a front of it may be written.
+/// Writes a number in decimal. It fails only for lack of memory; a prefix may then have been written.
 pub fn write_number(alloc: Global, text: &mut Vec<u8>, number: u32) -> Result<(), Memory>
     ensures { OnOk result (text.new.items ≡ text.old.items ++ decimal number) }
 {
@@ -13,7 +13,7 @@ pub fn write_number(alloc: Global, text: &mut Vec<u8>, number: u32) -> Result<()
     Ok(())
 }
 
-/// Writes a number between two texts. Fails for want of memory alone; then a front of them may be written.
+/// Writes a number between two texts. It fails only for lack of memory; a prefix may then have been written.
 pub fn write_between(
     alloc: Global,
     text: &mut Vec<u8>,

@@ -1,13 +1,14 @@
-//! The texts of symbols and productions. Each function adds to the end of a text.
+//! The texts of symbols and productions. Each function appends to a text.
 ghost use Rattle.std.specs.Prelude.{◌≡◌, ◌≤◌, ◌++◌, length, take, codes, MatchOption, OnOk, ⊤};
 ghost use Rattle.mh_grammar.specs.Plain.{plain_of, rhs_of};
-ghost use Rattle.mh_grammar_texts.specs.Productions.{names_after, symbols_text, left_side, production_text};
+ghost use Rattle.mh_grammar_texts.specs.Productions.{spaced_symbols, symbols_text, left_side_text, production_text};
 
 use mh_grammar::{Grammar, Memory, Symbol, left_side_name, nonterminal_name, symbol_name};
 
-/// Symbols, each after a space. Fails for want of memory alone; then a front of them may be written.
+/// Writes the names of symbols, each after a space. It fails only for lack of memory; a prefix may then have been
+/// written.
 pub fn write_names(text: &mut Vec<u8>, grammar: &Grammar, symbols: &[Symbol]) -> Result<(), Memory>
-    ensures { OnOk result (text.new.items ≡ text.old.items ++ names_after grammar.now symbols.now) }
+    ensures { OnOk result (text.new.items ≡ text.old.items ++ spaced_symbols grammar.now symbols.now) }
 {
     for symbol in symbols {
         text.push(b' ')?;
@@ -18,7 +19,7 @@ pub fn write_names(text: &mut Vec<u8>, grammar: &Grammar, symbols: &[Symbol]) ->
 
 #[tactic(auto, unfolding(mh_grammar::specs::Names::start_name))]
 fn write_left_side(text: &mut Vec<u8>, grammar: &Grammar, production: u32) -> Result<(), Memory>
-    ensures { OnOk result (text.new.items ≡ text.old.items ++ left_side grammar.now production) }
+    ensures { OnOk result (text.new.items ≡ text.old.items ++ left_side_text grammar.now production) }
 {
     match grammar.starts.get(production as usize) {
         Some(start) => {
@@ -30,7 +31,7 @@ fn write_left_side(text: &mut Vec<u8>, grammar: &Grammar, production: u32) -> Re
     Ok(())
 }
 
-/// Symbols, each after a space, with a dot between those before it and those after it.
+/// Writes the symbols before a dot, the dot, and the symbols after it, each after a space.
 fn write_dotted(
     text: &mut Vec<u8>,
     grammar: &Grammar,
@@ -38,14 +39,14 @@ fn write_dotted(
     after: &[Symbol],
 ) -> Result<(), Memory>
     ensures { OnOk result (text.new.items ≡ text.old.items
-        ++ (names_after grammar.now before.now ++ (codes " ." ++ names_after grammar.now after.now))) }
+        ++ (spaced_symbols grammar.now before.now ++ (codes " ." ++ spaced_symbols grammar.now after.now))) }
 {
     write_names(text, grammar, before)?;
     text.extend_from_slice(b" .")?;
     write_names(text, grammar, after)
 }
 
-/// Symbols, each after a space, with a dot at a place of them where one is given.
+/// Writes symbols, each after a space, with a dot at the given position, if one is given.
 fn write_symbols(
     text: &mut Vec<u8>,
     grammar: &Grammar,
@@ -65,7 +66,7 @@ fn write_symbols(
     }
 }
 
-/// The right side of a production, with a dot at a place of it where one is given.
+/// Writes the right side of a production, with a dot at the given position, if one is given.
 #[tactic(auto, unfolding(mh_grammar::specs::Plain::rhs_of))]
 fn write_right_side(
     text: &mut Vec<u8>,
@@ -89,8 +90,8 @@ fn write_right_side(
     }
 }
 
-/// Both sides of a production with an arrow between them, and with a dot at a place of the right one where one is given. Fails for
-/// want of memory alone; then a front of them may be written.
+/// Writes both sides of a production with an arrow between them, and with a dot at the given position of the right
+/// side, if one is given. It fails only for lack of memory; a prefix may then have been written.
 pub fn write_sides(
     text: &mut Vec<u8>,
     grammar: &Grammar,
@@ -99,15 +100,15 @@ pub fn write_sides(
 ) -> Result<(), Memory>
     requires { MatchOption dot ⊤ (λ dot. dot ≤ length (rhs_of (plain_of grammar.now) production)) }
     ensures { OnOk result (text.new.items ≡ text.old.items
-        ++ (left_side grammar.now production ++ (codes " ->" ++ symbols_text grammar.now dot (rhs_of (plain_of grammar.now) production)))) }
+        ++ (left_side_text grammar.now production ++ (codes " ->" ++ symbols_text grammar.now dot (rhs_of (plain_of grammar.now) production)))) }
 {
     write_left_side(text, grammar, production)?;
     text.extend_from_slice(b" ->")?;
     write_right_side(text, grammar, production, dot)
 }
 
-/// Writes a production: its left side, an arrow, and its right side. Fails for want of memory alone; then a front of it
-/// may be written.
+/// Writes a production: its left side, an arrow, and its right side. It fails only for lack of memory; a prefix may
+/// then have been written.
 pub fn write_production(
     text: &mut Vec<u8>,
     grammar: &Grammar,
@@ -119,8 +120,8 @@ pub fn write_production(
     write_sides(text, grammar, production, None)
 }
 
-/// Writes the symbols before a place of a production's right side, each after a space. Fails for want of memory alone; then a front
-/// of them may be written.
+/// Writes the symbols before a position of a production's right side, each after a space. It fails only for lack of
+/// memory; a prefix may then have been written.
 #[tactic(auto, unfolding(mh_grammar::specs::Plain::rhs_of))]
 pub fn write_before(
     text: &mut Vec<u8>,
@@ -130,7 +131,7 @@ pub fn write_before(
 ) -> Result<(), Memory>
     requires { dot ≤ length (rhs_of (plain_of grammar.now) production) }
     ensures { OnOk result (text.new.items ≡ text.old.items
-        ++ names_after grammar.now (take dot (rhs_of (plain_of grammar.now) production))) }
+        ++ spaced_symbols grammar.now (take dot (rhs_of (plain_of grammar.now) production))) }
 {
     let place = production as usize;
     let starts = grammar.starts.len();

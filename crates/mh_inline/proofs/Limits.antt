@@ -1,4 +1,4 @@
--- Grammars within and over the limits.
+-- Lemmas on grammars within and beyond the limits.
 use Rattle.std.proofs.Common.{◌≡◌, ℕ, zero, suc, ◌<◌, ◌≤◌, List, [], ◌∷◌, Some, map, filter, length, get_or, refl, sym, ap, ◌∙◌, arith, inl, inr, subst, length-append}
 use Rattle.std.specs.List.{slice_get, All, Any}
 use Rattle.std.proofs.lemmas.Bool.{cases_lt}
@@ -15,37 +15,37 @@ use Rattle.mh_rules.specs.declared.instances.Expanded.{Expanded}
 use Rattle.mh_inline_unfold.specs.declared.unfolding.Unfolding.{Unfolding}
 use Rattle.mh_inline.specs.declared.origins.Origin.{Origin}
 use Rattle.mh_inline_unfold.specs.declared.sizes.Size.{Size}
-use Rattle.mh_inline_unfold.specs.declared.sizes.Sizing.{Sizing}
+use Rattle.mh_inline_unfold.specs.declared.sizes.SizeTable.{SizeTable}
 use Rattle.mh_inline_unfold.specs.Instances.{IsAlternative}
 use Rattle.mh_rules.specs.Ready.{IsExpandedReady}
-use Rattle.mh_inline_unfold.specs.Unfoldings.{own, Unfolds}
-use Rattle.mh_inline_unfold.specs.code.Sizes.{longest, AreSmall, AreAllSized, IsSizing, IsWithin}
-use Rattle.mh_inline.specs.code.Uses.{KnowsUsed}
+use Rattle.mh_inline_unfold.specs.Unfoldings.{with_own_prec, Unfolds}
+use Rattle.mh_inline_unfold.specs.code.Sizes.{longest, AreSmall, AreAllSized, IsSizeTable, IsSmallSize}
+use Rattle.mh_inline.specs.code.LastUses.{KnowsUsed}
 use Rattle.mh_inline.specs.Inlined as inlined
 use Rattle.mh_inline.specs.Kept.{is_kept, nonterminal_of, number_of, IsOrigin, AreOrigins}
 use Rattle.mh_inline.specs.Inlined.{production_of, AreProductions, IsInlined}
-use Rattle.mh_inline.specs.code.Making.{longest_side, IsOriginKnown, IsOriginsSize, AreOriginsSmall}
-use Rattle.mh_inline.specs.Faults.{IsSmall, IsOver}
+use Rattle.mh_inline.specs.code.ProductionParts.{longest_side, IsOriginKnown, IsOriginsSize, AreOriginsSmall}
+use Rattle.mh_inline.specs.Faults.{IsWithinLimits, ExceedsLimits}
 use Rattle.mh_inline_unfold.proofs.Monoid.{append_same}
-use Rattle.mh_inline_unfold.proofs.Same.{unfolds_same, small_part, some_ready}
-use Rattle.mh_inline.proofs.Producing.{longest_side-append, longest_side-made}
+use Rattle.mh_inline_unfold.proofs.UniqueUnfoldings.{unfolds_same, small_part, some_ready}
+use Rattle.mh_inline.proofs.MadeProductions.{longest_side-append, longest_side-made}
 
-pub alternative_same : (is : List Instance) (n k : ℕ) (p q : InstanceProduction) → IsAlternative is n k p → IsAlternative is n k q → p ≡ q
-alternative_same is n k p q a b =
+pub alternative_unique : (is : List Instance) (n k : ℕ) (p q : InstanceProduction) → IsAlternative is n k p → IsAlternative is n k q → p ≡ q
+alternative_unique is n k p q a b =
     let one : a.instance ≡ b.instance = same_Some _ _ (sym a.at ∙ b.at) in
     same_Some p q (sym a.alternative ∙ ap (λ (i : Instance). slice_get i.productions k) one ∙ b.alternative)
 
 module _ (tokens : List TokenInfo) (is : List Instance) where
-  -- the productions are determined
-  pub made_same : (origins : List Origin) (ps qs : List Production) → AreProductions tokens is origins ps → AreProductions tokens is origins qs → ps ≡ qs
-  made_same origins ps qs inlined.AreProductions.none inlined.AreProductions.none = refl
-  made_same origins ps qs (inlined.AreProductions.more {s = s} {p = p} {us = us} a f e r) (inlined.AreProductions.more {p = q} {us = vs} a' f' e' r') =
-      let one = alternative_same is s.instance s.alternative p q a a' in
+  -- The productions of a list of origins are unique.
+  pub productions_unique : (origins : List Origin) (ps qs : List Production) → AreProductions tokens is origins ps → AreProductions tokens is origins qs → ps ≡ qs
+  productions_unique origins ps qs inlined.AreProductions.none inlined.AreProductions.none = refl
+  productions_unique origins ps qs (inlined.AreProductions.more {s = s} {p = p} {us = us} a f e r) (inlined.AreProductions.more {p = q} {us = vs} a' f' e' r') =
+      let one = alternative_unique is s.instance s.alternative p q a a' in
       let again : Unfolds is p.rhs vs = subst (λ (x : InstanceProduction). Unfolds is x.rhs vs) (sym one) f' in
       let same : us ≡ vs = unfolds_same is p.rhs us vs f again in
-      e ∙ append_same _ _ _ _ (λ i. map (λ u. production_of tokens is s.instance (own (one i).prec u)) (same i)) (made_same _ _ _ r r') ∙ sym e'
+      e ∙ append_same _ _ _ _ (λ i. map (λ u. production_of tokens is s.instance (with_own_prec (one i).prec u)) (same i)) (productions_unique _ _ _ r r') ∙ sym e'
 
-  -- what an origin has
+  -- The unfoldings of an origin.
   pub record HasUnfoldings (s : Origin) (ps : List Production) : Type 0 where
     pub production : InstanceProduction
     pub alternative : IsAlternative is s.instance s.alternative production
@@ -58,15 +58,15 @@ module _ (tokens : List TokenInfo) (is : List Instance) where
   origin_unfoldings origins ps inlined.AreProductions.none j s at = absurd (none-some s at)
   origin_unfoldings origins ps (inlined.AreProductions.more {s = t} {p = p} {us = us} {ps = rest} a f e r) zero s at =
       let one : t ≡ s = same_Some t s at in
-      let len = ap length e ∙ length-append (map (λ u. production_of tokens is t.instance (own p.prec u)) us) rest in
-      let same = length-map us (λ u. production_of tokens is t.instance (own p.prec u)) in
-      let long = ap longest_side e ∙ longest_side-append tokens is (map (λ u. production_of tokens is t.instance (own p.prec u)) us) rest in
+      let len = ap length e ∙ length-append (map (λ u. production_of tokens is t.instance (with_own_prec p.prec u)) us) rest in
+      let same = length-map us (λ u. production_of tokens is t.instance (with_own_prec p.prec u)) in
+      let long = ap longest_side e ∙ longest_side-append tokens is (map (λ u. production_of tokens is t.instance (with_own_prec p.prec u)) us) rest in
       let long' = longest_side-made tokens is t.instance p.prec us in
       record { production = p; alternative = subst (λ (x : Origin). IsAlternative is x.instance x.alternative p) one a; unfoldings = us; unfolds = f; few = omega arith; short = omega arith }
   origin_unfoldings origins ps (inlined.AreProductions.more {s = t} {p = p} {us = us} {ps = rest} a f e r) (suc j) s at =
       let h = origin_unfoldings _ rest r j s at in
-      let len = ap length e ∙ length-append (map (λ u. production_of tokens is t.instance (own p.prec u)) us) rest in
-      let long = ap longest_side e ∙ longest_side-append tokens is (map (λ u. production_of tokens is t.instance (own p.prec u)) us) rest in
+      let len = ap length e ∙ length-append (map (λ u. production_of tokens is t.instance (with_own_prec p.prec u)) us) rest in
+      let long = ap longest_side e ∙ longest_side-append tokens is (map (λ u. production_of tokens is t.instance (with_own_prec p.prec u)) us) rest in
       let few = h.few in
       let short = h.short in
       record { production = h.production; alternative = h.alternative; unfoldings = h.unfoldings; unfolds = h.unfolds; few = omega arith; short = omega arith }
@@ -74,8 +74,8 @@ module _ (tokens : List TokenInfo) (is : List Instance) where
 pub all_origins : (is : List Instance) (origins : List Origin) → AreOrigins is origins → All (IsOrigin is) origins
 all_origins is origins a k d l = (a.exact (get_or origins k d)).0 (Contains-get_or origins k d l)
 
--- the inline producers of the origins are known
-pub origins_known : (e : Expanded) (s : Sizing) (known : List (List Unfolding)) (origins : List Origin) → IsExpandedReady e → IsSizing e.instances s → AreAllSized e.instances s.sizes.items → KnowsUsed e.instances s.order.items known → All (IsOrigin e.instances) origins → AreOriginsSmall e.tokens e.instances origins → All (IsOriginKnown e.instances known) origins
+-- The unfoldings of the inline producers in the origins have been computed.
+pub origins_known : (e : Expanded) (s : SizeTable) (known : List (List Unfolding)) (origins : List Origin) → IsExpandedReady e → IsSizeTable e.instances s → AreAllSized e.instances s.sizes.items → KnowsUsed e.instances s.order.items known → All (IsOrigin e.instances) origins → AreOriginsSmall e.tokens e.instances origins → All (IsOriginKnown e.instances known) origins
 origins_known e s known origins ready z all k are small i d l =
     let x = get_or origins i d in
     let h = origin_unfoldings e.tokens e.instances origins small.productions small.made i x (slice_get-get_or origins i d l) in
@@ -86,7 +86,7 @@ origins_known e s known origins ready z all k are small i d l =
     let within : AreSmall h.unfoldings = record { few = omega arith; short = omega arith } in
     record {
       each = λ p a.
-          let one = alternative_same e.instances x.instance x.alternative h.production p h.alternative a in
+          let one = alternative_unique e.instances x.instance x.alternative h.production p h.alternative a in
           let f : Unfolds e.instances p.rhs h.unfoldings = subst (λ (q : InstanceProduction). Unfolds e.instances q.rhs h.unfoldings) one h.unfolds in
           record {
             each = λ j m at inline.
@@ -111,16 +111,16 @@ any_long n (p ∷ ps) l = elim (cases_lt n (length p.rhs)) [
   | inr short ↦ (let a = any_long n ps (omega arith) in let w = a.2 in (suc a.0, a.1, omega arith, a.3, a.4))
 ]
 
-pub small_grammar : (tokens : List TokenInfo) (is : List Instance) (origins : List Origin) (g : Grammar) → AreOriginsSmall tokens is origins → AreProductions tokens is origins g.productions → IsSmall g
+pub small_grammar : (tokens : List TokenInfo) (is : List Instance) (origins : List Origin) (g : Grammar) → AreOriginsSmall tokens is origins → AreProductions tokens is origins g.productions → IsWithinLimits g
 small_grammar tokens is origins g s m =
-    let one = made_same tokens is origins s.productions g.productions s.made m in
+    let one = productions_unique tokens is origins s.productions g.productions s.made m in
     let few = s.few in
     let short = s.short in
     let len = ap length one in
     let long = ap longest_side one in
     record { few = omega arith; short = all_short 10000 g.productions (omega arith) }
 
-pub small_origins : (tokens : List TokenInfo) (is : List Instance) (origins : List Origin) (z : Size) → IsOriginsSize tokens is origins z → IsWithin (Some z) → AreOriginsSmall tokens is origins
+pub small_origins : (tokens : List TokenInfo) (is : List Instance) (origins : List Origin) (z : Size) → IsOriginsSize tokens is origins z → IsSmallSize (Some z) → AreOriginsSmall tokens is origins
 small_origins tokens is origins z s w =
     let a = s.count in
     let b = s.longest in
@@ -131,7 +131,7 @@ small_origins tokens is origins z s w =
 grammar_with : Expanded → List Production → Grammar
 grammar_with e ps = record { tokens = e.tokens; nonterminals = map nonterminal_of (filter is_kept e.instances); productions = ps; starts = map (number_of e.instances) e.starts }
 
-pub over_origins : (e : Expanded) (origins : List Origin) (z : Size) → AreOrigins e.instances origins → IsOriginsSize e.tokens e.instances origins z → (IsWithin (Some z) → ⊥) → (g : Grammar) × IsInlined e g × IsOver g
+pub over_origins : (e : Expanded) (origins : List Origin) (z : Size) → AreOrigins e.instances origins → IsOriginsSize e.tokens e.instances origins z → (IsSmallSize (Some z) → ⊥) → (g : Grammar) × IsInlined e g × ExceedsLimits g
 unfolding grammar_with
 over_origins e origins z o s w =
     let a = s.count in

@@ -1,4 +1,4 @@
--- Origins in their order, as they are put among others.
+-- Lemmas on the order of origins and on their insertion into a sorted set.
 use Rattle.std.proofs.Common.{◌≡◌, ℕ, ◌+◌, ◌<◌, ◌≤◌, ◌⊎◌, true, false, List, [], Some, length, refl, sym, ap, ◌∙◌, arith, inl, inr, subst}
 use Rattle.std.specs.List.{slice_get}
 use Rattle.std.specs.declared.cmp.Ordering.{Ordering}
@@ -16,9 +16,9 @@ use Rattle.mh_rules.specs.declared.instances.Instance.{Instance}
 use Rattle.mh_inline.specs.declared.origins.Origin.{Origin}
 use Rattle.mh_inline.specs.contracts.origins.OriginOrd.TheImpl as order
 use Rattle.mh_inline_unfold.specs.Instances.{is_inlined}
-use Rattle.mh_inline_unfold.specs.Ranks.{rank_of}
+use Rattle.mh_inline_unfold.specs.FileRanks.{rank_of}
 use Rattle.mh_inline.specs.Kept.{IsOrigin, IsOriginBefore, AreOrigins}
-use Rattle.mh_inline.specs.code.Keeping.{IsBelow, AreOriginsBelow}
+use Rattle.mh_inline.specs.code.NumbersAndOrigins.{IsOriginBelow, AreOriginsBelow}
 
 less : (a b : ℕ) → nat_cmp a b ≡ Less → a < b
 less a b e = grind (arith, nat_tests)
@@ -72,20 +72,20 @@ origin_equal x y e =
     let t = then_equal (nat_cmp x.instance y.instance) _ s.1 in
     origin_same x y (equal x.rank y.rank r.0) (equal x.place y.place s.0) (equal x.instance y.instance t.0) (equal x.alternative y.alternative t.1)
 
--- origins in the order of a set rise
+-- The origins in a sorted set are in rising order.
 pub rising_keys : (s : BTreeSet Origin) → IsOrdered order.cmp-value.it s → IsRising IsOriginBefore s.keys
 rising_keys s o = lists.rising_keys order.cmp-value.it IsOriginBefore origin_less s o
 
 pub AreOriginsBelow-none : (is : List Instance) → AreOriginsBelow is 0 0 []
 AreOriginsBelow-none is = record { rising = tt; exact = λ s. ((λ c. absurd (contains_none s c)), (λ b. elim b.1 [ inl l ↦ absurd (omega arith) | inr r ↦ absurd (let l = r.1 in omega arith) ])) }
 
--- one alternative of an instance more
+-- The origins after one more alternative of an instance.
 pub AreOriginsBelow-more : (is : List Instance) (n k : ℕ) (i : Instance) (p : InstanceProduction) (old new : List Origin) (x : Origin) → slice_get is n ≡ Some i → is_inlined is n ≡ false → slice_get i.productions k ≡ Some p → x ≡ record { rank = rank_of p.file; place = p.place; instance = n; alternative = k } → IsRising IsOriginBefore new → new ≡ insert_key order.cmp-value.it old x → AreOriginsBelow is n k old → AreOriginsBelow is n (k + 1) new
 AreOriginsBelow-more is n k i p old new x at kept here is_x rising e h = record {
   rising = rising;
   exact = λ s. (
     (λ c. elim ((inserted_contains order.cmp-value.it origin_equal old x s).0 (rw e at c)) [
-      | inl same ↦ subst (λ y. IsOrigin is y × IsBelow n (k + 1) y) (sym is_x ∙ same) (record { kept = kept; production = p; alternative = record { instance = i; at = at; alternative = here }; rank = refl; place = refl }, inr (refl, omega arith))
+      | inl same ↦ subst (λ y. IsOrigin is y × IsOriginBelow n (k + 1) y) (sym is_x ∙ same) (record { kept = kept; production = p; alternative = record { instance = i; at = at; alternative = here }; rank = refl; place = refl }, inr (refl, omega arith))
       | inr d ↦ (let b = (h.exact s).0 d in (b.0, (elim b.1 [ inl l ↦ inl l | inr r ↦ inr (r.0, (let l = r.1 in omega arith)) ])))
     ]),
     (λ b. rw e ((inserted_contains order.cmp-value.it origin_equal old x s).1 (elim b.1 [
@@ -105,7 +105,7 @@ AreOriginsBelow-more is n k i p old new x at kept here is_x rising e h = record 
         let same_production : p ≡ q.production = same_Some _ _ (sym here ∙ there) in
         origin_same _ s (ap (λ (r : InstanceProduction). rank_of r.file) same_production ∙ sym q.rank) (ap (λ (r : InstanceProduction). r.place) same_production ∙ sym q.place) (sym e) (sym f)
 
--- all alternatives of an instance
+-- The origins after all alternatives of an instance.
 pub AreOriginsBelow-instance : (is : List Instance) (n k : ℕ) (i : Instance) (xs : List Origin) → slice_get is n ≡ Some i → length i.productions ≤ k → AreOriginsBelow is n k xs → AreOriginsBelow is (n + 1) 0 xs
 AreOriginsBelow-instance is n k i xs at all h = record {
   rising = h.rising;
@@ -131,7 +131,7 @@ AreOriginsBelow-instance is n k i xs at all h = record {
   );
 }
 
--- an inline instance has none
+-- An inline instance adds no origin.
 pub AreOriginsBelow-inline : (is : List Instance) (n : ℕ) (xs : List Origin) → is_inlined is n ≡ true → AreOriginsBelow is n 0 xs → AreOriginsBelow is (n + 1) 0 xs
 AreOriginsBelow-inline is n xs inline h = record {
   rising = h.rising;
@@ -158,5 +158,3 @@ AreOrigins-all is n xs all h = record {
     (λ b. (h.exact s).1 (b, inl (let w = slice_get_within is s.instance b.alternative.instance b.alternative.at in omega arith))),
   );
 }
-
--- the rank of a file that is not the prelude

@@ -1,4 +1,4 @@
--- The numbers of the grammar are in range, and no start stands twice.
+-- Proves that the numbers in the grammar are in range, and that its start symbols differ.
 use Rattle.std.proofs.Common.{◌≡◌, ℕ, ◌^◌, ◌<◌, ◌≤◌, Bool, true, false, not, cond, List, [], ◌∷◌, Some, map, filter, count_by, take, length, get_or, refl, sym, ap, ◌∙◌, arith, inl, inr, subst}
 use Rattle.std.specs.Option.{option_map, unwrap_or}
 use Rattle.std.specs.List.{slice_get, All, Contains}
@@ -12,7 +12,7 @@ use Rattle.mh_grammar.specs.declared.types.Production.{Production}
 use Rattle.mh_grammar.specs.declared.types.Grammar.{Grammar}
 use Rattle.mh_grammar.specs.Numbering.{AreDistinct}
 use Rattle.mh_grammar.specs.Plain.{plain_of, IsInRange, IsProductive, IsSymbolBelow, IsProductionBelow}
-use Rattle.mh_grammar.proofs.Pigeon.{length-distinct_in}
+use Rattle.mh_grammar.proofs.Pigeonhole.{length-distinct_in}
 use Rattle.mh_grammar.proofs.Lists.{contains_here, contains_there}
 use Rattle.mh_rules.specs.declared.joined.Prec.{Prec}
 use Rattle.mh_rules.specs.declared.instances.Part.{Part}
@@ -23,17 +23,17 @@ use Rattle.mh_inline_unfold.specs.declared.unfolding.Unfolding.{Unfolding}
 use Rattle.mh_inline.specs.declared.origins.Origin.{Origin}
 use Rattle.mh_inline_unfold.specs.Instances.{is_inlined, IsKept}
 use Rattle.mh_rules.specs.Ready.{IsPartBelow, IsExpandedReady}
-use Rattle.mh_inline_unfold.specs.Unfoldings.{own, Unfolds}
+use Rattle.mh_inline_unfold.specs.Unfoldings.{with_own_prec, Unfolds}
 use Rattle.mh_inline.specs.Inlined as inlined
 use Rattle.mh_inline.specs.Kept.{is_kept, nonterminal_of, number_of, IsOrigin, AreOrigins}
 use Rattle.mh_inline.specs.Inlined.{symbol_of, production_of, AreProductions, IsInlined}
 use Rattle.mh_inline.specs.Cycles.{HasNoCycle}
-use Rattle.mh_inline.specs.code.Marked.{IsFirstUnmarked, HasEmptyStart}
-use Rattle.mh_inline.specs.Faults.{HasNoInlineStart, IsSmall}
-use Rattle.mh_inline.proofs.Producing.{AreBelow, below_ready, each_of_side}
-use Rattle.mh_inline.proofs.Cycling.{numbers, length-numbers, numbers_at}
+use Rattle.mh_inline.specs.code.ProductiveMarks.{IsFirstUnmarked, HasEmptyStart}
+use Rattle.mh_inline.specs.Faults.{HasNoInlineStart, IsWithinLimits}
+use Rattle.mh_inline.proofs.MadeProductions.{AreBelow, below_ready, each_of_side}
+use Rattle.mh_inline.proofs.IsCyclic.{numbers_below, length-numbers, numbers_at}
 
--- an instance that is not inline, by its number
+-- The number n is that of an instance that is not inline.
 pub record IsNonterminal (is : List Instance) (n : ℕ) : Type 0 where
   pub kept : is_inlined is n ≡ false
   pub within : n < length is
@@ -44,7 +44,7 @@ kept_here is n d k = ap not (ap (λ o. unwrap_or (option_map (λ (i : Instance).
 kept_front : (is : List Instance) (n m : ℕ) (d : Instance) → IsNonterminal is n → n < m → is_kept (get_or (take m is) n d) ≡ true
 kept_front is n m d k l = ap is_kept (get_or-take m is n d l) ∙ kept_here is n d k
 
--- numbers of nonterminals rise
+-- The numbers of nonterminals rise with the numbers of their instances.
 pub number_rises : (is : List Instance) (n m : ℕ) → IsNonterminal is n → n < m → m ≤ length is → number_of is n < number_of is m
 number_rises is n m k l w = go is (k.within) refl
   where
@@ -65,7 +65,7 @@ number_below is n k =
     let len = length-map (filter is_kept is) nonterminal_of ∙ length-filter is_kept is in
     omega arith
 
--- and tell them apart
+-- Different nonterminals have different numbers.
 pub number_apart : (is : List Instance) (n m : ℕ) → IsNonterminal is n → IsNonterminal is m → number_of is n ≡ number_of is m → n ≡ m
 number_apart is n m k l e = elim (cases_lt n m) [
   | inl below ↦ absurd (let r = number_rises is n m k below (let w = l.within in omega arith) in omega arith)
@@ -75,31 +75,31 @@ number_apart is n m k l e = elim (cases_lt n m) [
   ]
 ]
 
--- PARTS
+-- PRODUCERS
 
--- a part that stays and is in range
-pub record IsGood (t : ℕ) (is : List Instance) (X : Part) : Type 0 where
+-- The producer is not inline and is in range.
+pub record IsKeptAndBelow (t : ℕ) (is : List Instance) (X : Part) : Type 0 where
   pub kept : IsKept is X
   pub below : IsPartBelow t (length is) X
 
 module _ (t : ℕ) (is : List Instance) (b : AreBelow t is) where
   abbrev Good : Unfolding → Type 0
-  Good u = All (IsGood t is) u.rhs
+  Good u = All (IsKeptAndBelow t is) u.rhs
 
-  pub side_good : (Xs : List Part) (us : List Unfolding) → Unfolds is Xs us → All (IsPartBelow t (length is)) Xs → All Good us
-  side_good = each_of_side t is b (IsGood t is) (λ X k p. record { kept = k; below = p })
+  pub side_kept_and_below : (Xs : List Part) (us : List Unfolding) → Unfolds is Xs us → All (IsPartBelow t (length is)) Xs → All Good us
+  side_kept_and_below = each_of_side t is b (IsKeptAndBelow t is) (λ X k p. record { kept = k; below = p })
 
   abbrev Count : ℕ
   Count = length (map nonterminal_of (filter is_kept is))
 
-  symbol_below : (X : Part) → IsGood t is X → IsSymbolBelow t Count (symbol_of is X)
+  symbol_below : (X : Part) → IsKeptAndBelow t is X → IsSymbolBelow t Count (symbol_of is X)
   symbol_below (Token a) g = g.below
   symbol_below (Applied n) g = number_below is n (record { kept = g.kept; within = g.below })
 
-  made_below : (tokens : List TokenInfo) (n : ℕ) (prec : Prec) (us : List Unfolding) → IsNonterminal is n → All Good us → All (IsProductionBelow t Count) (map (λ u. production_of tokens is n (own prec u)) us)
-  made_below tokens n prec us k g = All-map (IsProductionBelow t Count) (λ u. production_of tokens is n (own prec u)) us (All-weaker Good (λ u. IsProductionBelow t Count (production_of tokens is n (own prec u))) (λ u h. record {
+  made_below : (tokens : List TokenInfo) (n : ℕ) (prec : Prec) (us : List Unfolding) → IsNonterminal is n → All Good us → All (IsProductionBelow t Count) (map (λ u. production_of tokens is n (with_own_prec prec u)) us)
+  made_below tokens n prec us k g = All-map (IsProductionBelow t Count) (λ u. production_of tokens is n (with_own_prec prec u)) us (All-weaker Good (λ u. IsProductionBelow t Count (production_of tokens is n (with_own_prec prec u))) (λ u h. record {
     lhs = number_below is n k;
-    rhs = All-map (IsSymbolBelow t Count) (symbol_of is) u.rhs (All-weaker (IsGood t is) (λ X. IsSymbolBelow t Count (symbol_of is X)) symbol_below u.rhs h);
+    rhs = All-map (IsSymbolBelow t Count) (symbol_of is) u.rhs (All-weaker (IsKeptAndBelow t is) (λ X. IsSymbolBelow t Count (symbol_of is X)) symbol_below u.rhs h);
   }) us g)
 
   pub productions_below : (tokens : List TokenInfo) (origins : List Origin) (ps : List Production) → AreProductions tokens is origins ps → ((s : Origin) → Contains origins s → IsOrigin is s) → All (IsProductionBelow t Count) ps
@@ -107,7 +107,7 @@ module _ (t : ℕ) (is : List Instance) (b : AreBelow t is) where
   productions_below tokens origins ps (inlined.AreProductions.more {s = s} {origins = rest} {p = p} {us = us} {ps = qs} a f e r) h =
       let one = h s (contains_here s rest) in
       let k : IsNonterminal is s.instance = record { kept = one.kept; within = slice_get_within is s.instance a.instance a.at } in
-      subst (All (IsProductionBelow t Count)) (sym e) (All-append (IsProductionBelow t Count) _ qs (made_below tokens s.instance p.prec us k (side_good p.rhs us f (b.each s.instance s.alternative p a))) (productions_below tokens rest qs r (λ x c. h x (contains_there s rest x c))))
+      subst (All (IsProductionBelow t Count)) (sym e) (All-append (IsProductionBelow t Count) _ qs (made_below tokens s.instance p.prec us k (side_kept_and_below p.rhs us f (b.each s.instance s.alternative p a))) (productions_below tokens rest qs r (λ x c. h x (contains_there s rest x c))))
 
 -- THE GRAMMAR
 
@@ -132,7 +132,7 @@ module _ (e : Expanded) (ready : IsExpandedReady e) (kept : HasNoInlineStart e) 
       let there = slice_get-map (number_of e.instances) e.starts k ∙ ap (option_map (number_of e.instances)) here in
       (get_or e.starts k 0, here, same_Some _ _ (sym there ∙ at))
 
-  -- no start stands twice
+  -- The start symbols of the grammar differ.
   once : AreDistinct e.starts
   once = record {
     same = λ i j x a b.
@@ -160,11 +160,11 @@ module _ (e : Expanded) (ready : IsExpandedReady e) (kept : HasNoInlineStart e) 
 
   few_starts : length e.starts ≤ length e.instances
   few_starts =
-      let few = length-distinct_in (numbers (length e.instances)) e.starts once (λ x c. numbers_at (length e.instances) x (All-contains (λ s. s < length e.instances) e.starts x ready.starts_below c)) in
+      let few = length-distinct_in (numbers_below (length e.instances)) e.starts once (λ x c. numbers_at (length e.instances) x (All-contains (λ s. s < length e.instances) e.starts x ready.starts_below c)) in
       let len = length-numbers (length e.instances) in
       omega arith
 
-  pub in_range : (g : Grammar) → IsInlined e g → IsSmall g → IsInRange (plain_of g)
+  pub in_range : (g : Grammar) → IsInlined e g → IsWithinLimits g → IsInRange (plain_of g)
   in_range g i s =
       let tokens = ap length i.tokens in
       let nonterminals = ap length i.nonterminals in
@@ -186,11 +186,11 @@ module _ (e : Expanded) (ready : IsExpandedReady e) (kept : HasNoInlineStart e) 
         few = omega arith;
       }
 
-  -- a start is among those of the grammar
+  -- A start symbol of the instances is one of the grammar, at the same position.
   pub start_at : (k n : ℕ) → slice_get e.starts k ≡ Some n → slice_get (map (number_of e.instances) e.starts) k ≡ Some (number_of e.instances n)
   start_at k n at = slice_get-map (number_of e.instances) e.starts k ∙ ap (option_map (number_of e.instances)) at
 
-  module _ (g : Grammar) (i : IsInlined e g) (small : IsSmall g) (acyclic : HasNoCycle e) (marks : List Bool) (exact : (n : ℕ) → (get_or marks n false ≡ true → IsProductive (plain_of g) n) × (IsProductive (plain_of g) n → get_or marks n false ≡ true)) where
+  module _ (g : Grammar) (i : IsInlined e g) (small : IsWithinLimits g) (acyclic : HasNoCycle e) (marks : List Bool) (exact : (n : ℕ) → (get_or marks n false ≡ true → IsProductive (plain_of g) n) × (IsProductive (plain_of g) n → get_or marks n false ≡ true)) where
     pub empty_start : (place : ℕ) → IsFirstUnmarked marks g.starts place → HasEmptyStart e place
     empty_start place u =
         let there = mapped_at place u.start (ap (λ l. slice_get l place) (sym i.starts) ∙ u.at) in

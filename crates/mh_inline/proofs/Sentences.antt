@@ -1,4 +1,4 @@
--- Trees over instances, inline ones too, and trees over the grammar have the same leaves.
+-- Proves that derivations over instances, inline ones included, and derivations over the grammar have the same words.
 use Rattle.std.proofs.Common.{◌≡◌, ℕ, zero, suc, false, List, [], ◌∷◌, ◌++◌, Some, map, length, get_or, refl, sym, ap, ◌∙◌, inl, inr, append_assoc, subst}
 use Rattle.std.specs.List.{slice_get, All, Contains}
 use Rattle.std.proofs.lemmas.List.{append-nil, map-append}
@@ -12,8 +12,8 @@ use Rattle.mh_grammar.specs.declared.types.Symbol.TheVariants.{T, N}
 use Rattle.mh_grammar.specs.Derivations as trees
 use Rattle.mh_grammar.specs.Derivations.{Derivation, Derivations}
 use Rattle.mh_grammar.specs.Plain.{plain_of, IsToken, Produces, Derives, DerivesAll}
-use Rattle.mh_grammar.proofs.Numbered.{produces_at, listed_from_for}
-use Rattle.mh_grammar.proofs.Placing.{at_contains, contains_at}
+use Rattle.mh_grammar.proofs.ProductionNumbers.{produces_at, listed_from_for}
+use Rattle.mh_grammar.proofs.NumberingInvariant.{at_contains, contains_at}
 use Rattle.mh_grammar.proofs.Lists.{contains_here, contains_there, contains_cases, contains_none, contains_map, map_contains}
 use Rattle.mh_rules.specs.declared.instances.Part.{Part}
 use Rattle.mh_rules.specs.declared.instances.Part.TheVariants.{Token, Instance as Applied}
@@ -25,17 +25,17 @@ use Rattle.mh_inline.specs.declared.origins.Origin.{Origin}
 use Rattle.mh_inline_unfold.specs.Instances.{is_inlined, IsAlternative, IsKept}
 use Rattle.mh_rules.specs.Ready.{IsExpandedReady}
 use Rattle.mh_inline_unfold.specs.Unfoldings as unfoldings
-use Rattle.mh_inline_unfold.specs.Unfoldings.{only, own, joined, choices, UnfoldsPart, Unfolds, UnfoldsEach}
+use Rattle.mh_inline_unfold.specs.Unfoldings.{unfolding_of_part, with_own_prec, joined, choices, UnfoldsPart, Unfolds, UnfoldsEach}
 use Rattle.mh_inline.specs.Inlined as inlined
 use Rattle.mh_inline.specs.Kept.{number_of, IsOrigin, AreOrigins}
-use Rattle.mh_inline_unfold.specs.Ranks.{rank_of}
+use Rattle.mh_inline_unfold.specs.FileRanks.{rank_of}
 use Rattle.mh_inline.specs.Inlined.{symbol_of, production_of, AreProductions, IsInlined}
 use Rattle.mh_rules.specs.Sentences.{IsTokenPart, PartProduces}
 use Rattle.mh_inline.specs.Sentences.{KeepsSentences}
 use Rattle.mh_inline.specs.Faults.{HasNoInlineStart}
-use Rattle.mh_inline.proofs.Limits.{alternative_same}
-use Rattle.mh_inline.proofs.Producing.{below_ready}
-use Rattle.mh_inline.proofs.Ranges.{IsNonterminal, IsGood, number_apart, side_good, start_at, start_nonterminal}
+use Rattle.mh_inline.proofs.Limits.{alternative_unique}
+use Rattle.mh_inline.proofs.MadeProductions.{below_ready}
+use Rattle.mh_inline.proofs.Ranges.{IsNonterminal, IsKeptAndBelow, number_apart, side_kept_and_below, start_at, start_nonterminal}
 
 -- MEMBERS
 
@@ -89,7 +89,7 @@ module _ {S : Type 0} (IsLeaf : S → ℕ → Type 0) (Makes : S → List S → 
   one_tree : (X : S) (w : List ℕ) → Derivation IsLeaf Makes X w → Derivations IsLeaf Makes (X ∷ []) w
   one_tree X w t = trees.Derivations.more (sym (append-nil w)) t trees.Derivations.none
 
--- FROM A TREE OF AN UNFOLDING TO ONE OF ITS PRODUCERS
+-- FROM A DERIVATION OF AN UNFOLDING TO ONE OF ITS PRODUCERS
 
 abbrev PartDerives : Expanded → Part → List ℕ → Type 0
 PartDerives e X w = Derivation IsTokenPart (PartProduces e) X w
@@ -106,7 +106,7 @@ module _ (input : Expanded) where
 
   mutual
     folded_part : (X : Part) (us : List Unfolding) → UnfoldsPart input.instances X us → (u : Unfolding) (w : List ℕ) → Contains us u → PartsDerive input u.rhs w → PartDerives input X w
-    folded_part X us (unfoldings.UnfoldsPart.kept k) u w c f = elim (contains_cases (only X) [] u c) [
+    folded_part X us (unfoldings.UnfoldsPart.kept k) u w c f = elim (contains_cases (unfolding_of_part X) [] u c) [
       | inl e ↦ single_tree IsTokenPart (PartProduces input) X w (subst (λ (x : Unfolding). PartsDerive input x.rhs w) (sym e) f)
       | inr d ↦ absurd (contains_none u d)
     ]
@@ -115,7 +115,7 @@ module _ (input : Expanded) where
         trees.Derivation.node (i, a.production, at, contains_at i.productions a.place a.production a.at, refl) a.forest
 
     pub folded_side : (Xs : List Part) (us : List Unfolding) → Unfolds input.instances Xs us → (u : Unfolding) (w : List ℕ) → Contains us u → PartsDerive input u.rhs w → PartsDerive input Xs w
-    folded_side Xs us unfoldings.Unfolds.none u w c f = elim (contains_cases unfoldings.nothing [] u c) [
+    folded_side Xs us unfoldings.Unfolds.none u w c f = elim (contains_cases unfoldings.empty_unfolding [] u c) [
       | inl e ↦ subst (λ (x : Unfolding). PartsDerive input x.rhs w) (sym e) f
       | inr d ↦ absurd (contains_none u d)
     ]
@@ -126,37 +126,37 @@ module _ (input : Expanded) where
 
     folded_each : (ps : List InstanceProduction) (us : List Unfolding) → UnfoldsEach input.instances ps us → (u : Unfolding) (w : List ℕ) → Contains us u → PartsDerive input u.rhs w → FromAlternative ps w
     folded_each ps us unfoldings.UnfoldsEach.no_alternative u w c f = absurd (contains_none u c)
-    folded_each ps us (unfoldings.UnfoldsEach.alternative {p = p} {us = firsts} {vs = rests} e g r) u w c f = elim (Contains-append_cases (map (own p.prec) firsts) rests u (rw e at c)) [
-      | inl d ↦ (let m = map_contains (own p.prec) firsts u d in record { place = zero; production = p; at = refl; forest = folded_side p.rhs firsts g m.0 w m.1 (subst (λ (x : Unfolding). PartsDerive input x.rhs w) (sym m.2) f) })
+    folded_each ps us (unfoldings.UnfoldsEach.alternative {p = p} {us = firsts} {vs = rests} e g r) u w c f = elim (Contains-append_cases (map (with_own_prec p.prec) firsts) rests u (rw e at c)) [
+      | inl d ↦ (let m = map_contains (with_own_prec p.prec) firsts u d in record { place = zero; production = p; at = refl; forest = folded_side p.rhs firsts g m.0 w m.1 (subst (λ (x : Unfolding). PartsDerive input x.rhs w) (sym m.2) f) })
       | inr d ↦ (let h = folded_each _ rests r u w d f in record { place = suc h.place; production = h.production; at = h.at; forest = h.forest })
     ]
 
 module _ (is : List Instance) where
-  -- the unfoldings of an alternative stand among those of its instance
+  -- The unfoldings of an alternative are among those of its instance.
   record AmongEach (us : List Unfolding) (p : InstanceProduction) : Type 0 where
     unfoldings : List Unfolding
     unfolds : Unfolds is p.rhs unfoldings
-    among : (u : Unfolding) → Contains unfoldings u → Contains us (own p.prec u)
+    among : (u : Unfolding) → Contains unfoldings u → Contains us (with_own_prec p.prec u)
 
   among_each : (ps : List InstanceProduction) (us : List Unfolding) → UnfoldsEach is ps us → (k : ℕ) (p : InstanceProduction) → slice_get ps k ≡ Some p → AmongEach us p
   among_each ps us unfoldings.UnfoldsEach.no_alternative k p at = absurd (none-some p at)
   among_each ps us (unfoldings.UnfoldsEach.alternative {p = q} {us = firsts} {vs = rests} e g r) zero p at =
       let one : q ≡ p = same_Some q p at in
-      subst (AmongEach us) one (record { unfoldings = firsts; unfolds = g; among = λ u c. rw e (Contains-append_left (map (own q.prec) firsts) rests (own q.prec u) (contains_map (own q.prec) firsts u c)) })
+      subst (AmongEach us) one (record { unfoldings = firsts; unfolds = g; among = λ u c. rw e (Contains-append_left (map (with_own_prec q.prec) firsts) rests (with_own_prec q.prec u) (contains_map (with_own_prec q.prec) firsts u c)) })
   among_each ps us (unfoldings.UnfoldsEach.alternative {p = q} {us = firsts} {vs = rests} e g r) (suc k) p at =
       let h = among_each _ rests r k p at in
-      record { unfoldings = h.unfoldings; unfolds = h.unfolds; among = λ u c. rw e (Contains-append_right (map (own q.prec) firsts) rests (own p.prec u) (h.among u c)) }
+      record { unfoldings = h.unfoldings; unfolds = h.unfolds; among = λ u c. rw e (Contains-append_right (map (with_own_prec q.prec) firsts) rests (with_own_prec p.prec u) (h.among u c)) }
 
 -- THE PRODUCTIONS OF THE GRAMMAR
 
 module _ (tokens : List TokenInfo) (is : List Instance) where
-  -- those of an origin
+  -- The productions of the origin s are among the productions ps.
   record FromOrigin (s : Origin) (ps : List Production) : Type 0 where
     production : InstanceProduction
     alternative : IsAlternative is s.instance s.alternative production
     unfoldings : List Unfolding
     unfolds : Unfolds is production.rhs unfoldings
-    made : (u : Unfolding) → Contains unfoldings u → Contains ps (production_of tokens is s.instance (own production.prec u))
+    made : (u : Unfolding) → Contains unfoldings u → Contains ps (production_of tokens is s.instance (with_own_prec production.prec u))
 
   from_origin : (origins : List Origin) (ps : List Production) → AreProductions tokens is origins ps → (s : Origin) → Contains origins s → FromOrigin s ps
   from_origin origins ps inlined.AreProductions.none s c = absurd (contains_none s c)
@@ -166,18 +166,18 @@ module _ (tokens : List TokenInfo) (is : List Instance) where
       alternative = a;
       unfoldings = us;
       unfolds = f;
-      made = λ u d. rw e (Contains-append_left (map (λ x. production_of tokens is t.instance (own p.prec x)) us) qs (production_of tokens is t.instance (own p.prec u)) (contains_map (λ x. production_of tokens is t.instance (own p.prec x)) us u d));
+      made = λ u d. rw e (Contains-append_left (map (λ x. production_of tokens is t.instance (with_own_prec p.prec x)) us) qs (production_of tokens is t.instance (with_own_prec p.prec u)) (contains_map (λ x. production_of tokens is t.instance (with_own_prec p.prec x)) us u d));
     })
     | inr d ↦ (let h = from_origin rest qs r s d in record {
       production = h.production;
       alternative = h.alternative;
       unfoldings = h.unfoldings;
       unfolds = h.unfolds;
-      made = λ u x. rw e (Contains-append_right (map (λ y. production_of tokens is t.instance (own p.prec y)) us) qs (production_of tokens is s.instance (own h.production.prec u)) (h.made u x));
+      made = λ u x. rw e (Contains-append_right (map (λ y. production_of tokens is t.instance (with_own_prec p.prec y)) us) qs (production_of tokens is s.instance (with_own_prec h.production.prec u)) (h.made u x));
     })
   ]
 
-  -- where a production comes from
+  -- The origin of a production.
   record Provenance (origins : List Origin) (q : Production) : Type 0 where
     origin : Origin
     among : Contains origins origin
@@ -187,12 +187,12 @@ module _ (tokens : List TokenInfo) (is : List Instance) where
     unfolds : Unfolds is production.rhs unfoldings
     unfolding_ : Unfolding
     chosen : Contains unfoldings unfolding_
-    made : production_of tokens is origin.instance (own production.prec unfolding_) ≡ q
+    made : production_of tokens is origin.instance (with_own_prec production.prec unfolding_) ≡ q
 
   provenance : (origins : List Origin) (ps : List Production) → AreProductions tokens is origins ps → (q : Production) → Contains ps q → Provenance origins q
   provenance origins ps inlined.AreProductions.none q c = absurd (contains_none q c)
-  provenance origins ps (inlined.AreProductions.more {s = t} {origins = rest} {p = p} {us = us} {ps = qs} a f e r) q c = elim (Contains-append_cases (map (λ x. production_of tokens is t.instance (own p.prec x)) us) qs q (rw e at c)) [
-    | inl d ↦ (let m = map_contains (λ x. production_of tokens is t.instance (own p.prec x)) us q d in record { origin = t; among = contains_here t rest; production = p; alternative = a; unfoldings = us; unfolds = f; unfolding_ = m.0; chosen = m.1; made = m.2 })
+  provenance origins ps (inlined.AreProductions.more {s = t} {origins = rest} {p = p} {us = us} {ps = qs} a f e r) q c = elim (Contains-append_cases (map (λ x. production_of tokens is t.instance (with_own_prec p.prec x)) us) qs q (rw e at c)) [
+    | inl d ↦ (let m = map_contains (λ x. production_of tokens is t.instance (with_own_prec p.prec x)) us q d in record { origin = t; among = contains_here t rest; production = p; alternative = a; unfoldings = us; unfolds = f; unfolding_ = m.0; chosen = m.1; made = m.2 })
     | inr d ↦ (let o = provenance rest qs r q d in record { origin = o.origin; among = contains_there t rest o.origin o.among; production = o.production; alternative = o.alternative; unfoldings = o.unfoldings; unfolds = o.unfolds; unfolding_ = o.unfolding_; chosen = o.chosen; made = o.made })
   ]
 
@@ -200,19 +200,19 @@ module _ (e : Expanded) (ready : IsExpandedReady e) (g : Grammar) (i : IsInlined
   abbrev is : List Instance
   is = e.instances
 
-  -- an alternative of a nonterminal has its unfoldings among the productions
-  of_alternative : (n k : ℕ) (p : InstanceProduction) → is_inlined is n ≡ false → IsAlternative is n k p → (us : List Unfolding) × Unfolds is p.rhs us × ((u : Unfolding) → Contains us u → Contains g.productions (production_of e.tokens is n (own p.prec u)))
+  -- The unfoldings of an alternative of a nonterminal give productions of the grammar.
+  of_alternative : (n k : ℕ) (p : InstanceProduction) → is_inlined is n ≡ false → IsAlternative is n k p → (us : List Unfolding) × Unfolds is p.rhs us × ((u : Unfolding) → Contains us u → Contains g.productions (production_of e.tokens is n (with_own_prec p.prec u)))
   of_alternative n k p kept a =
       let s : Origin = record { rank = rank_of p.file; place = p.place; instance = n; alternative = k } in
       let c = (i.ordered.exact s).1 (record { kept = kept; production = p; alternative = a; rank = refl; place = refl }) in
       let h = from_origin e.tokens is i.origins g.productions i.productions s c in
-      let one = alternative_same is n k h.production p h.alternative a in (
+      let one = alternative_unique is n k h.production p h.alternative a in (
         h.unfoldings,
         subst (λ (q : InstanceProduction). Unfolds is q.rhs h.unfoldings) one h.unfolds,
-        λ u d. subst (λ (q : InstanceProduction). Contains g.productions (production_of e.tokens is n (own q.prec u))) one (h.made u d),
+        λ u d. subst (λ (q : InstanceProduction). Contains g.productions (production_of e.tokens is n (with_own_prec q.prec u))) one (h.made u d),
       )
 
-  -- a production of the grammar with a forest makes a tree
+  -- A production of the grammar and a forest for its right side give a tree.
   node_at : (n : ℕ) (u : Unfolding) (w : List ℕ) → Contains g.productions (production_of e.tokens is n u) → DerivesAll (plain_of g) (map (symbol_of is) u.rhs) w → Derives (plain_of g) (N (number_of is n)) w
   node_at n u w c f = let at = at_contains g.productions (production_of e.tokens is n u) c in trees.Derivation.node (produces_at (plain_of g) at.0 (production_of e.tokens is n u) (number_of is n) at.1 refl) f
 
@@ -223,20 +223,20 @@ module _ (e : Expanded) (ready : IsExpandedReady e) (g : Grammar) (i : IsInlined
     chosen : Contains us unfolding_
     forest : DerivesAll (plain_of g) (map (symbol_of is) unfolding_.rhs) w
 
-  kept_leaf : (X : Part) (a : ℕ) → IsTokenPart X a → IsKept is X → Unfolded (only X ∷ []) (a ∷ [])
-  kept_leaf (Token b) a t k = record { unfolding_ = only (Token b); chosen = contains_here (only (Token b)) []; forest = one_tree IsToken (Produces (plain_of g)) (T b) (a ∷ []) (trees.Derivation.leaf t) }
+  kept_leaf : (X : Part) (a : ℕ) → IsTokenPart X a → IsKept is X → Unfolded (unfolding_of_part X ∷ []) (a ∷ [])
+  kept_leaf (Token b) a t k = record { unfolding_ = unfolding_of_part (Token b); chosen = contains_here (unfolding_of_part (Token b)) []; forest = one_tree IsToken (Produces (plain_of g)) (T b) (a ∷ []) (trees.Derivation.leaf t) }
   kept_leaf (Applied n) a t k = absurd t
 
-  kept_node : (X : Part) (rhs : List Part) (w : List ℕ) → PartProduces e X rhs → IsKept is X → ((us : List Unfolding) → Unfolds is rhs us → Unfolded us w) → Unfolded (only X ∷ []) w
+  kept_node : (X : Part) (rhs : List Part) (w : List ℕ) → PartProduces e X rhs → IsKept is X → ((us : List Unfolding) → Unfolds is rhs us → Unfolded us w) → Unfolded (unfolding_of_part X ∷ []) w
   kept_node (Token a) rhs w m k below = absurd m
   kept_node (Applied n) rhs w m k below =
       let place = at_contains m.0.productions m.1 m.3 in
       let a = of_alternative n place.0 m.1 k (record { instance = m.0; at = m.2; alternative = place.1 }) in
       let h = below a.0 (subst (λ Xs. Unfolds is Xs a.0) m.4 a.1) in
       record {
-        unfolding_ = only (Applied n);
-        chosen = contains_here (only (Applied n)) [];
-        forest = one_tree IsToken (Produces (plain_of g)) (N (number_of is n)) w (node_at n (own m.1.prec h.unfolding_) w (a.2 h.unfolding_ h.chosen) h.forest);
+        unfolding_ = unfolding_of_part (Applied n);
+        chosen = contains_here (unfolding_of_part (Applied n)) [];
+        forest = one_tree IsToken (Produces (plain_of g)) (N (number_of is n)) w (node_at n (with_own_prec m.1.prec h.unfolding_) w (a.2 h.unfolding_ h.chosen) h.forest);
       }
 
   mutual
@@ -251,10 +251,10 @@ module _ (e : Expanded) (ready : IsExpandedReady e) (g : Grammar) (i : IsInlined
         let a = among_each is j.productions us r place.0 made.1 there in
         let side : Unfolds is rhs a.unfoldings = subst (λ Xs. Unfolds is Xs a.unfoldings) made.4 a.unfolds in
         let h = unfolded_side rhs w f a.unfoldings side in
-        record { unfolding_ = own made.1.prec h.unfolding_; chosen = a.among h.unfolding_ h.chosen; forest = h.forest }
+        record { unfolding_ = with_own_prec made.1.prec h.unfolding_; chosen = a.among h.unfolding_ h.chosen; forest = h.forest }
 
     unfolded_side : (Xs : List Part) (w : List ℕ) → PartsDerive e Xs w → (us : List Unfolding) → Unfolds is Xs us → Unfolded us w
-    unfolded_side Xs w trees.Derivations.none us unfoldings.Unfolds.none = record { unfolding_ = unfoldings.nothing; chosen = contains_here unfoldings.nothing []; forest = trees.Derivations.none }
+    unfolded_side Xs w trees.Derivations.none us unfoldings.Unfolds.none = record { unfolding_ = unfoldings.empty_unfolding; chosen = contains_here unfoldings.empty_unfolding []; forest = trees.Derivations.none }
     unfolded_side Xs w (trees.Derivations.more {u = a} {v = b} split t f) us (unfoldings.Unfolds.more {us = firsts} {vs = rests} same p q) =
         let x = unfolded_part _ a t firsts p in
         let y = unfolded_side _ b f rests q in
@@ -268,8 +268,8 @@ module _ (e : Expanded) (ready : IsExpandedReady e) (g : Grammar) (i : IsInlined
 
   pub to_grammar : (X : Part) (w : List ℕ) → IsKept is X → PartDerives e X w → Derives (plain_of g) (symbol_of is X) w
   to_grammar X w k t =
-      let h = unfolded_part X w t (only X ∷ []) (unfoldings.UnfoldsPart.kept k) in
-      elim (contains_cases (only X) [] h.unfolding_ h.chosen) [
+      let h = unfolded_part X w t (unfolding_of_part X ∷ []) (unfoldings.UnfoldsPart.kept k) in
+      elim (contains_cases (unfolding_of_part X) [] h.unfolding_ h.chosen) [
         | inl e ↦ single_tree IsToken (Produces (plain_of g)) (symbol_of is X) w (subst (λ (u : Unfolding). DerivesAll (plain_of g) (map (symbol_of is) u.rhs) w) (sym e) h.forest)
         | inr d ↦ absurd (contains_none h.unfolding_ d)
       ]
@@ -277,7 +277,7 @@ module _ (e : Expanded) (ready : IsExpandedReady e) (g : Grammar) (i : IsInlined
   -- FROM THE GRAMMAR TO INSTANCES
 
   abbrev good : Part → Type 0
-  good = IsGood (length e.tokens) is
+  good = IsKeptAndBelow (length e.tokens) is
 
   nonterminal_of_good : (n : ℕ) → good (Applied n) → IsNonterminal is n
   nonterminal_of_good n h = record { kept = h.kept; within = h.below }
@@ -288,7 +288,7 @@ module _ (e : Expanded) (ready : IsExpandedReady e) (g : Grammar) (i : IsInlined
   leaf_back (Applied n) (T c) a same t = let u : N (number_of is n) ≡ T c = same in cc
   leaf_back (Applied n) (N m) a same t = absurd t
 
-  -- what a production with this right side is made from
+  -- The unfolding from which a production with this right side is made.
   record MadeFrom (n : ℕ) (rhs : List Symbol) : Type 0 where
     place : ℕ
     production : InstanceProduction
@@ -317,7 +317,7 @@ module _ (e : Expanded) (ready : IsExpandedReady e) (g : Grammar) (i : IsInlined
         unfolding_ = o.unfolding_;
         chosen = o.chosen;
         side = ap (λ (q : Production). q.rhs) o.made ∙ sym l.rhs ∙ p.2;
-        good_side = All-contains (λ u. All good u.rhs) o.unfoldings o.unfolding_ (side_good (length e.tokens) is b o.production.rhs o.unfoldings o.unfolds (b.each o.origin.instance o.origin.alternative o.production o.alternative)) o.chosen;
+        good_side = All-contains (λ u. All good u.rhs) o.unfoldings o.unfolding_ (side_kept_and_below (length e.tokens) is b o.production.rhs o.unfoldings o.unfolds (b.each o.origin.instance o.origin.alternative o.production o.alternative)) o.chosen;
       }
 
   node_back : (X : Part) (S : Symbol) (rhs : List Symbol) (w : List ℕ) → good X → symbol_of is X ≡ S → Produces (plain_of g) S rhs → ((Xs : List Part) → All good Xs → map (symbol_of is) Xs ≡ rhs → PartsDerive e Xs w) → PartDerives e X w

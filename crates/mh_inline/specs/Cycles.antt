@@ -1,13 +1,13 @@
--- Inline instances that reach themselves.
+-- Inline instances that reach themselves (Menhir manual, `%inline`).
 use Rattle.std.specs.Prelude.{◌<◌, ℕ}
 use Rattle.mh_rules.specs.declared.instances.Expanded.{Expanded}
 use Rattle.mh_inline_unfold.specs.Instances.{Reaches}
 
--- an inline instance reaches itself through inline instances
+-- The inline instance n reaches itself through inline instances.
 abbrev pub IsCyclic : Expanded → ℕ → Type 0
 IsCyclic e n = Reaches e.instances n n
 
--- the first found such
+-- The instance n is the first that reaches itself.
 pub record IsFirstCyclicAt (e : Expanded) (n : ℕ) : Type 0 where
   pub cyclic : IsCyclic e n
   pub first : (m : ℕ) → m < n → IsCyclic e m → ⊥

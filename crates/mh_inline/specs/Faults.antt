@@ -1,4 +1,5 @@
--- Why instances give no grammar: the first cause in this order.
+-- The faults for which instances have no grammar, in the order in which they are reported (Menhir manual, `%inline`;
+-- the order and the limits are this project's own).
 use Rattle.std.specs.Prelude.{◌≡◌, ◌<◌, ◌≤◌, ◌⊎◌, ℕ, true, false, List, Some, length, slice_get}
 use Rattle.std.specs.List.{All, Any}
 use Rattle.mh_grammar.specs.declared.types.Production.{Production}
@@ -14,19 +15,19 @@ use Rattle.mh_inline.specs.Cycles.{IsFirstCyclicAt, HasNoCycle}
 use Rattle.mh_inline.specs.Kept.{number_of}
 use Rattle.mh_inline.specs.Inlined.{IsInlined}
 
--- the name of an instance
-pub record IsNamed (e : Expanded) (n : ℕ) (name : List ℕ) : Type 0 where
+-- The instance n has this name.
+pub record IsInstanceNamed (e : Expanded) (n : ℕ) (name : List ℕ) : Type 0 where
   pub instance : Instance
   pub at : slice_get e.instances n ≡ Some instance
   pub is : instance.name ≡ name
 
--- the first instance that reaches itself
+-- The name is that of the first instance that reaches itself.
 pub record IsFirstCyclic (e : Expanded) (name : List ℕ) : Type 0 where
   pub number : ℕ
-  pub named : IsNamed e number name
+  pub named : IsInstanceNamed e number name
   pub first : IsFirstCyclicAt e number
 
--- the first start that is inline
+-- The first start symbol that is inline is the instance n.
 pub record IsFirstInlineStartAt (e : Expanded) (n : ℕ) : Type 0 where
   pub place : ℕ
   pub at : slice_get e.starts place ≡ Some n
@@ -35,21 +36,22 @@ pub record IsFirstInlineStartAt (e : Expanded) (n : ℕ) : Type 0 where
 
 pub record IsFirstInlineStart (e : Expanded) (name : List ℕ) : Type 0 where
   pub number : ℕ
-  pub named : IsNamed e number name
+  pub named : IsInstanceNamed e number name
   pub first : IsFirstInlineStartAt e number
 
 abbrev pub HasNoInlineStart : Expanded → Type 0
 HasNoInlineStart e = All (λ s. is_inlined e.instances s ≡ false) e.starts
 
--- within the limits
-pub record IsSmall (g : Grammar) : Type 0 where
+-- The grammar is within the limits.
+pub record IsWithinLimits (g : Grammar) : Type 0 where
   pub few : length g.productions ≤ MAX_PRODUCTIONS
   pub short : All (λ (p : Production). length p.rhs ≤ MAX_SYMBOLS) g.productions
 
-abbrev pub IsOver : Grammar → Type 0
-IsOver g = (MAX_PRODUCTIONS < length g.productions) ⊎ Any (λ (p : Production). MAX_SYMBOLS < length p.rhs) g.productions
+-- The grammar exceeds a limit.
+abbrev pub ExceedsLimits : Grammar → Type 0
+ExceedsLimits g = (MAX_PRODUCTIONS < length g.productions) ⊎ Any (λ (p : Production). MAX_SYMBOLS < length p.rhs) g.productions
 
--- the first start that has no finite tree
+-- The first start symbol without a finite tree is the instance n.
 pub record IsFirstEmptyAt (e : Expanded) (g : Grammar) (n : ℕ) : Type 0 where
   pub place : ℕ
   pub at : slice_get e.starts place ≡ Some n
@@ -58,28 +60,29 @@ pub record IsFirstEmptyAt (e : Expanded) (g : Grammar) (n : ℕ) : Type 0 where
 
 pub record IsFirstEmpty (e : Expanded) (g : Grammar) (name : List ℕ) : Type 0 where
   pub number : ℕ
-  pub named : IsNamed e number name
+  pub named : IsInstanceNamed e number name
   pub first : IsFirstEmptyAt e g number
 
--- the grammar, where there is no fault
+-- The grammar of the instances, if they have no fault.
 pub record IsGrammarOf (e : Expanded) (g : Grammar) : Type 0 where
   pub acyclic : HasNoCycle e
   pub kept : HasNoInlineStart e
   pub inlined : IsInlined e g
-  pub small : IsSmall g
+  pub small : IsWithinLimits g
   pub productive : All (IsProductive (plain_of g)) g.starts
 
+-- The first fault of the instances: each case requires that no earlier case holds; `Memory` is always allowed.
 abbrev pub IsFault : Expanded → InlineFault → Type 0
 IsFault e (InlineCycle name) = IsFirstCyclic e name
 IsFault e (InlineStart name) = HasNoCycle e × IsFirstInlineStart e name
-IsFault e TooManyProductions = HasNoCycle e × HasNoInlineStart e × (g : Grammar) × IsInlined e g × IsOver g
-IsFault e (EmptyLanguage name) = HasNoCycle e × HasNoInlineStart e × (g : Grammar) × IsInlined e g × IsSmall g × IsFirstEmpty e g name
+IsFault e TooManyProductions = HasNoCycle e × HasNoInlineStart e × (g : Grammar) × IsInlined e g × ExceedsLimits g
+IsFault e (EmptyLanguage name) = HasNoCycle e × HasNoInlineStart e × (g : Grammar) × IsInlined e g × IsWithinLimits g × IsFirstEmpty e g name
 IsFault e Memory = Unit {0}
 
--- another answer than want of memory
-abbrev pub IsNoMemory : InlineFault → Type 0
-IsNoMemory (InlineCycle name) = Unit {0}
-IsNoMemory (InlineStart name) = Unit {0}
-IsNoMemory TooManyProductions = Unit {0}
-IsNoMemory (EmptyLanguage name) = Unit {0}
-IsNoMemory Memory = ⊥
+-- The fault is not that memory ran out.
+abbrev pub IsNotMemory : InlineFault → Type 0
+IsNotMemory (InlineCycle name) = Unit {0}
+IsNotMemory (InlineStart name) = Unit {0}
+IsNotMemory TooManyProductions = Unit {0}
+IsNotMemory (EmptyLanguage name) = Unit {0}
+IsNotMemory Memory = ⊥

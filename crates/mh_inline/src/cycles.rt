@@ -1,39 +1,39 @@
-//! Inline instances that reach themselves.
+//! The search for inline instances that reach themselves.
 ghost use Rattle.std.specs.Prelude.{◌≡◌, ◌<◌, ◌↔◌, ◌∷◌, [], true, false, length, replicate, IfNone, IfOk, OnOk, IsTrue, MatchOption};
 ghost use Rattle.mh_inline_unfold.specs.Instances.{is_inlined, Reaches};
 ghost use Rattle.mh_inline.specs.Cycles.{HasNoCycle, IsFirstCyclicAt};
-ghost use Rattle.mh_inline_unfold.specs.code.MadeOf.{IsAmong, IsIn, IsMadeOf};
-ghost use Rattle.mh_inline.specs.code.Found.{Adds, AreQueued, IsSame, IsTable};
-ghost use Rattle.mh_inline.specs.code.Ranks.{AreRanked};
-ghost use Rattle.mh_inline_unfold.specs.code.Sizes.{AreAllSized, AreSettled, IsSizing};
+ghost use Rattle.mh_inline_unfold.specs.code.UsedInstances.{OccursInProducers, OccursInAlternatives, UsesInline};
+ghost use Rattle.mh_inline.specs.code.FoundInstances.{AddsFound, FlagsMatchQueue, IsEqualTo, IsFoundTable};
+ghost use Rattle.mh_inline.specs.code.InstanceRanks.{AreRanked};
+ghost use Rattle.mh_inline_unfold.specs.code.Sizes.{AreAllSized, IsSizeFixedPoint, IsSizeTable};
 
 use crate::ranks::{are_ranked, is_on_no_cycle};
 use mh_grammar::Memory;
-use mh_inline_unfold::{Sizing, inline_part, is_inline};
+use mh_inline_unfold::{SizeTable, inline_part, is_inline};
 use mh_rules::{Expanded, InstanceProduction, Part};
 use std::alloc::Global;
 
-/// The instances that were found, as flags and in the order in which they came.
+/// The instances that a breadth-first search has found: a flag for each instance, and a queue in the order of finding.
 #[derive(Drop)]
-pub struct Found {
+pub struct FoundInstances {
     pub flags: Vec<bool>,
     pub queue: Vec<usize>,
 }
 
-pub(crate) fn nothing_found(alloc: Global, count: usize) -> Result<Found, Memory>
+pub(crate) fn nothing_found(alloc: Global, count: usize) -> Result<FoundInstances, Memory>
     ensures flags { IfOk result (λ f. f.flags.items ≡ replicate count false) }
     ensures queue { IfOk result (λ f. f.queue.items ≡ []) }
 {
-    Ok(Found {
+    Ok(FoundInstances {
         flags: vec![in alloc; false; count]?,
         queue: Vec::new(alloc),
     })
 }
 
-fn add_one(found: &mut Found, number: usize) -> Result<(), Memory>
+fn add_one(found: &mut FoundInstances, number: usize) -> Result<(), Memory>
     requires number { number < length found.old.flags.items }
-    requires sets { AreQueued found.old }
-    ensures { OnOk result (Adds (IsSame number) found.old found.new) }
+    requires sets { FlagsMatchQueue found.old }
+    ensures { OnOk result (AddsFound (IsEqualTo number) found.old found.new) }
 {
     if !found.flags[number] {
         found.queue.push(number)?;
@@ -42,9 +42,9 @@ fn add_one(found: &mut Found, number: usize) -> Result<(), Memory>
     Ok(())
 }
 
-fn add_part(expanded: &Expanded, part: Part, found: &mut Found) -> Result<(), Memory>
-    requires { IsTable expanded.now.instances found.old }
-    ensures { OnOk result (Adds (IsAmong expanded.now.instances (part ∷ [])) found.old found.new) }
+fn add_part(expanded: &Expanded, part: Part, found: &mut FoundInstances) -> Result<(), Memory>
+    requires { IsFoundTable expanded.now.instances found.old }
+    ensures { OnOk result (AddsFound (OccursInProducers expanded.now.instances (part ∷ [])) found.old found.new) }
 {
     match inline_part(expanded, part) {
         Some(number) => add_one(found, number),
@@ -52,9 +52,13 @@ fn add_part(expanded: &Expanded, part: Part, found: &mut Found) -> Result<(), Me
     }
 }
 
-fn add_side(expanded: &Expanded, producers: &[Part], found: &mut Found) -> Result<(), Memory>
-    requires { IsTable expanded.now.instances found.old }
-    ensures { OnOk result (Adds (IsAmong expanded.now.instances producers.now) found.old found.new) }
+fn add_side(
+    expanded: &Expanded,
+    producers: &[Part],
+    found: &mut FoundInstances,
+) -> Result<(), Memory>
+    requires { IsFoundTable expanded.now.instances found.old }
+    ensures { OnOk result (AddsFound (OccursInProducers expanded.now.instances producers.now) found.old found.new) }
 {
     for part in producers {
         add_part(expanded, *part, found)?;
@@ -65,10 +69,10 @@ fn add_side(expanded: &Expanded, producers: &[Part], found: &mut Found) -> Resul
 fn add_alternatives(
     expanded: &Expanded,
     productions: &[InstanceProduction],
-    found: &mut Found,
+    found: &mut FoundInstances,
 ) -> Result<(), Memory>
-    requires { IsTable expanded.now.instances found.old }
-    ensures { OnOk result (Adds (IsIn expanded.now.instances productions.now) found.old found.new) }
+    requires { IsFoundTable expanded.now.instances found.old }
+    ensures { OnOk result (AddsFound (OccursInAlternatives expanded.now.instances productions.now) found.old found.new) }
 {
     for production in productions {
         add_side(expanded, production.rhs.as_slice(), found)?;
@@ -76,15 +80,15 @@ fn add_alternatives(
     Ok(())
 }
 
-/// Adds the inline instances that an instance is made of.
+/// Adds the inline instances that an instance uses to those found.
 pub(crate) fn add_inlined(
     expanded: &Expanded,
     number: usize,
-    found: &mut Found,
+    found: &mut FoundInstances,
 ) -> Result<(), Memory>
-    requires table { IsTable expanded.now.instances found.old }
+    requires table { IsFoundTable expanded.now.instances found.old }
     requires number { number < length expanded.now.instances }
-    ensures { OnOk result (Adds (IsMadeOf expanded.now.instances number) found.old found.new) }
+    ensures { OnOk result (AddsFound (UsesInline expanded.now.instances number) found.old found.new) }
 {
     add_alternatives(
         expanded,
@@ -109,15 +113,16 @@ fn is_cyclic(alloc: Global, expanded: &Expanded, number: usize) -> Result<bool, 
     Ok(found.flags[number])
 }
 
-/// Whether an instance reaches itself. One that is not inline or has a size does not, nor one of which the ranks tell so.
+/// Whether an instance reaches itself. No search is made if the instance is not inline, or has a size, or is on no
+/// cycle according to the ranks.
 fn reaches_itself(
     alloc: Global,
     expanded: &Expanded,
-    sizing: &Sizing,
+    sizing: &SizeTable,
     ranks: &[usize],
     number: usize,
 ) -> Result<bool, Memory>
-    requires sizing { IsSizing expanded.now.instances sizing.now }
+    requires sizing { IsSizeTable expanded.now.instances sizing.now }
     requires ranks { AreRanked expanded.now.instances ranks.now }
     requires number { number < length expanded.now.instances }
     ensures { IfOk result (λ cyclic. IsTrue cyclic ↔ Reaches expanded.now.instances number number) }
@@ -131,15 +136,16 @@ fn reaches_itself(
     is_cyclic(alloc, expanded, number)
 }
 
-/// The first inline instance that reaches itself. Where the ranks are those of components, the first that is searched from is it.
+/// The first inline instance that reaches itself. If the ranks are those of the strongly connected components, then
+/// only this instance is searched from.
 fn first_cyclic_by(
     alloc: Global,
     expanded: &Expanded,
-    sizing: &Sizing,
+    sizing: &SizeTable,
     ranks: &[usize],
 ) -> Result<Option<usize>, Memory>
-    requires sizing { IsSizing expanded.now.instances sizing.now }
-    requires settled { AreSettled expanded.now.instances sizing.now.sizes.items }
+    requires sizing { IsSizeTable expanded.now.instances sizing.now }
+    requires settled { IsSizeFixedPoint expanded.now.instances sizing.now.sizes.items }
     requires ranks { AreRanked expanded.now.instances ranks.now }
     ensures first { IfOk result (λ found. MatchOption found (HasNoCycle expanded.now) (IsFirstCyclicAt expanded.now)) }
     ensures sized { IfOk result (λ found. IfNone found (AreAllSized expanded.now.instances sizing.now.sizes.items)) }
@@ -152,16 +158,16 @@ fn first_cyclic_by(
     Ok(None)
 }
 
-/// The same with any numbers for ranks: where they are none, each instance counts as of one rank. Fails for want of
-/// memory alone.
+/// The first inline instance that reaches itself, for any list of numbers as ranks. If the numbers are not ranks, they
+/// are not used. Fails only if memory runs out.
 pub(crate) fn first_cyclic(
     alloc: Global,
     expanded: &Expanded,
-    sizing: &Sizing,
+    sizing: &SizeTable,
     ranks: &[usize],
 ) -> Result<Option<usize>, Memory>
-    requires sizing { IsSizing expanded.now.instances sizing.now }
-    requires settled { AreSettled expanded.now.instances sizing.now.sizes.items }
+    requires sizing { IsSizeTable expanded.now.instances sizing.now }
+    requires settled { IsSizeFixedPoint expanded.now.instances sizing.now.sizes.items }
     ensures first { IfOk result (λ found. MatchOption found (HasNoCycle expanded.now) (IsFirstCyclicAt expanded.now)) }
     ensures sized { IfOk result (λ found. IfNone found (AreAllSized expanded.now.instances sizing.now.sizes.items)) }
 {

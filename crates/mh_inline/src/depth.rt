@@ -1,36 +1,38 @@
-//! A search in depth through the inline instances that instances are made of. It gives an order in which what reaches no cycle stands
-//! behind all that it is made of, and the ranks of Tarjan's components. Both save time and no more: the sizes are tested for what is
-//! left to size, and the ranks are tested before they are used.
+//! A depth-first search of the graph of inline instances. It yields an order in which each instance that reaches no
+//! cycle comes after all that it uses, and ranks from Tarjan's strongly connected components. Both only save time:
+//! correctness does not depend on them, because the caller looks for instances that still lack a size, and tests the
+//! ranks before it uses them.
 ghost use Rattle.std.specs.Prelude.{◌<◌, length, IfOk, OnOk};
 ghost use Rattle.std.specs.List.{All};
-ghost use Rattle.mh_inline.specs.code.Searching.{IsSearch, IsVisitBelow};
+ghost use Rattle.mh_inline.specs.code.DepthFirst.{IsDepthSearch, IsVisitBelow};
 
 use mh_grammar::Memory;
 use mh_inline_unfold::inlined_in;
 use mh_rules::{Expanded, InstanceProduction};
 use std::alloc::Global;
 
-/// An instance that a search enters, or that it leaves when all that it is made of was entered.
+/// A visit on the stack: the search enters the instance, or leaves it after all instances that it uses have been
+/// entered.
 #[derive(Clone, Copy)]
 pub struct Visit {
     pub number: usize,
     pub leaving: bool,
 }
 
-/// How far a search is.
+/// The state of the search.
 #[derive(Drop)]
-pub struct Search {
-    /// For each instance the place, from 1, at which it was put among the open ones, or the least place of those that it reaches; 0
-    /// before it is entered.
+pub struct DepthSearch {
+    /// The low-link of each instance: the position, from 1, at which the instance was put on the list `open`, or the
+    /// least such position of the open instances that it is known to reach; 0 before the instance is entered.
     pub lowest: Vec<usize>,
-    /// For each instance a number that those of its component share, and that is no less than those of what it is made of; 0 while
-    /// it is open.
+    /// The rank of each instance: a number that all instances of its strongly connected component share and that is at
+    /// least as large as the ranks of the instances that it uses; 0 while the instance is open.
     pub ranks: Vec<usize>,
-    /// The visits to come, the next one last.
+    /// The visits to be made, the next one last.
     pub stack: Vec<Visit>,
-    /// The instances that were entered and have no rank yet, in their order.
+    /// The instances that have been entered and have no rank yet, in the order of entering.
     pub open: Vec<usize>,
-    /// The instances that were left, in their order.
+    /// The instances that have been left, in the order of leaving.
     pub left: Vec<usize>,
 }
 
@@ -47,11 +49,11 @@ fn visits_to_all(alloc: Global, count: usize) -> Result<Vec<Visit>, Memory>
     Ok(stack)
 }
 
-/// A search that is to enter each instance.
-fn new_search(alloc: Global, count: usize) -> Result<Search, Memory>
-    ensures { IfOk result (IsSearch count) }
+/// A search that will enter each instance.
+fn new_search(alloc: Global, count: usize) -> Result<DepthSearch, Memory>
+    ensures { IfOk result (IsDepthSearch count) }
 {
-    Ok(Search {
+    Ok(DepthSearch {
         lowest: vec![in alloc; 0; count]?,
         ranks: vec![in alloc; 0; count]?,
         stack: visits_to_all(alloc, count)?,
@@ -60,7 +62,7 @@ fn new_search(alloc: Global, count: usize) -> Result<Search, Memory>
     })
 }
 
-/// Puts entries to instances onto the stack.
+/// Pushes visits that enter these instances.
 fn push_visits(stack: &mut Vec<Visit>, count: usize, numbers: &[usize]) -> Result<(), Memory>
     requires numbers { All (λ n. n < count) numbers.now }
     requires stack { All (IsVisitBelow count) stack.old.items }
@@ -75,16 +77,16 @@ fn push_visits(stack: &mut Vec<Visit>, count: usize, numbers: &[usize]) -> Resul
     Ok(())
 }
 
-/// Enters an instance, unless it was entered before.
+/// Enters an instance, unless it has been entered before.
 fn enter(
     alloc: Global,
     expanded: &Expanded,
-    search: &mut Search,
+    search: &mut DepthSearch,
     number: usize,
 ) -> Result<(), Memory>
     requires number { number < length expanded.now.instances }
-    requires search { IsSearch (length expanded.now.instances) search.old }
-    ensures { OnOk result (IsSearch (length expanded.now.instances) search.new) }
+    requires search { IsDepthSearch (length expanded.now.instances) search.old }
+    ensures { OnOk result (IsDepthSearch (length expanded.now.instances) search.new) }
 {
     if search.lowest[number] > 0 {
         return Ok(());
@@ -103,9 +105,9 @@ fn enter(
     )
 }
 
-/// The least place that the open ones among some instances reach, or this one.
-fn least_of(search: &Search, numbers: &[usize], own: usize) -> usize
-    requires search { IsSearch (length search.now.ranks.items) search.now }
+/// The least low-link of the open instances among these, or `own` if that is smaller.
+fn least_of(search: &DepthSearch, numbers: &[usize], own: usize) -> usize
+    requires search { IsDepthSearch (length search.now.ranks.items) search.now }
     requires numbers { All (λ n. n < length search.now.ranks.items) numbers.now }
 {
     let mut least = own;
@@ -117,10 +119,10 @@ fn least_of(search: &Search, numbers: &[usize], own: usize) -> usize
     least
 }
 
-/// Gives the open instances down to this one a rank.
-fn close(search: &mut Search, number: usize, rank: usize)
-    requires { IsSearch (length search.old.ranks.items) search.old }
-    ensures { IsSearch (length search.old.ranks.items) search.new }
+/// Gives the rank to all open instances from the last down to this one, and closes them.
+fn close(search: &mut DepthSearch, number: usize, rank: usize)
+    requires { IsDepthSearch (length search.old.ranks.items) search.old }
+    ensures { IsDepthSearch (length search.old.ranks.items) search.new }
 {
     while let Some(member) = search.open.pop() {
         search.ranks[member] = rank;
@@ -130,16 +132,17 @@ fn close(search: &mut Search, number: usize, rank: usize)
     }
 }
 
-/// Leaves an instance. One that reaches none that was opened before it makes a component with those that were opened since.
+/// Leaves an instance. If its low-link is still its own position, it closes its component: the instance and those
+/// opened after it.
 fn leave(
     alloc: Global,
     expanded: &Expanded,
-    search: &mut Search,
+    search: &mut DepthSearch,
     number: usize,
 ) -> Result<(), Memory>
     requires number { number < length expanded.now.instances }
-    requires search { IsSearch (length expanded.now.instances) search.old }
-    ensures { OnOk result (IsSearch (length expanded.now.instances) search.new) }
+    requires search { IsDepthSearch (length expanded.now.instances) search.old }
+    ensures { OnOk result (IsDepthSearch (length expanded.now.instances) search.new) }
 {
     search.left.push(number)?;
     let made_of = inlined_in(alloc, expanded, number)?;
@@ -157,12 +160,12 @@ fn leave(
 fn make_visit(
     alloc: Global,
     expanded: &Expanded,
-    search: &mut Search,
+    search: &mut DepthSearch,
     next: Visit,
 ) -> Result<(), Memory>
     requires number { next.number < length expanded.now.instances }
-    requires search { IsSearch (length expanded.now.instances) search.old }
-    ensures { OnOk result (IsSearch (length expanded.now.instances) search.new) }
+    requires search { IsDepthSearch (length expanded.now.instances) search.old }
+    ensures { OnOk result (IsDepthSearch (length expanded.now.instances) search.new) }
 {
     if next.leaving {
         leave(alloc, expanded, search, next.number)
@@ -179,7 +182,8 @@ fn count_of_producers(productions: &[InstanceProduction]) -> usize {
     count
 }
 
-/// No search has more visits: each instance is put onto the stack at first and left once, and each producer is put there once.
+/// An upper bound for the number of visits: each instance is pushed once at the start and left once, and each producer
+/// is pushed once.
 fn most_visits(expanded: &Expanded) -> usize {
     let mut count = 0usize;
     for instance in expanded.instances.as_slice() {
@@ -190,10 +194,10 @@ fn most_visits(expanded: &Expanded) -> usize {
     count
 }
 
-/// Makes the visits to come, until there is none.
-fn make_visits(alloc: Global, expanded: &Expanded, search: &mut Search) -> Result<(), Memory>
-    requires { IsSearch (length expanded.now.instances) search.old }
-    ensures { OnOk result (IsSearch (length expanded.now.instances) search.new) }
+/// Makes visits until the stack is empty.
+fn make_visits(alloc: Global, expanded: &Expanded, search: &mut DepthSearch) -> Result<(), Memory>
+    requires { IsDepthSearch (length expanded.now.instances) search.old }
+    ensures { OnOk result (IsDepthSearch (length expanded.now.instances) search.new) }
 {
     for _ in 0..most_visits(expanded) {
         let Some(next) = search.stack.pop() else {
@@ -204,9 +208,9 @@ fn make_visits(alloc: Global, expanded: &Expanded, search: &mut Search) -> Resul
     Ok(())
 }
 
-/// The whole search. Fails for want of memory alone.
-pub(crate) fn depth_first(alloc: Global, expanded: &Expanded) -> Result<Search, Memory>
-    ensures { IfOk result (IsSearch (length expanded.now.instances)) }
+/// The state after the whole search. Fails only if memory runs out.
+pub(crate) fn depth_first(alloc: Global, expanded: &Expanded) -> Result<DepthSearch, Memory>
+    ensures { IfOk result (IsDepthSearch (length expanded.now.instances)) }
 {
     let mut search = new_search(alloc, expanded.instances.len())?;
     make_visits(alloc, expanded, &mut search)?;

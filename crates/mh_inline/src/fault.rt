@@ -1,20 +1,20 @@
-//! Why instances give no grammar.
+//! The faults for which instances have no grammar.
 use mh_grammar::{Memory, Name};
 use thiserror::Error;
 
 /// The first fault of the instances, in the order of these variants.
 #[derive(Debug, Drop, Error)]
 pub enum InlineFault {
-    /// This inline instance, the first found such, reaches itself through inline instances.
+    /// An inline instance reaches itself through inline instances; the name is that of the first such instance.
     #[error("inline cycle")]
     InlineCycle { instance: Name },
-    /// This start symbol, the first such, is inline.
+    /// A start symbol is inline; the name is that of the first such start symbol.
     #[error("inline start")]
     InlineStart { name: Name },
     /// There are more than 20,000 productions, or one has more than 10,000 symbols.
     #[error("too many productions")]
     TooManyProductions,
-    /// This start symbol, the first such, has no finite tree.
+    /// A start symbol has no finite tree; the name is that of the first such start symbol.
     #[error("empty language")]
     EmptyLanguage { name: Name },
     /// Memory ran out.

@@ -1,22 +1,22 @@
-//! The grammar of instances, or the first fault.
+//! Computes the grammar of expanded instances, or their first fault.
 ghost use Rattle.std.specs.Prelude.{◌≡◌, ◌<◌, true, false, length, slice_index_or, IfOk, IfErr, IfNone, MatchOption};
 ghost use Rattle.std.specs.List.{All};
 ghost use Rattle.mh_grammar.specs.Plain.{plain_of, IsInRange};
 ghost use Rattle.mh_grammar.specs.Numbering.{AreDistinct};
 ghost use Rattle.mh_rules.specs.Ready.{IsExpandedReady};
-ghost use Rattle.mh_inline_unfold.specs.code.Sizes.{AreAllSized, IsSizing};
+ghost use Rattle.mh_inline_unfold.specs.code.Sizes.{AreAllSized, IsSizeTable};
 ghost use Rattle.mh_inline.specs.Kept.{AreOrigins};
 ghost use Rattle.mh_inline.specs.Inlined.{AreProductions, IsInlined};
-ghost use Rattle.mh_inline.specs.code.Keeping.{AreNumbers};
-ghost use Rattle.mh_inline.specs.code.Making.{AreOriginsSmall};
+ghost use Rattle.mh_inline.specs.code.NumbersAndOrigins.{AreNumbers};
+ghost use Rattle.mh_inline.specs.code.ProductionParts.{AreOriginsSmall};
 ghost use Rattle.mh_inline.specs.Cycles.{HasNoCycle, IsFirstCyclicAt};
-ghost use Rattle.mh_inline.specs.code.Marked.{IsFirstUnmarked, HasEmptyStart};
-ghost use Rattle.mh_inline.specs.Faults.{HasNoInlineStart, IsFault, IsFirstInlineStartAt, IsGrammarOf, IsNamed, IsSmall};
-ghost use Rattle.mh_inline.specs.code.Searching.{IsSearch};
+ghost use Rattle.mh_inline.specs.code.ProductiveMarks.{IsFirstUnmarked, HasEmptyStart};
+ghost use Rattle.mh_inline.specs.Faults.{HasNoInlineStart, IsFault, IsFirstInlineStartAt, IsGrammarOf, IsInstanceNamed, IsWithinLimits};
+ghost use Rattle.mh_inline.specs.code.DepthFirst.{IsDepthSearch};
 ghost use Rattle.mh_inline.specs.Sentences.{KeepsSentences};
 
 use crate::cycles::first_cyclic;
-use crate::depth::{Search, depth_first};
+use crate::depth::{DepthSearch, depth_first};
 use crate::fault::InlineFault;
 use crate::nonterminals::{nonterminals_of, numbers_of, starts_of};
 use crate::origins::{Origin, origins_of};
@@ -24,18 +24,18 @@ use crate::productions::{productions_of, size_of_origins};
 use crate::sizes::inline_sizes;
 use crate::unfoldings::unfold_inline;
 use mh_grammar::{Grammar, Memory, Name, Production, Sequence, TokenInfo, productive};
-use mh_inline_unfold::{Sizing, is_inline, is_small};
+use mh_inline_unfold::{SizeTable, is_inline, is_small};
 use mh_rules::Expanded;
 use std::alloc::Global;
 
 fn name_of(expanded: &Expanded, number: usize) -> Result<Name, Memory>
     requires { number < length expanded.now.instances }
-    ensures { IfOk result (IsNamed expanded.now number) }
+    ensures { IfOk result (IsInstanceNamed expanded.now number) }
 {
     Ok(expanded.instances[number].name.clone()?)
 }
 
-/// The first start that is inline.
+/// The number of the first start symbol that is inline.
 fn first_inline_start(expanded: &Expanded) -> Option<u32>
     ensures { MatchOption result (HasNoInlineStart expanded.now) (IsFirstInlineStartAt expanded.now) }
 {
@@ -47,7 +47,7 @@ fn first_inline_start(expanded: &Expanded) -> Option<u32>
     None
 }
 
-/// The place of the first start that is not marked.
+/// The position of the first start symbol that is not marked as productive.
 fn first_empty(marks: &[bool], starts: &[u16]) -> Option<usize>
     requires { All (λ s. s < length marks.now) starts.now }
     ensures { MatchOption result (All (λ s. slice_index_or marks.now s false ≡ true) starts.now) (IsFirstUnmarked marks.now starts.now) }
@@ -99,16 +99,16 @@ fn tokens_of(expanded: &Expanded) -> Result<Sequence<TokenInfo>, Memory>
     Ok(expanded.tokens.clone()?)
 }
 
-/// The productions of the alternatives in their order.
+/// The productions of the alternatives, in order.
 fn all_productions(
     alloc: Global,
     expanded: &Expanded,
-    sizing: &Sizing,
+    sizing: &SizeTable,
     origins: &[Origin],
     numbers: &[u16],
 ) -> Result<Vec<Production>, Memory>
     requires ready { IsExpandedReady expanded.now }
-    requires sizing { IsSizing expanded.now.instances sizing.now }
+    requires sizing { IsSizeTable expanded.now.instances sizing.now }
     requires sized { AreAllSized expanded.now.instances sizing.now.sizes.items }
     requires origins { AreOrigins expanded.now.instances origins.now }
     requires small { AreOriginsSmall expanded.now.tokens expanded.now.instances origins.now }
@@ -119,22 +119,22 @@ fn all_productions(
     productions_of(alloc, expanded, &known, numbers, origins)
 }
 
-/// The grammar from the alternatives in their order, where the instances have these numbers.
+/// The grammar of these alternatives, where `numbers` gives the number of each instance as a nonterminal.
 fn grammar_by(
     alloc: Global,
     expanded: &Expanded,
-    sizing: &Sizing,
+    sizing: &SizeTable,
     origins: &[Origin],
     numbers: &[u16],
 ) -> Result<Grammar, Memory>
     requires ready { IsExpandedReady expanded.now }
-    requires sizing { IsSizing expanded.now.instances sizing.now }
+    requires sizing { IsSizeTable expanded.now.instances sizing.now }
     requires sized { AreAllSized expanded.now.instances sizing.now.sizes.items }
     requires origins { AreOrigins expanded.now.instances origins.now }
     requires small { AreOriginsSmall expanded.now.tokens expanded.now.instances origins.now }
     requires numbers { AreNumbers expanded.now.instances numbers.now }
     ensures inlined { IfOk result (IsInlined expanded.now) }
-    ensures small { IfOk result IsSmall }
+    ensures small { IfOk result IsWithinLimits }
 {
     let starts = starts_of(alloc, expanded.starts.as_slice(), numbers)?;
     let nonterminals = nonterminals_of(alloc, expanded.instances.as_slice())?;
@@ -147,32 +147,32 @@ fn grammar_by(
     })
 }
 
-/// The same with their numbers made.
+/// The grammar of these alternatives.
 fn grammar_of(
     alloc: Global,
     expanded: &Expanded,
-    sizing: &Sizing,
+    sizing: &SizeTable,
     origins: &[Origin],
 ) -> Result<Grammar, Memory>
     requires ready { IsExpandedReady expanded.now }
-    requires sizing { IsSizing expanded.now.instances sizing.now }
+    requires sizing { IsSizeTable expanded.now.instances sizing.now }
     requires sized { AreAllSized expanded.now.instances sizing.now.sizes.items }
     requires origins { AreOrigins expanded.now.instances origins.now }
     requires small { AreOriginsSmall expanded.now.tokens expanded.now.instances origins.now }
     ensures inlined { IfOk result (IsInlined expanded.now) }
-    ensures small { IfOk result IsSmall }
+    ensures small { IfOk result IsWithinLimits }
 {
     let numbers = numbers_of(alloc, expanded.instances.as_slice())?;
     grammar_by(alloc, expanded, sizing, origins, &numbers)
 }
 
-/// The grammar, if each start has a finite tree.
+/// The grammar, or a fault if a start symbol has no finite tree.
 fn with_trees(alloc: Global, expanded: &Expanded, grammar: Grammar) -> Result<Grammar, InlineFault>
     requires ready { IsExpandedReady expanded.now }
     requires acyclic { HasNoCycle expanded.now }
     requires kept { HasNoInlineStart expanded.now }
     requires inlined { IsInlined expanded.now grammar }
-    requires small { IsSmall grammar }
+    requires small { IsWithinLimits grammar }
     ensures grammar { IfOk result (IsGrammarOf expanded.now) }
     ensures fault { IfErr result (IsFault expanded.now) }
 {
@@ -183,10 +183,14 @@ fn with_trees(alloc: Global, expanded: &Expanded, grammar: Grammar) -> Result<Gr
     }
 }
 
-/// The grammar, where no start is inline.
-fn inline_kept(alloc: Global, expanded: &Expanded, sizing: &Sizing) -> Result<Grammar, InlineFault>
+/// The grammar or the first fault, if no start symbol is inline and no instance reaches itself.
+fn inline_kept(
+    alloc: Global,
+    expanded: &Expanded,
+    sizing: &SizeTable,
+) -> Result<Grammar, InlineFault>
     requires ready { IsExpandedReady expanded.now }
-    requires sizing { IsSizing expanded.now.instances sizing.now }
+    requires sizing { IsSizeTable expanded.now.instances sizing.now }
     requires sized { AreAllSized expanded.now.instances sizing.now.sizes.items }
     requires acyclic { HasNoCycle expanded.now }
     requires kept { HasNoInlineStart expanded.now }
@@ -202,15 +206,15 @@ fn inline_kept(alloc: Global, expanded: &Expanded, sizing: &Sizing) -> Result<Gr
     with_trees(alloc, expanded, grammar)
 }
 
-/// The grammar, or the first fault, where the first instance that reaches itself was asked for.
+/// The grammar or the first fault, where `cyclic` is the first instance that reaches itself, if there is one.
 fn inline_unless_cyclic(
     alloc: Global,
     expanded: &Expanded,
-    sizing: &Sizing,
+    sizing: &SizeTable,
     cyclic: Option<usize>,
 ) -> Result<Grammar, InlineFault>
     requires ready { IsExpandedReady expanded.now }
-    requires sizing { IsSizing expanded.now.instances sizing.now }
+    requires sizing { IsSizeTable expanded.now.instances sizing.now }
     requires first { MatchOption cyclic (HasNoCycle expanded.now) (IsFirstCyclicAt expanded.now) }
     requires sized { IfNone cyclic (AreAllSized expanded.now.instances sizing.now.sizes.items) }
     ensures grammar { IfOk result (IsGrammarOf expanded.now) }
@@ -225,14 +229,14 @@ fn inline_unless_cyclic(
     inline_kept(alloc, expanded, sizing)
 }
 
-/// The grammar, or the first fault, behind a search.
+/// The grammar or the first fault, after the depth-first search.
 fn inline_searched(
     alloc: Global,
     expanded: &Expanded,
-    search: &Search,
+    search: &DepthSearch,
 ) -> Result<Grammar, InlineFault>
     requires ready { IsExpandedReady expanded.now }
-    requires search { IsSearch (length expanded.now.instances) search.now }
+    requires search { IsDepthSearch (length expanded.now.instances) search.now }
     ensures grammar { IfOk result (IsGrammarOf expanded.now) }
     ensures fault { IfErr result (IsFault expanded.now) }
 {
@@ -241,19 +245,20 @@ fn inline_searched(
     inline_unless_cyclic(alloc, expanded, &sizing, cyclic)
 }
 
-/// The grammar that the instances give when each inline producer is replaced by each of its own alternatives, in turn fully
-/// inlined (Menhir manual, `%inline`), or the first fault. Each start has the same sentences as before.
+/// Computes the grammar of expanded instances: each inline producer is replaced by each of its own alternatives,
+/// themselves fully inlined (Menhir manual, `%inline`). Each start symbol has the same sentences as before.
 ///
-/// An alternative gives a production for each way to choose among the alternatives of its inline producers; the choice for
-/// the leftmost producer varies slowest. Of the `%prec` in it the alternative's own wins, else that of the rightmost inlined
-/// alternative that has one; without any, the level is that of the rightmost token. The productions stand in the order of
-/// their alternatives: by file, the prelude behind the files of the command line, by place in the file, by instance,
-/// and then in the order of the choices. The instances that are not inline are the nonterminals, in their order.
+/// An alternative gives one production for each choice of alternatives for its inline producers; the choice for the
+/// leftmost producer varies slowest. The production takes the `%prec` of the alternative itself, else that of the
+/// rightmost inlined alternative that has one; without any `%prec`, its level is that of its rightmost token. The
+/// productions have the order of their alternatives: by file, in the order of the command line with the prelude last;
+/// by position in the file; by instance; and then in the order of the choices. The nonterminals are the instances that
+/// are not inline, in their order.
 ///
-/// The first of these faults is answered: `InlineCycle` with the first instance that reaches itself through inline ones;
-/// `InlineStart` with the first start that is inline; `TooManyProductions` for more than 20,000 productions or more than
-/// 10,000 symbols in one, which are counted before any is made; `EmptyLanguage` with the first start that has no finite tree.
-/// `Memory` is answered only where memory runs out.
+/// Returns the first of these faults, if there is one: `InlineCycle` with the first instance that reaches itself
+/// through inline instances; `InlineStart` with the first start symbol that is inline; `TooManyProductions` for more
+/// than 20,000 productions, or more than 10,000 symbols in one of them, which are counted before any production is
+/// made; `EmptyLanguage` with the first start symbol that has no finite tree. Returns `Memory` only if memory runs out.
 pub fn inline_rules(alloc: Global, expanded: &Expanded) -> Result<Grammar, InlineFault>
     requires { IsExpandedReady expanded.now }
     ensures grammar { IfOk result (IsGrammarOf expanded.now) }

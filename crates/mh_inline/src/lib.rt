@@ -1,13 +1,9 @@
-//! What is found of inline instances before any is replaced: an order in which each stands behind those that it is made of, the
-//! first that reaches itself, and how many unfoldings each has.
+//! Replaces inline producers by their alternatives and numbers the remaining instances, which gives the grammar.
 //!
-//! The unfoldings of inline instances: each is made from those of the instances that it is made of, and let go of or moved where they are
-//! used last.
-//!
-//! What of the instances the grammar keeps: its nonterminals with their numbers, and the alternatives in the order of their productions.
-//!
-//! The grammar that instances give: each inline producer is replaced by each of its own alternatives, and what is left
-//! is numbered.
+//! The work has these parts. A search of the inline instances finds an order in which each comes after those that it
+//! uses, the first that reaches itself, and the number of unfoldings of each. The unfoldings of each inline instance
+//! are made from those of the instances that it uses, and are dropped, or moved, at their last use. The instances that
+//! are not inline become the nonterminals, and their alternatives are sorted by the order of their productions.
 #![tactic(auto)]
 
 mod cycles;

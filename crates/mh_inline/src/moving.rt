@@ -1,11 +1,11 @@
-//! Unfoldings that are moved: those of a producer that no instance behind needs go on in the unfoldings of the one that is made of them, and
-//! are not copied. So each link of a chain of inline instances costs what it adds.
+//! Moves unfoldings at their last use: the unfoldings of a producer that no later instance needs become part of the
+//! result without being copied. So each link in a chain of inline instances costs only the symbols that it adds.
 ghost use Rattle.std.specs.Prelude.{◌≡◌, ◌<◌, ◌≤◌, ◌⊎◌, ◌++◌, ◌+◌, [], ◌∷◌, Some, suc, true, false, length, map, drop, slice_get, slice_set, slice_index_or, take, IfOk, IfSome, OnOk};
 ghost use Rattle.mh_rules.specs.declared.instances.Instance.{Instance as Row};
 ghost use Rattle.mh_inline_unfold.specs.Instances.{is_inlined};
-ghost use Rattle.mh_inline.specs.code.Known.{AreEachKnown, AreKnown, IsKnown};
-ghost use Rattle.mh_inline.specs.code.LastUse.{IsCandidate, IsLastIn, IsLastOf, IsLastUse, MayLack};
-ghost use Rattle.mh_inline_unfold.specs.Unfoldings.{own, Unfolds, UnfoldsEach};
+ghost use Rattle.mh_inline.specs.code.KnownUnfoldings.{AreEachKnown, AreKnown, IsKnown};
+ghost use Rattle.mh_inline.specs.code.MovableProducers.{IsCandidate, IsLastUseIn, IsInlineProducerOf, IsLastUse, LacksOnlyMoved};
+ghost use Rattle.mh_inline_unfold.specs.Unfoldings.{with_own_prec, Unfolds, UnfoldsEach};
 
 use crate::unfoldings::{unfold_alternatives, unfold_side};
 use mh_grammar::{Memory, Sequence};
@@ -14,7 +14,8 @@ use mh_rules::{Expanded, InstanceProduction, Part, Prec};
 use std::alloc::Global;
 use std::mem;
 
-/// A producer whose unfoldings no instance behind needs: the place of its alternative, its place there, and its number.
+/// A producer whose unfoldings no later instance needs: the position of its alternative, its position there, and the
+/// number of its instance.
 #[derive(Clone, Copy)]
 pub struct LastUse {
     pub alternative: usize,
@@ -22,7 +23,7 @@ pub struct LastUse {
     pub number: usize,
 }
 
-/// Whether the last place of an instance is behind this one.
+/// Whether an instance is used after this position of the order.
 fn is_needed_behind(last: &[usize], number: usize, place: usize) -> bool
     ensures { result ≡ false → slice_index_or last.now number 0 ≤ place }
 {
@@ -32,7 +33,7 @@ fn is_needed_behind(last: &[usize], number: usize, place: usize) -> bool
     }
 }
 
-/// A producer, if it is inline and not needed behind this place.
+/// The producer, if it is inline and is not used after this position of the order.
 fn candidate(
     expanded: &Expanded,
     last: &[usize],
@@ -61,7 +62,7 @@ fn count_of(known: &[Sequence<Unfolding>], number: usize) -> usize {
     }
 }
 
-/// The one of two with more unfoldings: where the most are moved, each is copied seldom.
+/// Returns the one of two producers that has more unfoldings. To move the longest list saves the most copies.
 fn larger(
     known: &[Sequence<Unfolding>],
     best: Option<LastUse>,
@@ -78,7 +79,7 @@ fn larger(
     }
 }
 
-/// That of the producers of an alternative with the most unfoldings.
+/// The producer with the most unfoldings among those of an alternative that are not used later.
 fn last_use_in(
     expanded: &Expanded,
     known: &[Sequence<Unfolding>],
@@ -87,7 +88,7 @@ fn last_use_in(
     alternative: usize,
     producers: &[Part],
 ) -> Option<LastUse>
-    ensures { IfSome result (IsLastIn expanded.now.instances last.now place alternative producers.now) }
+    ensures { IfSome result (IsLastUseIn expanded.now.instances last.now place alternative producers.now) }
 {
     let mut best = None;
     for (producer, part) in producers.iter().enumerate() {
@@ -97,7 +98,7 @@ fn last_use_in(
     best
 }
 
-/// That of the producers of some alternatives with the most unfoldings.
+/// The producer with the most unfoldings among those of these alternatives that are not used later.
 fn last_use(
     expanded: &Expanded,
     known: &[Sequence<Unfolding>],
@@ -116,7 +117,7 @@ fn last_use(
     best
 }
 
-/// The same for an instance.
+/// The producer with the most unfoldings among those of an instance that are not used later.
 pub(crate) fn last_use_of(
     expanded: &Expanded,
     known: &[Sequence<Unfolding>],
@@ -145,7 +146,7 @@ fn rest_from<T>(items: &[T], at: usize) -> &[T]
     &items[at + 1..]
 }
 
-/// Takes the unfoldings of an instance out of those that are known.
+/// Removes the unfoldings of an instance from the list `known` and returns them.
 fn moved_out(alloc: Global, known: &mut Vec<Sequence<Unfolding>>, number: usize) -> Vec<Unfolding>
     requires { number < length known.old.items }
     ensures taken { slice_get known.old.items number ≡ Some result.items }
@@ -154,7 +155,7 @@ fn moved_out(alloc: Global, known: &mut Vec<Sequence<Unfolding>>, number: usize)
     mem::replace(&mut known[number], Sequence::new(alloc)).into_vec()
 }
 
-/// The unfoldings of some producers and of an inline one behind them, which are moved.
+/// The unfoldings of some producers followed by an inline one, whose unfoldings are moved.
 fn unfold_to_last(
     alloc: Global,
     expanded: &Expanded,
@@ -176,7 +177,7 @@ fn unfold_to_last(
     Ok(all)
 }
 
-/// The unfoldings of the producers of an alternative, where those of one are moved.
+/// The unfoldings of the producers of an alternative, where those of one producer are moved.
 fn unfold_around(
     alloc: Global,
     expanded: &Expanded,
@@ -201,13 +202,13 @@ fn unfold_around(
     Ok(all)
 }
 
-/// Unfoldings behind others, with the `%prec` of the alternative that they are inlined into.
+/// Appends unfoldings to others, with the `%prec` of the alternative whose producers they unfold.
 fn own_behind(
     mut all: Vec<Unfolding>,
     prec: Prec,
     unfoldings: Vec<Unfolding>,
 ) -> Result<Vec<Unfolding>, Memory>
-    ensures { IfOk result (λ more. more.items ≡ all.items ++ map (own prec) unfoldings.items) }
+    ensures { IfOk result (λ more. more.items ≡ all.items ++ map (with_own_prec prec) unfoldings.items) }
 {
     if all.is_empty() {
         return Ok(with_own(prec, unfoldings));
@@ -216,7 +217,7 @@ fn own_behind(
     Ok(all)
 }
 
-/// The unfoldings of the alternatives to the one of which a producer's are moved.
+/// The unfoldings of the alternatives up to the one with the moved producer.
 fn unfold_to_alternative(
     alloc: Global,
     expanded: &Expanded,
@@ -225,7 +226,7 @@ fn unfold_to_alternative(
     last_use: LastUse,
 ) -> Result<Vec<Unfolding>, Memory>
     requires known { AreEachKnown expanded.now.instances known.old.items productions.now }
-    requires last { IsLastOf expanded.now.instances productions.now last_use }
+    requires last { IsInlineProducerOf expanded.now.instances productions.now last_use }
     ensures unfolds { IfOk result (λ all. UnfoldsEach expanded.now.instances (take (last_use.alternative + 1) productions.now) all.items) }
     ensures left { OnOk result (known.new.items ≡ slice_set known.old.items last_use.number []) }
 {
@@ -236,7 +237,7 @@ fn unfold_to_alternative(
     own_behind(before, production.prec, side)
 }
 
-/// The unfoldings of some alternatives, where those of a producer are moved.
+/// The unfoldings of these alternatives, where those of one producer are moved.
 fn unfold_moved(
     alloc: Global,
     expanded: &Expanded,
@@ -245,7 +246,7 @@ fn unfold_moved(
     last_use: LastUse,
 ) -> Result<Vec<Unfolding>, Memory>
     requires known { AreEachKnown expanded.now.instances known.old.items productions.now }
-    requires last { IsLastOf expanded.now.instances productions.now last_use }
+    requires last { IsInlineProducerOf expanded.now.instances productions.now last_use }
     ensures unfolds { IfOk result (λ all. UnfoldsEach expanded.now.instances productions.now all.items) }
     ensures left { OnOk result (known.new.items ≡ slice_set known.old.items last_use.number []) }
 {
@@ -256,7 +257,7 @@ fn unfold_moved(
     Ok(all)
 }
 
-/// The unfoldings of some alternatives, where those of a producer are moved if there is one that may lose them.
+/// The unfoldings of these alternatives; the unfoldings of the given producer are moved, if there is one.
 pub(crate) fn unfold_with(
     alloc: Global,
     expanded: &Expanded,
@@ -265,9 +266,9 @@ pub(crate) fn unfold_with(
     last_use: Option<LastUse>,
 ) -> Result<Vec<Unfolding>, Memory>
     requires known { AreEachKnown expanded.now.instances known.old.items productions.now }
-    requires last { IfSome last_use (IsLastOf expanded.now.instances productions.now) }
+    requires last { IfSome last_use (IsInlineProducerOf expanded.now.instances productions.now) }
     ensures unfolds { IfOk result (λ all. UnfoldsEach expanded.now.instances productions.now all.items) }
-    ensures known { OnOk result (MayLack last_use known.old.items known.new.items) }
+    ensures known { OnOk result (LacksOnlyMoved last_use known.old.items known.new.items) }
 {
     match last_use {
         Some(last_use) => unfold_moved(alloc, expanded, known, productions, last_use),

@@ -1,17 +1,17 @@
-//! The nonterminals of the grammar, and their numbers.
+//! The nonterminals of the grammar and their numbers.
 ghost use Rattle.std.specs.Prelude.{◌≡◌, ◌+◌, ◌<◌, ◌≤◌, length, map, filter, slice_index, IfOk};
 ghost use Rattle.std.specs.List.{All};
 ghost use Rattle.mh_grammar.specs.declared.types.TheConstants.{MAX_NUMBERED};
 ghost use Rattle.mh_rules.specs.declared.instances.TheConstants.{MAX_INSTANCES};
 ghost use Rattle.mh_rules.specs.Ready.{IsPartBelow};
 ghost use Rattle.mh_inline.specs.Kept.{is_kept, nonterminal_of};
-ghost use Rattle.mh_inline.specs.code.Keeping.{symbol_by, AreNumbers};
+ghost use Rattle.mh_inline.specs.code.NumbersAndOrigins.{symbol_by, AreNumbers};
 
 use mh_grammar::{Memory, NontermInfo, Symbol};
 use mh_rules::{Instance, Part};
 use std::alloc::Global;
 
-/// For each instance, how many before it are not inline. Fails for want of memory alone.
+/// For each instance, the number of instances before it that are not inline. Fails only if memory runs out.
 pub(crate) fn numbers_of(alloc: Global, instances: &[Instance]) -> Result<Vec<u16>, Memory>
     requires { length instances.now ≤ MAX_INSTANCES }
     ensures { IfOk result (λ v. AreNumbers instances.now v.items) }
@@ -36,7 +36,8 @@ fn nonterminal(instance: &Instance) -> Result<NontermInfo, Memory>
     })
 }
 
-/// The nonterminals of the grammar: the instances that are not inline, in their order. Fails for want of memory alone.
+/// The nonterminals of the grammar, which are the instances that are not inline, in their order. Fails only if memory
+/// runs out.
 pub(crate) fn nonterminals_of(
     alloc: Global,
     instances: &[Instance],
@@ -62,7 +63,7 @@ fn symbol(numbers: &[u16], part: Part) -> Symbol
     }
 }
 
-/// The symbols of producers, an instance by its number among the nonterminals. Fails for want of memory alone.
+/// The symbols of producers; an instance is given by its number as a nonterminal. Fails only if memory runs out.
 pub(crate) fn symbols(alloc: Global, numbers: &[u16], parts: &[Part]) -> Result<Vec<Symbol>, Memory>
     requires { All (IsPartBelow (MAX_NUMBERED + 1) (length numbers.now)) parts.now }
     ensures { IfOk result (λ v. v.items ≡ map (symbol_by numbers.now) parts.now) }
@@ -74,7 +75,7 @@ pub(crate) fn symbols(alloc: Global, numbers: &[u16], parts: &[Part]) -> Result<
     Ok(symbols)
 }
 
-/// The starts, each by its number among the nonterminals. Fails for want of memory alone.
+/// The start symbols, each by its number as a nonterminal. Fails only if memory runs out.
 pub(crate) fn starts_of(alloc: Global, starts: &[u32], numbers: &[u16]) -> Result<Vec<u16>, Memory>
     requires { All (λ s. s < length numbers.now) starts.now }
     ensures { IfOk result (λ v. v.items ≡ map (slice_index numbers.now) starts.now) }

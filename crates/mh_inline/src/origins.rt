@@ -3,9 +3,9 @@ ghost use Rattle.std.specs.Prelude.{◌≡◌, ◌+◌, ◌<◌, ◌≤◌, fals
 ghost use Rattle.mh_inline_unfold.specs.Instances.{is_inlined};
 ghost use Rattle.mh_rules.specs.declared.instances.TheConstants.{MAX_INSTANCES};
 ghost use Rattle.mh_rules.specs.Ready.{IsExpandedReady};
-ghost use Rattle.mh_inline_unfold.specs.Ranks.{rank_of};
+ghost use Rattle.mh_inline_unfold.specs.FileRanks.{rank_of};
 ghost use Rattle.mh_inline.specs.Kept.{AreOrigins};
-ghost use Rattle.mh_inline.specs.code.Keeping.{AreOriginsBelow};
+ghost use Rattle.mh_inline.specs.code.NumbersAndOrigins.{AreOriginsBelow};
 
 use mh_grammar::Memory;
 use mh_inline_unfold::{is_inline, rank};
@@ -13,8 +13,8 @@ use mh_rules::{Expanded, InstanceProduction};
 use std::alloc::{AllocError, Global};
 use std::collections::BTreeSet;
 
-/// Where the productions of an alternative come from, which is what they are ordered by: the rank of its file and its place
-/// there, its instance and its place among the alternatives of that.
+/// The alternative from which productions are made, by the four numbers that give its order: the rank of its file, its
+/// position in the file, the number of its instance, and its position among the alternatives of the instance.
 #[derive(Clone, Copy, PartialEq, Eq, PartialOrd, Ord)]
 pub struct Origin {
     pub rank: u64,
@@ -34,7 +34,7 @@ fn origin_of(number: u32, alternative: u64, production: &InstanceProduction) -> 
     }
 }
 
-/// Adds the alternatives of an instance.
+/// Inserts the alternatives of an instance.
 fn add_origins(
     expanded: &Expanded,
     number: usize,
@@ -59,8 +59,8 @@ fn in_order(alloc: Global, origins: BTreeSet<Origin>) -> Result<Vec<Origin>, All
     origins.into_iter().collect(alloc)
 }
 
-/// The alternatives of the instances that are not inline, in the order of their productions. Fails for want of memory
-/// alone.
+/// The alternatives of the instances that are not inline, in the order of their productions. Fails only if memory runs
+/// out.
 pub(crate) fn origins_of(alloc: Global, expanded: &Expanded) -> Result<Vec<Origin>, Memory>
     requires { length expanded.now.instances ≤ MAX_INSTANCES }
     ensures { IfOk result (λ v. AreOrigins expanded.now.instances v.items) }

@@ -4,19 +4,19 @@ ghost use Rattle.std.specs.List.{All};
 ghost use Rattle.mh_grammar.specs.declared.types.TheConstants.{MAX_NUMBERED};
 ghost use Rattle.mh_inline_unfold.specs.Instances.{IsAlternative};
 ghost use Rattle.mh_rules.specs.Ready.{IsExpandedReady};
-ghost use Rattle.mh_inline_unfold.specs.Unfoldings.{own};
-ghost use Rattle.mh_inline_unfold.specs.code.Sizes.{AreAllSized, IsSizing};
+ghost use Rattle.mh_inline_unfold.specs.Unfoldings.{with_own_prec};
+ghost use Rattle.mh_inline_unfold.specs.code.Sizes.{AreAllSized, IsSizeTable};
 ghost use Rattle.mh_inline.specs.Kept.{IsOrigin};
 ghost use Rattle.mh_inline.specs.Inlined.{last_token, level_of, token_level, AreProductions};
-ghost use Rattle.mh_inline.specs.code.Keeping.{AreNumbers};
-ghost use Rattle.mh_inline.specs.code.Making.{production_by, token_else, AddsOrigin, IsOriginKnown, IsOriginsSize, IsUnfoldingBelow};
+ghost use Rattle.mh_inline.specs.code.NumbersAndOrigins.{AreNumbers};
+ghost use Rattle.mh_inline.specs.code.ProductionParts.{production_by, token_else, AddsOrigin, IsOriginKnown, IsOriginsSize, IsUnfoldingBelow};
 
 use crate::nonterminals::symbols;
 use crate::origins::Origin;
 use crate::sizes::size_of_side;
 use crate::unfoldings::unfold_side;
 use mh_grammar::{Level, Memory, Production, Sequence, Token, TokenInfo};
-use mh_inline_unfold::{Size, Sizing, Unfolding, plus, rightmost_prec};
+use mh_inline_unfold::{Size, SizeTable, Unfolding, plus, rightmost_prec};
 use mh_rules::{Expanded, InstanceProduction, Part, Prec};
 use std::alloc::Global;
 
@@ -48,7 +48,7 @@ fn level_of_token(tokens: &[TokenInfo], token: Token) -> Option<Level>
     }
 }
 
-/// The level of a `%prec`, else that of the rightmost token.
+/// The level of a production: that of the `%prec`, if one is given, else that of the rightmost token.
 fn level(tokens: &[TokenInfo], prec: Prec, rhs: &[Part]) -> Option<Level>
     ensures { result ≡ level_of tokens.now prec rhs.now }
 {
@@ -61,7 +61,7 @@ fn level(tokens: &[TokenInfo], prec: Prec, rhs: &[Part]) -> Option<Level>
     }
 }
 
-/// What the productions of one alternative share.
+/// The values that all productions of one alternative share.
 #[derive(Clone, Copy)]
 struct Shared<'a> {
     tokens: &'a [TokenInfo],
@@ -72,7 +72,7 @@ struct Shared<'a> {
 
 fn production(alloc: Global, shared: &Shared<'_>, choice: &Unfolding) -> Result<Production, Memory>
     requires { IsUnfoldingBelow (MAX_NUMBERED + 1) (length shared.now.numbers.now) choice.now }
-    ensures { IfOk result (λ p. p ≡ production_by shared.now.tokens.now shared.now.numbers.now shared.now.lhs (own shared.now.prec choice.now)) }
+    ensures { IfOk result (λ p. p ≡ production_by shared.now.tokens.now shared.now.numbers.now shared.now.lhs (with_own_prec shared.now.prec choice.now)) }
 {
     let parts = choice.rhs.to_vec(alloc)?;
     Ok(Production {
@@ -93,7 +93,7 @@ fn add_productions(
     productions: &mut Vec<Production>,
 ) -> Result<(), Memory>
     requires { All (IsUnfoldingBelow (MAX_NUMBERED + 1) (length shared.now.numbers.now)) unfoldings.now }
-    ensures { OnOk result (productions.new.items ≡ productions.old.items ++ map (λ u. production_by shared.now.tokens.now shared.now.numbers.now shared.now.lhs (own shared.now.prec u)) unfoldings.now) }
+    ensures { OnOk result (productions.new.items ≡ productions.old.items ++ map (λ u. production_by shared.now.tokens.now shared.now.numbers.now shared.now.lhs (with_own_prec shared.now.prec u)) unfoldings.now) }
 {
     for choice in unfoldings {
         productions.push(production(alloc, shared, choice)?)?;
@@ -108,9 +108,10 @@ fn alternative<'a>(expanded: &'a Expanded, origin: &Origin) -> &'a InstanceProdu
     &expanded.instances[origin.instance as usize].productions[origin.alternative as usize]
 }
 
-/// How many productions there are, and how long the longest is.
-pub(crate) fn size_of_origins(expanded: &Expanded, sizing: &Sizing, origins: &[Origin]) -> Size
-    requires sizing { IsSizing expanded.now.instances sizing.now }
+/// The number of productions of these alternatives and the length of the longest, each capped at one more than its
+/// limit.
+pub(crate) fn size_of_origins(expanded: &Expanded, sizing: &SizeTable, origins: &[Origin]) -> Size
+    requires sizing { IsSizeTable expanded.now.instances sizing.now }
     requires sized { AreAllSized expanded.now.instances sizing.now.sizes.items }
     requires origins { All (IsOrigin expanded.now.instances) origins.now }
     ensures { IsOriginsSize expanded.now.tokens expanded.now.instances origins.now result }
@@ -129,7 +130,7 @@ pub(crate) fn size_of_origins(expanded: &Expanded, sizing: &Sizing, origins: &[O
     size
 }
 
-/// Adds the productions of an alternative.
+/// Appends the productions of an alternative.
 fn add_origin(
     alloc: Global,
     expanded: &Expanded,
@@ -155,7 +156,7 @@ fn add_origin(
     add_productions(alloc, &shared, unfoldings.as_slice(), productions)
 }
 
-/// The productions of all alternatives, in their order.
+/// The productions of all alternatives, in order.
 pub(crate) fn productions_of(
     alloc: Global,
     expanded: &Expanded,

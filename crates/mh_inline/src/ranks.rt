@@ -1,8 +1,9 @@
-//! Ranks of instances: what an inline instance is made of has no higher rank, and a lower one where it lies on no cycle with it.
+//! Ranks of instances. An inline instance uses no instance of a higher rank; the instances that it uses have lower
+//! ranks, unless they are on a cycle with it.
 ghost use Rattle.std.specs.Prelude.{◌≡◌, ◌<◌, length, slice_index_or, IfOk, IsTrue};
 ghost use Rattle.std.specs.List.{All};
 ghost use Rattle.mh_inline_unfold.specs.Instances.{Reaches};
-ghost use Rattle.mh_inline.specs.code.Ranks.{AreRanked, IsAbove, IsRanked};
+ghost use Rattle.mh_inline.specs.code.InstanceRanks.{AreRanked, IsRankedAbove, IsRanked};
 
 use mh_grammar::Memory;
 use mh_inline_unfold::{inlined_in, is_inline};
@@ -29,7 +30,7 @@ fn are_below(ranks: &[usize], numbers: &[usize], bound: usize) -> bool
     true
 }
 
-/// Whether all that an instance is made of has a rank below this one.
+/// Whether all inline instances that an instance uses have ranks below this one.
 fn is_above(
     alloc: Global,
     expanded: &Expanded,
@@ -38,7 +39,7 @@ fn is_above(
     rank: usize,
 ) -> Result<bool, Memory>
     requires { number < length expanded.now.instances }
-    ensures { IfOk result (λ above. IsTrue above → IsAbove expanded.now.instances ranks.now number rank) }
+    ensures { IfOk result (λ above. IsTrue above → IsRankedAbove expanded.now.instances ranks.now number rank) }
 {
     let made_of = inlined_in(alloc, expanded, number)?;
     Ok(are_below(ranks, made_of.as_slice(), rank))
@@ -60,7 +61,7 @@ fn is_ranked(
     is_above(alloc, expanded, ranks, number, bound)
 }
 
-/// Whether no inline instance is made of one of a higher rank.
+/// Whether no inline instance uses an instance of a higher rank.
 pub(crate) fn are_ranked(
     alloc: Global,
     expanded: &Expanded,
@@ -76,7 +77,7 @@ pub(crate) fn are_ranked(
     Ok(true)
 }
 
-/// Whether the ranks tell that an instance does not reach itself.
+/// Whether the ranks show that an instance does not reach itself.
 pub(crate) fn is_on_no_cycle(
     alloc: Global,
     expanded: &Expanded,

@@ -1,11 +1,14 @@
-//! How many unfoldings there are, and how long they are, without making them: there may be exponentially many.
+//! Computes the number of unfoldings and their greatest length without making them, because there may be exponentially
+//! many.
 ghost use Rattle.std.specs.Prelude.{◌≡◌, ◌+◌, ◌*◌, ◌<◌, ◌↔◌, [], ◌∷◌, false, min, length, IfOk, OnOk, OnSome, IsTrue, MatchOption};
 ghost use Rattle.std.specs.List.{All};
 ghost use Rattle.mh_rules.specs.Ready.{IsExpandedReady};
-ghost use Rattle.mh_inline_unfold.specs.code.Sizes.{AreEachSized, AreSettled, AreSized, AreSizes, IsBlocked, IsEachBlocked, IsEachSize, IsPartSize, IsSettled, IsSideSize, IsSizing, unsized_count};
+ghost use Rattle.mh_inline_unfold.specs.code.Sizes.{AreEachSized, IsSizeFixedPoint, AreSized, AreSizes, HasUnsizedProducer, HasUnsizedAlternative, IsEachSize, IsPartSize, IsFixedAt, IsSideSize, IsSizeTable, unsized_count};
 
 use mh_grammar::Memory;
-use mh_inline_unfold::{MAX_PRODUCTIONS, MAX_SYMBOLS, Size, Sizing, inline_part, is_inline, plus};
+use mh_inline_unfold::{
+    MAX_PRODUCTIONS, MAX_SYMBOLS, Size, SizeTable, inline_part, is_inline, plus,
+};
 use mh_rules::{Expanded, InstanceProduction, Part};
 use std::alloc::Global;
 
@@ -27,7 +30,7 @@ fn times(left: Size, right: Size) -> Size
 
 fn size_of_part(expanded: &Expanded, sizes: &[Option<Size>], part: Part) -> Option<Size>
     requires { AreSizes expanded.now.instances sizes.now }
-    ensures size { MatchOption result (IsBlocked expanded.now.instances sizes.now (part ∷ [])) (IsPartSize expanded.now.instances part) }
+    ensures size { MatchOption result (HasUnsizedProducer expanded.now.instances sizes.now (part ∷ [])) (IsPartSize expanded.now.instances part) }
     ensures sized { OnSome result (AreSized expanded.now.instances sizes.now (part ∷ [])) }
 {
     match inline_part(expanded, part) {
@@ -39,14 +42,14 @@ fn size_of_part(expanded: &Expanded, sizes: &[Option<Size>], part: Part) -> Opti
     }
 }
 
-/// The size of some producers, if those of the inline ones among them are known.
+/// The size of a list of producers, if each inline producer in the list has a size.
 pub(crate) fn size_of_side(
     expanded: &Expanded,
     sizes: &[Option<Size>],
     producers: &[Part],
 ) -> Option<Size>
     requires { AreSizes expanded.now.instances sizes.now }
-    ensures size { MatchOption result (IsBlocked expanded.now.instances sizes.now producers.now) (IsSideSize expanded.now.instances producers.now) }
+    ensures size { MatchOption result (HasUnsizedProducer expanded.now.instances sizes.now producers.now) (IsSideSize expanded.now.instances producers.now) }
     ensures sized { OnSome result (AreSized expanded.now.instances sizes.now producers.now) }
 {
     let mut size = Size {
@@ -68,7 +71,7 @@ fn size_of_alternatives(
     productions: &[InstanceProduction],
 ) -> Option<Size>
     requires { AreSizes expanded.now.instances sizes.now }
-    ensures size { MatchOption result (IsEachBlocked expanded.now.instances sizes.now productions.now) (IsEachSize expanded.now.instances productions.now) }
+    ensures size { MatchOption result (HasUnsizedAlternative expanded.now.instances sizes.now productions.now) (IsEachSize expanded.now.instances productions.now) }
     ensures sized { OnSome result (AreEachSized expanded.now.instances sizes.now productions.now) }
 {
     let mut size = Size {
@@ -84,14 +87,15 @@ fn size_of_alternatives(
     Some(size)
 }
 
-/// Sizes an inline instance, if it has no size yet and those of the inline instances that it is made of are known.
-fn size_one(expanded: &Expanded, sizing: &mut Sizing, number: usize) -> Result<bool, Memory>
+/// Computes the size of an inline instance, if the instance has no size yet and all inline instances that it uses have
+/// sizes. Returns true if it does so.
+fn size_one(expanded: &Expanded, sizing: &mut SizeTable, number: usize) -> Result<bool, Memory>
     requires ready { IsExpandedReady expanded.now }
-    requires sizing { IsSizing expanded.now.instances sizing.old }
+    requires sizing { IsSizeTable expanded.now.instances sizing.old }
     requires number { number < length expanded.now.instances }
-    ensures sizing { OnOk result (IsSizing expanded.now.instances sizing.new) }
+    ensures sizing { OnOk result (IsSizeTable expanded.now.instances sizing.new) }
     ensures more { IfOk result (λ changed. IsTrue changed → unsized_count sizing.new < unsized_count sizing.old) }
-    ensures same { IfOk result (λ changed. changed ≡ false → (sizing.new ≡ sizing.old) × IsSettled expanded.now.instances sizing.old.sizes.items number) }
+    ensures same { IfOk result (λ changed. changed ≡ false → (sizing.new ≡ sizing.old) × IsFixedAt expanded.now.instances sizing.old.sizes.items number) }
 {
     if !is_inline(expanded, number) || sizing.sizes[number].is_some() {
         return Ok(false);
@@ -105,13 +109,14 @@ fn size_one(expanded: &Expanded, sizing: &mut Sizing, number: usize) -> Result<b
     Ok(true)
 }
 
-/// One pass over the instances, from the last, since what an instance is made of is mostly found later.
-fn size_once(expanded: &Expanded, sizing: &mut Sizing) -> Result<bool, Memory>
+/// Makes one pass over the instances, beginning with the last, because the instances that an instance uses usually have
+/// larger numbers. Returns true if a size was computed.
+fn size_once(expanded: &Expanded, sizing: &mut SizeTable) -> Result<bool, Memory>
     requires ready { IsExpandedReady expanded.now }
-    requires sizing { IsSizing expanded.now.instances sizing.old }
-    ensures sizing { OnOk result (IsSizing expanded.now.instances sizing.new) }
+    requires sizing { IsSizeTable expanded.now.instances sizing.old }
+    ensures sizing { OnOk result (IsSizeTable expanded.now.instances sizing.new) }
     ensures more { IfOk result (λ changed. IsTrue changed → unsized_count sizing.new < unsized_count sizing.old) }
-    ensures same { IfOk result (λ changed. changed ≡ false → (sizing.new ≡ sizing.old) × AreSettled expanded.now.instances sizing.new.sizes.items) }
+    ensures same { IfOk result (λ changed. changed ≡ false → (sizing.new ≡ sizing.old) × IsSizeFixedPoint expanded.now.instances sizing.new.sizes.items) }
 {
     let count = expanded.instances.len();
     let mut changed = false;
@@ -121,12 +126,12 @@ fn size_once(expanded: &Expanded, sizing: &mut Sizing) -> Result<bool, Memory>
     Ok(changed)
 }
 
-/// Sizes the instances of an order one after the other, where the sizes of what they are made of are known.
-fn size_in_order(expanded: &Expanded, sizing: &mut Sizing, order: &[usize]) -> Result<(), Memory>
+/// Computes the sizes of the instances in this order, where those that they use have sizes.
+fn size_in_order(expanded: &Expanded, sizing: &mut SizeTable, order: &[usize]) -> Result<(), Memory>
     requires ready { IsExpandedReady expanded.now }
-    requires sizing { IsSizing expanded.now.instances sizing.old }
+    requires sizing { IsSizeTable expanded.now.instances sizing.old }
     requires order { All (λ n. n < length expanded.now.instances) order.now }
-    ensures { OnOk result (IsSizing expanded.now.instances sizing.new) }
+    ensures { OnOk result (IsSizeTable expanded.now.instances sizing.new) }
 {
     for number in order {
         size_one(expanded, sizing, *number)?;
@@ -134,12 +139,12 @@ fn size_in_order(expanded: &Expanded, sizing: &mut Sizing, order: &[usize]) -> R
     Ok(())
 }
 
-/// Passes over the instances until one finds nothing left to size.
-fn size_all(expanded: &Expanded, sizing: &mut Sizing) -> Result<(), Memory>
+/// Makes passes over the instances until a pass computes no size.
+fn size_all(expanded: &Expanded, sizing: &mut SizeTable) -> Result<(), Memory>
     requires ready { IsExpandedReady expanded.now }
-    requires sizing { IsSizing expanded.now.instances sizing.old }
-    ensures sizing { OnOk result (IsSizing expanded.now.instances sizing.new) }
-    ensures settled { OnOk result (AreSettled expanded.now.instances sizing.new.sizes.items) }
+    requires sizing { IsSizeTable expanded.now.instances sizing.old }
+    ensures sizing { OnOk result (IsSizeTable expanded.now.instances sizing.new) }
+    ensures settled { OnOk result (IsSizeFixedPoint expanded.now.instances sizing.new.sizes.items) }
 {
     let mut changed = true;
     while changed {
@@ -148,19 +153,19 @@ fn size_all(expanded: &Expanded, sizing: &mut Sizing) -> Result<(), Memory>
     Ok(())
 }
 
-/// The sizes of the inline instances; those that reach a cycle have none. Where each stands in the order behind those that it is
-/// made of, the passes behind it find nothing left to size, so there is one. Fails for want of memory alone.
+/// The sizes of the inline instances; instances that reach a cycle have none. If each instance comes in the order after
+/// those that it uses, then one pass after the order finds nothing left to do. Fails only if memory runs out.
 pub(crate) fn inline_sizes(
     alloc: Global,
     expanded: &Expanded,
     order: &[usize],
-) -> Result<Sizing, Memory>
+) -> Result<SizeTable, Memory>
     requires ready { IsExpandedReady expanded.now }
     requires order { All (λ n. n < length expanded.now.instances) order.now }
-    ensures sizing { IfOk result (IsSizing expanded.now.instances) }
-    ensures settled { IfOk result (λ s. AreSettled expanded.now.instances s.sizes.items) }
+    ensures sizing { IfOk result (IsSizeTable expanded.now.instances) }
+    ensures settled { IfOk result (λ s. IsSizeFixedPoint expanded.now.instances s.sizes.items) }
 {
-    let mut sizing = Sizing {
+    let mut sizing = SizeTable {
         sizes: vec![in alloc; None; expanded.instances.len()]?,
         order: Vec::new(alloc),
     };

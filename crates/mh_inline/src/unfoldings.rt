@@ -1,19 +1,20 @@
-//! The unfoldings of producers, of alternatives and of inline instances, each made from those of the instances that it is made of.
+//! Makes the unfoldings of producers, of alternatives and of inline instances from those of the inline instances that
+//! they use.
 ghost use Rattle.std.specs.Prelude.{◌≡◌, ◌+◌, ◌<◌, ◌∷◌, [], List, Some, IfOk, OnOk, IfSome, length, slice_get};
 ghost use Rattle.mh_inline_unfold.specs.declared.unfolding.Unfolding.{Unfolding as Unfolded};
 ghost use Rattle.mh_rules.specs.Ready.{IsExpandedReady};
 ghost use Rattle.mh_inline_unfold.specs.Unfoldings.{Unfolds, UnfoldsEach, UnfoldsPart};
-ghost use Rattle.mh_inline.specs.code.Known.{AreKnown, AreEachKnown, Extends, IsNext};
-ghost use Rattle.mh_inline.specs.code.LastUse.{IsLastOf, MayLack};
+ghost use Rattle.mh_inline.specs.code.KnownUnfoldings.{AreKnown, AreEachKnown, ExtendsByProducer, IsNextToUnfold};
+ghost use Rattle.mh_inline.specs.code.MovableProducers.{IsInlineProducerOf, LacksOnlyMoved};
 ghost use Rattle.mh_rules.specs.declared.instances.Instance.{Instance as Row};
-ghost use Rattle.mh_inline.specs.code.Uses.{AreLast, KnowsNeeded, KnowsUsed};
-ghost use Rattle.mh_inline_unfold.specs.code.Sizes.{AreSmall, IsSizing};
+ghost use Rattle.mh_inline.specs.code.LastUses.{AreLastUses, KnowsNeeded, KnowsUsed};
+ghost use Rattle.mh_inline_unfold.specs.code.Sizes.{AreSmall, IsSizeTable};
 
 use crate::moving::{LastUse, last_use_of, unfold_with};
 use crate::uses::{forget_inlined, last_uses};
 use mh_grammar::{Memory, Sequence};
 use mh_inline_unfold::{
-    Sizing, Unfolding, add_own, inline_part, is_small, just_nothing, put_behind, put_part,
+    SizeTable, Unfolding, add_own, inline_part, is_small, just_nothing, put_behind, put_part,
 };
 use mh_rules::{Expanded, InstanceProduction, Part};
 use std::alloc::Global;
@@ -26,7 +27,7 @@ fn unfold_part(
     part: Part,
 ) -> Result<(), Memory>
     requires { AreKnown expanded.now.instances known.now (part ∷ []) }
-    ensures { OnOk result (Extends expanded.now.instances part all.old.items all.new.items) }
+    ensures { OnOk result (ExtendsByProducer expanded.now.instances part all.old.items all.new.items) }
 {
     match inline_part(expanded, part) {
         Some(number) => put_behind(alloc, all, known[number].as_slice()),
@@ -34,8 +35,8 @@ fn unfold_part(
     }
 }
 
-/// All unfoldings of some producers, in order. Those of the inline ones among them are known. Fails for want of memory
-/// alone.
+/// All unfoldings of a list of producers, in order; `known` has those of the inline producers. Fails only if memory
+/// runs out.
 pub(crate) fn unfold_side(
     alloc: Global,
     expanded: &Expanded,
@@ -52,7 +53,7 @@ pub(crate) fn unfold_side(
     Ok(all)
 }
 
-/// All unfoldings of some alternatives, in order.
+/// All unfoldings of a list of alternatives, in order.
 pub(crate) fn unfold_alternatives(
     alloc: Global,
     expanded: &Expanded,
@@ -80,20 +81,20 @@ fn no_unfoldings(alloc: Global, count: usize) -> Result<Vec<Sequence<Unfolding>>
     Ok(known)
 }
 
-/// The unfoldings of an inline instance, if it has no more and no longer ones than a grammar may have; else none.
+/// The unfoldings of an inline instance, if they are within the limits of a grammar, else none.
 fn unfold_one(
     alloc: Global,
     expanded: &Expanded,
-    sizing: &Sizing,
+    sizing: &SizeTable,
     known: &mut Vec<Sequence<Unfolding>>,
     number: usize,
     last_use: Option<LastUse>,
 ) -> Result<Sequence<Unfolding>, Memory>
     requires ready { IsExpandedReady expanded.now }
-    requires next { IsNext expanded.now.instances sizing.now.sizes.items known.old.items number }
-    requires last { (i : Row) → slice_get expanded.now.instances number ≡ Some i → IfSome last_use (IsLastOf expanded.now.instances i.productions) }
+    requires next { IsNextToUnfold expanded.now.instances sizing.now.sizes.items known.old.items number }
+    requires last { (i : Row) → slice_get expanded.now.instances number ≡ Some i → IfSome last_use (IsInlineProducerOf expanded.now.instances i.productions) }
     ensures unfoldings { IfOk result (λ all. (us : List Unfolded) → UnfoldsPart expanded.now.instances (Part.Instance number) us → AreSmall us → all ≡ us) }
-    ensures known { OnOk result (MayLack last_use known.old.items known.new.items) }
+    ensures known { OnOk result (LacksOnlyMoved last_use known.old.items known.new.items) }
 {
     if !is_small(sizing.sizes[number]) {
         return Ok(Sequence::new(alloc));
@@ -103,25 +104,25 @@ fn unfold_one(
     Ok(Sequence::from_vec(all))
 }
 
-fn number_at(sizing: &Sizing, place: usize) -> usize
+fn number_at(sizing: &SizeTable, place: usize) -> usize
     requires { place < length sizing.now.order.items }
     ensures { slice_get sizing.now.order.items place ≡ Some result }
 {
     sizing.order[place] as usize
 }
 
-/// The instance at a place of the order.
+/// Makes the unfoldings of the instance at this position of the order, and drops those that are not used later.
 fn unfold_next(
     alloc: Global,
     expanded: &Expanded,
-    sizing: &Sizing,
+    sizing: &SizeTable,
     last: &[usize],
     known: &mut Vec<Sequence<Unfolding>>,
     place: usize,
 ) -> Result<(), Memory>
     requires ready { IsExpandedReady expanded.now }
-    requires sizing { IsSizing expanded.now.instances sizing.now }
-    requires last { AreLast expanded.now.instances sizing.now.order.items last.now }
+    requires sizing { IsSizeTable expanded.now.instances sizing.now }
+    requires last { AreLastUses expanded.now.instances sizing.now.order.items last.now }
     requires at { place < length sizing.now.order.items }
     requires known { KnowsNeeded expanded.now.instances sizing.now.order.items last.now place known.old.items }
     ensures { OnOk result (KnowsNeeded expanded.now.instances sizing.now.order.items last.now (place + 1) known.new.items) }
@@ -133,16 +134,16 @@ fn unfold_next(
     forget_inlined(alloc, expanded, last, known, number, place)
 }
 
-/// The unfoldings of each inline instance that an instance which is not inline is made of, where it has no more and no longer
-/// ones than a grammar may have. Others are let go once they have gone into all that is made of them, and what goes into one last
-/// is moved there, so that a chain of inline instances holds one list and copies none. Fails for want of memory alone.
+/// The unfoldings of each inline instance that is used by an instance that is not inline, if they are within the limits
+/// of a grammar. Other unfoldings are dropped after their last use, or moved there, so that a chain of inline instances
+/// holds one list at a time and copies none. Fails only if memory runs out.
 pub(crate) fn unfold_inline(
     alloc: Global,
     expanded: &Expanded,
-    sizing: &Sizing,
+    sizing: &SizeTable,
 ) -> Result<Vec<Sequence<Unfolding>>, Memory>
     requires ready { IsExpandedReady expanded.now }
-    requires sizing { IsSizing expanded.now.instances sizing.now }
+    requires sizing { IsSizeTable expanded.now.instances sizing.now }
     ensures { IfOk result (λ known. KnowsUsed expanded.now.instances sizing.now.order.items known.items) }
 {
     let last = last_uses(alloc, expanded, sizing.order.as_slice())?;

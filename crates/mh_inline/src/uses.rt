@@ -1,25 +1,25 @@
-//! Until when the unfoldings of inline instances are needed.
+//! The last uses of inline instances.
 ghost use Rattle.std.specs.Prelude.{◌≡◌, ◌<◌, length, IfOk, OnOk};
 ghost use Rattle.std.specs.List.{All, Contains};
-ghost use Rattle.mh_inline_unfold.specs.code.MadeOf.{IsMadeOf};
-ghost use Rattle.mh_inline.specs.code.Uses.{AreLast, Forgets, IsPartOfKept, PutsOff};
+ghost use Rattle.mh_inline_unfold.specs.code.UsedInstances.{UsesInline};
+ghost use Rattle.mh_inline.specs.code.LastUses.{AreLastUses, DropsUnneeded, KeptUses, RaisesLastUse};
 
 use mh_grammar::{Memory, Sequence};
 use mh_inline_unfold::{Unfolding, inlined_in, is_inline};
 use mh_rules::Expanded;
 use std::alloc::Global;
 
-/// Moves the last places of some instances back to this one, where they stand before it.
+/// Raises the last use of these instances to this position, if it is smaller.
 fn put_off(last: &mut Vec<usize>, numbers: &[usize], place: usize)
     requires { All (λ m. m < length last.old.items) numbers.now }
-    ensures { PutsOff (Contains numbers.now) place last.old.items last.new.items }
+    ensures { RaisesLastUse (Contains numbers.now) place last.old.items last.new.items }
 {
     for number in numbers {
         last[*number] = last[*number].max(place);
     }
 }
 
-/// The same for those that an instance is made of.
+/// Raises the last use of the inline instances that an instance uses.
 fn put_off_inlined(
     alloc: Global,
     expanded: &Expanded,
@@ -29,14 +29,15 @@ fn put_off_inlined(
 ) -> Result<(), Memory>
     requires number { number < length expanded.now.instances }
     requires last { length last.old.items ≡ length expanded.now.instances }
-    ensures { OnOk result (PutsOff (IsMadeOf expanded.now.instances number) place last.old.items last.new.items) }
+    ensures { OnOk result (RaisesLastUse (UsesInline expanded.now.instances number) place last.old.items last.new.items) }
 {
     let numbers = inlined_in(alloc, expanded, number)?;
     put_off(last, numbers.as_slice(), place);
     Ok(())
 }
 
-/// The same for an instance that is not inline.
+/// Raises the last use of the inline instances that an instance that is not inline uses; for an inline instance it
+/// changes nothing.
 fn put_off_kept(
     alloc: Global,
     expanded: &Expanded,
@@ -46,7 +47,7 @@ fn put_off_kept(
 ) -> Result<(), Memory>
     requires number { number < length expanded.now.instances }
     requires last { length last.old.items ≡ length expanded.now.instances }
-    ensures { OnOk result (PutsOff (IsPartOfKept expanded.now.instances number) place last.old.items last.new.items) }
+    ensures { OnOk result (RaisesLastUse (KeptUses expanded.now.instances number) place last.old.items last.new.items) }
 {
     if is_inline(expanded, number) {
         return Ok(());
@@ -54,15 +55,15 @@ fn put_off_kept(
     put_off_inlined(alloc, expanded, number, place, last)
 }
 
-/// For each instance the last place in an order at which an inline instance is made of it, or the end of the order if one
-/// that is not inline is.
+/// For each instance, the last position of the order at which an inline instance uses it, or the length of the order if
+/// an instance that is not inline uses it.
 pub(crate) fn last_uses(
     alloc: Global,
     expanded: &Expanded,
     order: &[u32],
 ) -> Result<Vec<usize>, Memory>
     requires { All (λ n. n < length expanded.now.instances) order.now }
-    ensures { IfOk result (λ last. AreLast expanded.now.instances order.now last.items) }
+    ensures { IfOk result (λ last. AreLastUses expanded.now.instances order.now last.items) }
 {
     let mut last = vec![in alloc; 0; expanded.instances.len()]?;
     for (place, number) in order.iter().enumerate() {
@@ -74,7 +75,7 @@ pub(crate) fn last_uses(
     Ok(last)
 }
 
-/// Lets go of the unfoldings of those of some instances that are not needed behind a place.
+/// Drops the unfoldings of each of these instances that is not used after this position.
 fn forget(
     alloc: Global,
     known: &mut Vec<Sequence<Unfolding>>,
@@ -84,7 +85,7 @@ fn forget(
 )
     requires known { All (λ m. m < length known.old.items) numbers.now }
     requires last { length last.now ≡ length known.old.items }
-    ensures { Forgets last.now place known.old.items known.new.items }
+    ensures { DropsUnneeded last.now place known.old.items known.new.items }
 {
     for number in numbers {
         if last[*number] <= place {
@@ -93,7 +94,7 @@ fn forget(
     }
 }
 
-/// The same for those that an instance is made of.
+/// Drops the unfoldings of those inline instances used by this instance that are not used after this position.
 pub(crate) fn forget_inlined(
     alloc: Global,
     expanded: &Expanded,
@@ -105,7 +106,7 @@ pub(crate) fn forget_inlined(
     requires number { number < length expanded.now.instances }
     requires known { length known.old.items ≡ length expanded.now.instances }
     requires last { length last.now ≡ length expanded.now.instances }
-    ensures { OnOk result (Forgets last.now place known.old.items known.new.items) }
+    ensures { OnOk result (DropsUnneeded last.now place known.old.items known.new.items) }
 {
     let numbers = inlined_in(alloc, expanded, number)?;
     forget(alloc, known, last, numbers.as_slice(), place);

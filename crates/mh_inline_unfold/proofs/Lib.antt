@@ -1,7 +1,7 @@
-pub mod Among
+pub mod Occurrences
 pub mod Monoid
-pub mod Listed
-pub mod Producers
-pub mod Same
-pub mod Changing
-pub mod FileOrder
+pub mod AddsToList
+pub mod InlineProducers
+pub mod UniqueUnfoldings
+pub mod ChangedUnfoldings
+pub mod FileRanks

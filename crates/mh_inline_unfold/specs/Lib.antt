@@ -1,4 +1,4 @@
 pub mod Instances
 pub mod Unfoldings
-pub mod Ranks
+pub mod FileRanks
 pub mod code

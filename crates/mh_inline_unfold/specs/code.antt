@@ -1,2 +1,2 @@
-pub mod MadeOf
+pub mod UsedInstances
 pub mod Sizes

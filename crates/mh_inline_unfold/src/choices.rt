@@ -1,14 +1,15 @@
-//! Lists of unfoldings: each with each of another list, in order, and each with the `%prec` of what it is inlined into.
+//! Operations on lists of unfoldings: concatenation of each with each, and the `%prec` of the alternative into which
+//! unfoldings are inlined.
 ghost use Rattle.std.specs.Prelude.{◌≡◌, ◌++◌, ◌∷◌, [], map, IfOk, OnOk};
-ghost use Rattle.mh_inline_unfold.specs.Unfoldings.{choices, joined, nothing, only, own, rightmost};
+ghost use Rattle.mh_inline_unfold.specs.Unfoldings.{choices, joined, empty_unfolding, unfolding_of_part, with_own_prec, rightmost};
 
-use crate::ends::Ends;
+use crate::double_ended::Deque;
 use crate::unfolding::Unfolding;
 use mh_grammar::Memory;
 use mh_rules::{Part, Prec};
 use std::alloc::Global;
 
-/// The `%prec` that stands further right, where it is given.
+/// The `%prec` further to the right, if it is given, else the other.
 pub fn rightmost_prec(left: Prec, right: Prec) -> Prec
     ensures { result ≡ rightmost left right }
 {
@@ -18,7 +19,7 @@ pub fn rightmost_prec(left: Prec, right: Prec) -> Prec
     }
 }
 
-/// Adds one unfolding behind the other.
+/// Appends the concatenation of two unfoldings to the list.
 fn add_joined(
     alloc: Global,
     all: &mut Vec<Unfolding>,
@@ -34,7 +35,7 @@ fn add_joined(
     Ok(())
 }
 
-/// Adds the first behind which stands each of the second.
+/// Appends the concatenations of the first unfolding with each of the second list.
 fn add_joined_with_each(
     alloc: Global,
     all: &mut Vec<Unfolding>,
@@ -49,7 +50,8 @@ fn add_joined_with_each(
     Ok(())
 }
 
-/// Each of the first with each of the second; the choice from the first varies slowest.
+/// The concatenations of each unfolding of the first list with each of the second; the choice from the first list
+/// varies slowest.
 fn all_choices(
     alloc: Global,
     left: &[Unfolding],
@@ -64,16 +66,16 @@ fn all_choices(
     Ok(all)
 }
 
-/// The first goes on with the other.
-fn go_on(first: &mut Unfolding, other: &Unfolding) -> Result<(), Memory>
+/// Appends the symbols of another unfolding.
+fn append_to(first: &mut Unfolding, other: &Unfolding) -> Result<(), Memory>
     ensures { OnOk result (first.new ≡ joined first.old other.now) }
 {
     first.prec = rightmost_prec(first.prec, other.prec);
     first.rhs.put_behind(&other.rhs)
 }
 
-/// The last comes behind the other.
-fn come_behind(last: &mut Unfolding, other: &Unfolding) -> Result<(), Memory>
+/// Prepends the symbols of another unfolding.
+fn prepend_to(last: &mut Unfolding, other: &Unfolding) -> Result<(), Memory>
     ensures { OnOk result (last.new ≡ joined other.now last.old) }
 {
     last.prec = rightmost_prec(other.prec, last.prec);
@@ -84,7 +86,7 @@ fn go_on_each(all: &mut [Unfolding], other: &Unfolding) -> Result<(), Memory>
     ensures { OnOk result (all.new ≡ map (λ u. joined u other.now) all.old) }
 {
     for choice in all.iter_mut() {
-        go_on(choice, other)?;
+        append_to(choice, other)?;
     }
     Ok(())
 }
@@ -93,13 +95,14 @@ fn come_behind_each(all: &mut [Unfolding], other: &Unfolding) -> Result<(), Memo
     ensures { OnOk result (all.new ≡ map (joined other.now) all.old) }
 {
     for choice in all.iter_mut() {
-        come_behind(choice, other)?;
+        prepend_to(choice, other)?;
     }
     Ok(())
 }
 
-/// Puts the second unfoldings behind the first: each of the first with each of the second, in that order. Where there is
-/// one second, the first are kept and only go on. Fails for want of memory alone.
+/// Replaces the list by the concatenations of its unfoldings with each of the second list; the choice from the first
+/// list varies slowest. If the second list has one unfolding, the unfoldings are extended in place. Fails only if
+/// memory runs out.
 pub fn put_behind(
     alloc: Global,
     all: &mut Vec<Unfolding>,
@@ -116,8 +119,9 @@ pub fn put_behind(
     }
 }
 
-/// Puts the first unfoldings in front of the second: each of the first with each of the second, in that order. Where there
-/// is one first, the second are kept and only grow at their front. Fails for want of memory alone.
+/// Replaces the list by the concatenations of each of the first list with its unfoldings; the choice from the first
+/// list varies slowest. If the first list has one unfolding, the unfoldings are extended in place. Fails only if memory
+/// runs out.
 pub fn put_in_front(
     alloc: Global,
     firsts: &[Unfolding],
@@ -134,11 +138,11 @@ pub fn put_in_front(
     }
 }
 
-/// The unfolding of a producer that stays.
+/// The unfolding of a producer that is not inline.
 fn just(alloc: Global, part: Part) -> Result<Unfolding, Memory>
-    ensures { IfOk result (λ u. u ≡ only part) }
+    ensures { IfOk result (λ u. u ≡ unfolding_of_part part) }
 {
-    let mut rhs = Ends::new(alloc);
+    let mut rhs = Deque::new(alloc);
     rhs.push_back(part)?;
     Ok(Unfolding {
         rhs,
@@ -146,37 +150,37 @@ fn just(alloc: Global, part: Part) -> Result<Unfolding, Memory>
     })
 }
 
-/// Puts a producer that stays behind each unfolding. Fails for want of memory alone.
+/// Appends a producer that is not inline to each unfolding. Fails only if memory runs out.
 pub fn put_part(alloc: Global, all: &mut Vec<Unfolding>, part: Part) -> Result<(), Memory>
-    ensures { OnOk result (all.new.items ≡ choices all.old.items (only part ∷ [])) }
+    ensures { OnOk result (all.new.items ≡ choices all.old.items (unfolding_of_part part ∷ [])) }
 {
     let last = just(alloc, part)?;
     go_on_each(all, &last)
 }
 
-/// The unfolding of no producers. Fails for want of memory alone.
+/// The one unfolding of an empty list of producers. Fails only if memory runs out.
 pub fn just_nothing(alloc: Global) -> Result<Vec<Unfolding>, Memory>
-    ensures { IfOk result (λ all. all.items ≡ nothing ∷ []) }
+    ensures { IfOk result (λ all. all.items ≡ empty_unfolding ∷ []) }
 {
     let mut all = Vec::new(alloc);
     all.push(Unfolding {
-        rhs: Ends::new(alloc),
+        rhs: Deque::new(alloc),
         prec: Prec::Absent,
     })?;
     Ok(all)
 }
 
 fn own_each(all: &mut [Unfolding], prec: Prec)
-    ensures { all.new ≡ map (own prec) all.old }
+    ensures { all.new ≡ map (with_own_prec prec) all.old }
 {
     for choice in all.iter_mut() {
         choice.prec = rightmost_prec(choice.prec, prec);
     }
 }
 
-/// The unfoldings with the `%prec` of the alternative that they are inlined into.
+/// The unfoldings with the `%prec` of the alternative whose producers they unfold; it overrides theirs.
 pub fn with_own(prec: Prec, mut unfoldings: Vec<Unfolding>) -> Vec<Unfolding>
-    ensures { result.items ≡ map (own prec) unfoldings.items }
+    ensures { result.items ≡ map (with_own_prec prec) unfoldings.items }
 {
     match prec {
         Prec::Absent => unfoldings,
@@ -187,14 +191,14 @@ pub fn with_own(prec: Prec, mut unfoldings: Vec<Unfolding>) -> Vec<Unfolding>
     }
 }
 
-/// Adds unfoldings, with the `%prec` of the alternative that they are inlined into, at the end of a list. Fails for
-/// want of memory alone.
+/// Appends unfoldings to a list, with the `%prec` of the alternative whose producers they unfold. Fails only if memory
+/// runs out.
 pub fn add_own(
     all: &mut Vec<Unfolding>,
     prec: Prec,
     unfoldings: Vec<Unfolding>,
 ) -> Result<(), Memory>
-    ensures { OnOk result (all.new.items ≡ all.old.items ++ map (own prec) unfoldings.items) }
+    ensures { OnOk result (all.new.items ≡ all.old.items ++ map (with_own_prec prec) unfoldings.items) }
 {
     let mut added = with_own(prec, unfoldings);
     all.append(&mut added)?;

@@ -1,7 +1,7 @@
-//! The inline instances that an instance is made of, as a list.
+//! The inline instances that occur in the alternatives of an instance, as a list.
 ghost use Rattle.std.specs.Prelude.{◌<◌, ◌↔◌, ◌∷◌, [], ℕ, length, IfOk, OnOk};
 ghost use Rattle.std.specs.List.{All, Contains};
-ghost use Rattle.mh_inline_unfold.specs.code.MadeOf.{IsAmong, IsIn, IsMadeOf, Lists};
+ghost use Rattle.mh_inline_unfold.specs.code.UsedInstances.{OccursInProducers, OccursInAlternatives, UsesInline, AddsToList};
 
 use crate::instances::inline_part;
 use mh_grammar::Memory;
@@ -9,7 +9,7 @@ use mh_rules::{Expanded, InstanceProduction, Part};
 use std::alloc::Global;
 
 fn list_part(expanded: &Expanded, part: Part, list: &mut Vec<usize>) -> Result<(), Memory>
-    ensures { OnOk result (Lists (IsAmong expanded.now.instances (part ∷ [])) list.old.items list.new.items) }
+    ensures { OnOk result (AddsToList (OccursInProducers expanded.now.instances (part ∷ [])) list.old.items list.new.items) }
 {
     match inline_part(expanded, part) {
         Some(number) => {
@@ -21,7 +21,7 @@ fn list_part(expanded: &Expanded, part: Part, list: &mut Vec<usize>) -> Result<(
 }
 
 fn list_side(expanded: &Expanded, producers: &[Part], list: &mut Vec<usize>) -> Result<(), Memory>
-    ensures { OnOk result (Lists (IsAmong expanded.now.instances producers.now) list.old.items list.new.items) }
+    ensures { OnOk result (AddsToList (OccursInProducers expanded.now.instances producers.now) list.old.items list.new.items) }
 {
     for part in producers {
         list_part(expanded, *part, list)?;
@@ -34,7 +34,7 @@ fn list_alternatives(
     productions: &[InstanceProduction],
     list: &mut Vec<usize>,
 ) -> Result<(), Memory>
-    ensures { OnOk result (Lists (IsIn expanded.now.instances productions.now) list.old.items list.new.items) }
+    ensures { OnOk result (AddsToList (OccursInAlternatives expanded.now.instances productions.now) list.old.items list.new.items) }
 {
     for production in productions {
         list_side(expanded, production.rhs.as_slice(), list)?;
@@ -42,10 +42,10 @@ fn list_alternatives(
     Ok(())
 }
 
-/// The inline instances that an instance is made of, each as often as it stands there. Fails for want of memory alone.
+/// The inline instances among the producers of an instance, once for each occurrence. Fails only if memory runs out.
 pub fn inlined_in(alloc: Global, expanded: &Expanded, number: usize) -> Result<Vec<usize>, Memory>
     requires { number < length expanded.now.instances }
-    ensures exact { IfOk result (λ found. (m : ℕ) → Contains found.items m ↔ IsMadeOf expanded.now.instances number m) }
+    ensures exact { IfOk result (λ found. (m : ℕ) → Contains found.items m ↔ UsesInline expanded.now.instances number m) }
     ensures within { IfOk result (λ found. All (λ m. m < length expanded.now.instances) found.items) }
 {
     let mut list = Vec::new(alloc);

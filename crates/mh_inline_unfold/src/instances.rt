@@ -1,4 +1,4 @@
-//! Which producers are inline.
+//! Tests for inline producers.
 ghost use Rattle.std.specs.Prelude.{◌≡◌};
 ghost use Rattle.mh_inline_unfold.specs.Instances.{inline_number, is_inlined};
 
@@ -14,7 +14,7 @@ pub fn is_inline(expanded: &Expanded, number: usize) -> bool
     }
 }
 
-/// The number of an inline producer.
+/// The number of the instance of a producer, if the producer is inline.
 pub fn inline_part(expanded: &Expanded, part: Part) -> Option<usize>
     ensures { result ≡ inline_number expanded.now.instances part }
 {

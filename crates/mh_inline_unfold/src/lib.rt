@@ -1,9 +1,9 @@
-//! What producers become where each inline one is replaced by its alternatives: the unfoldings, their order and their `%prec`,
-//! their sizes and the limits of these; which producers are inline, and how files are ranked.
+//! Unfoldings, which are the results of replacing inline producers by their alternatives: their order, their `%prec`,
+//! their sizes and the limits of these. Tests for inline producers, and the order of files.
 #![tactic(auto)]
 
 mod choices;
-mod ends;
+mod double_ended;
 mod inlined;
 mod instances;
 mod ranks;
@@ -16,5 +16,5 @@ pub use choices::{
 pub use inlined::inlined_in;
 pub use instances::{inline_part, is_inline};
 pub use ranks::rank;
-pub use sizes::{MAX_PRODUCTIONS, MAX_SYMBOLS, Size, Sizing, is_small, plus};
+pub use sizes::{MAX_PRODUCTIONS, MAX_SYMBOLS, Size, SizeTable, is_small, plus};
 pub use unfolding::Unfolding;

@@ -1,29 +1,30 @@
-//! How many unfoldings there are, and how long the longest is: the type, the limits, and how sizes add up.
+//! The sizes of lists of unfoldings: the type, the limits, and the addition of sizes.
 ghost use Rattle.std.specs.Prelude.{◌≡◌, ◌+◌, ◌↔◌, min, max, IsTrue};
-ghost use Rattle.mh_inline_unfold.specs.code.Sizes.{IsWithin};
+ghost use Rattle.mh_inline_unfold.specs.code.Sizes.{IsSmallSize};
 
-/// The most productions that a grammar may have.
+/// The largest number of productions of a grammar.
 pub const MAX_PRODUCTIONS: u64 = 20_000;
 
-/// The most symbols that the right side of a production may have.
+/// The largest number of symbols of a right side.
 pub const MAX_SYMBOLS: u64 = 10_000;
 
-/// How many unfoldings there are, and how long the longest is, both at most one more than the limit.
+/// The number of unfoldings in a list and the length of the longest, each capped at one more than its limit.
 #[derive(Clone, Copy)]
 pub struct Size {
     pub count: u64,
     pub longest: u64,
 }
 
-/// The sizes of the inline instances that are known, and these instances, each behind those that it is made of.
+/// The sizes of those inline instances whose size has been computed, and the list of these instances, in which each
+/// comes after the inline instances that it uses.
 #[derive(Drop)]
-pub struct Sizing {
+pub struct SizeTable {
     pub sizes: Vec<Option<Size>>,
     pub order: Vec<u32>,
 }
 
-/// The size of two lists of unfoldings together: their counts added, up to one more than `MAX_PRODUCTIONS`, and the
-/// longer of the two longest.
+/// The size of two lists of unfoldings together: the sum of their counts, capped at one more than `MAX_PRODUCTIONS`,
+/// and the larger of their greatest lengths.
 pub fn plus(left: Size, right: Size) -> Size
     ensures count { result.count ≡ min (left.count + right.count) (MAX_PRODUCTIONS + 1) }
     ensures longest { result.longest ≡ max left.longest right.longest }
@@ -37,10 +38,10 @@ pub fn plus(left: Size, right: Size) -> Size
     }
 }
 
-/// Whether a size is known, and is of no more than `MAX_PRODUCTIONS` unfoldings, of no more than `MAX_SYMBOLS` symbols
-/// each.
+/// Whether a size has been computed and is within the limits: at most `MAX_PRODUCTIONS` unfoldings of at most
+/// `MAX_SYMBOLS` symbols each.
 pub fn is_small(size: Option<Size>) -> bool
-    ensures { IsTrue result ↔ IsWithin size }
+    ensures { IsTrue result ↔ IsSmallSize size }
 {
     match size {
         Some(size) => size.count <= MAX_PRODUCTIONS && size.longest <= MAX_SYMBOLS,

@@ -1,10 +1,10 @@
-//! What producers become when each inline one is replaced by one of its own alternatives.
-use crate::ends::Ends;
+//! Unfoldings: producers after each inline one has been replaced by one of its alternatives.
+use crate::double_ended::Deque;
 use mh_rules::{Part, Prec};
 
-/// Producers none of which is inline, and the `%prec` that came with what was inlined.
+/// A list of producers that are not inline, and the `%prec` of the rightmost inlined alternative that has one.
 #[derive(Drop)]
 pub struct Unfolding {
-    pub rhs: Ends<Part>,
+    pub rhs: Deque<Part>,
     pub prec: Prec,
 }

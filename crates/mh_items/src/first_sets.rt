@@ -1,20 +1,25 @@
-//! The sets of a grammar's nullable symbols and of FIRST, and what closures are computed from.
-use crate::links::Link;
+//! The types of the sets and lists from which closures are computed.
+use crate::links::FirstLink;
 use mh_grammar::Sequence;
 use mh_sets::TokenSet;
 
-/// For each nonterminal, whether it is nullable, and its FIRST.
+/// For each nonterminal, whether it is nullable, and its FIRST set.
 #[derive(Drop)]
-pub(crate) struct Sets<const W: usize> {
+pub(crate) struct NullableAndFirst<const W: usize> {
+    /// For each nonterminal, whether it is nullable.
     pub(crate) nullable: Sequence<bool>,
+    /// For each nonterminal, its FIRST set.
     pub(crate) first: Sequence<TokenSet<W>>,
 }
 
-/// The sets; for each nonterminal, a link for each production of it that begins with a nonterminal, and the numbers of
-/// its productions.
+/// The nullable and FIRST sets of a grammar; for each nonterminal, a link for each of its productions that begins with
+/// a nonterminal, and the numbers of its productions.
 #[derive(Drop)]
 pub struct Firsts<const W: usize> {
-    pub(crate) sets: Sets<W>,
-    pub(crate) links: Sequence<Sequence<Link<W>>>,
+    /// The nullable and FIRST sets.
+    pub(crate) sets: NullableAndFirst<W>,
+    /// For each nonterminal, the links of its productions.
+    pub(crate) links: Sequence<Sequence<FirstLink<W>>>,
+    /// For each nonterminal, the numbers of its productions.
     pub(crate) productions: Sequence<Sequence<u32>>,
 }

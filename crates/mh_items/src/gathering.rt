@@ -1,25 +1,25 @@
-//! How the sets that closures are computed from are made.
+//! Computes the sets and lists from which closures are computed.
 ghost use Rattle.std.specs.Prelude.{◌≡◌, ◌<◌, ◌≤◌, ◌*◌, ◌↔◌, ℕ, List, [], length, vec_len, map, slice_get, Some, IfOk};
 ghost use Rattle.std.specs.List.{All, Contains};
 ghost use Rattle.mh_grammar.specs.declared.types.Symbol.TheVariants.{N};
 ghost use Rattle.mh_grammar.specs.Plain.{PlainGrammar, plain_of, IsInRange, IsProductionFor};
 ghost use Rattle.mh_grammar.specs.First.{First};
 ghost use Rattle.mh_grammar.specs.declared.types.Look.{Look as LookOf};
-ghost use Rattle.mh_items.specs.declared.links.Link.{Link as LinkOf};
+ghost use Rattle.mh_items.specs.Fitting.{FitsSets};
+ghost use Rattle.mh_items.specs.declared.links.FirstLink.{FirstLink as LinkOf};
 ghost use Rattle.mh_items.specs.code.Links.{IsTokenOf, AreFirstSets};
-ghost use Rattle.mh_items.specs.Firsts.{AreFirsts, AreSets, AreLinksOf};
+ghost use Rattle.mh_items.specs.Firsts.{AreFirsts, AreNullableAndFirst, AreLinksOf};
 
-use crate::first_sets::{Firsts, Sets};
-use crate::links::{Link, link_of};
+use crate::first_sets::{Firsts, NullableAndFirst};
+use crate::links::{FirstLink, link_of};
 use mh_grammar::{Grammar, Look, Memory, Sequence, Token, first, nullable};
 use mh_sets::TokenSet;
 use std::alloc::Global;
 
-/// The nullable symbols and FIRST of a grammar. It fails for want of memory alone.
+/// Returns the nullable and FIRST sets of a grammar, with the links and production numbers of each nonterminal. It
+/// fails only if there is no memory.
 pub fn firsts<const W: usize>(alloc: Global, grammar: &Grammar) -> Result<Firsts<W>, Memory>
-    requires few { W ≤ 8 }
-    requires width { length grammar.now.tokens ≤ 64 * W }
-    requires range { IsInRange (plain_of grammar.now) }
+    requires fits { FitsSets W grammar.now }
     ensures { IfOk result (AreFirsts (plain_of grammar.now)) }
 {
     let productions = all_productions(alloc, grammar)?;
@@ -32,35 +32,31 @@ pub fn firsts<const W: usize>(alloc: Global, grammar: &Grammar) -> Result<Firsts
     })
 }
 
-fn sets_of<const W: usize>(alloc: Global, grammar: &Grammar) -> Result<Sets<W>, Memory>
-    requires few { W ≤ 8 }
-    requires width { length grammar.now.tokens ≤ 64 * W }
-    requires range { IsInRange (plain_of grammar.now) }
-    ensures { IfOk result (AreSets (plain_of grammar.now)) }
+fn sets_of<const W: usize>(alloc: Global, grammar: &Grammar) -> Result<NullableAndFirst<W>, Memory>
+    requires fits { FitsSets W grammar.now }
+    ensures { IfOk result (AreNullableAndFirst (plain_of grammar.now)) }
 {
     let empty = nullable(alloc, grammar)?;
     let rows = first(alloc, grammar)?;
     let first = sets_from(alloc, grammar, rows.as_slice())?;
-    Ok(Sets {
+    Ok(NullableAndFirst {
         nullable: Sequence::from_vec(empty),
         first,
     })
 }
 
-/// The sets of the rows of FIRST.
+/// The FIRST lists as token sets.
 fn sets_from<const W: usize>(
     alloc: Global,
     grammar: &Grammar,
     rows: &[Vec<Token>],
 ) -> Result<Sequence<TokenSet<W>>, Memory>
-    requires few { W ≤ 8 }
-    requires width { length grammar.now.tokens ≤ 64 * W }
-    requires range { IsInRange (plain_of grammar.now) }
+    requires fits { FitsSets W grammar.now }
     requires len { length rows.now ≡ length grammar.now.nonterminals }
     requires exact { (n : ℕ) (row : List ℕ) → slice_get (map (λ row. row.items) rows.now) n ≡ Some row → (a : ℕ) → Contains row a ↔ First (plain_of grammar.now) (N n) a }
     ensures { IfOk result (AreFirstSets (plain_of grammar.now)) }
 {
-    // The clauses alone speak of it.
+    // Only the contract uses the grammar.
     let _grammar = grammar;
     let mut made = Vec::new(alloc);
     for row in rows {
@@ -69,7 +65,7 @@ fn sets_from<const W: usize>(
     Ok(Sequence::from_vec(made))
 }
 
-/// The set of tokens.
+/// The set of the tokens in a list.
 fn set_of<const W: usize>(tokens: &[Token]) -> TokenSet<W>
     requires few { W ≤ 8 }
     requires below { All (λ a. a < 64 * W) tokens.now }
@@ -86,12 +82,10 @@ fn set_of<const W: usize>(tokens: &[Token]) -> TokenSet<W>
 fn all_links<const W: usize>(
     alloc: Global,
     grammar: &Grammar,
-    sets: &Sets<W>,
-) -> Result<Sequence<Sequence<Link<W>>>, Memory>
-    requires few { W ≤ 8 }
-    requires width { length grammar.now.tokens ≤ 64 * W }
-    requires range { IsInRange (plain_of grammar.now) }
-    requires sets { AreSets (plain_of grammar.now) sets.now }
+    sets: &NullableAndFirst<W>,
+) -> Result<Sequence<Sequence<FirstLink<W>>>, Memory>
+    requires fits { FitsSets W grammar.now }
+    requires sets { AreNullableAndFirst (plain_of grammar.now) sets.now }
     ensures len { IfOk result (λ links. length links ≡ length grammar.now.nonterminals) }
     ensures exact { IfOk result (λ links. (n : ℕ) (row : List (LinkOf W)) → slice_get links n ≡ Some row → AreLinksOf (plain_of grammar.now) n row) }
 {

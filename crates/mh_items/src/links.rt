@@ -1,60 +1,72 @@
-//! What strings of symbols may begin with, and the productions of a nonterminal that begin with another.
+//! FIRST of strings of symbols, and the links from a nonterminal to the nonterminals with which its productions begin.
 ghost use Rattle.std.specs.Prelude.{◌≡◌, ◌<◌, ◌↔◌, ◌≤◌, ◌*◌, ◌⊎◌, [], false, length, slice_index_or, IsTrue};
 ghost use Rattle.std.specs.List.{All, Contains};
 ghost use Rattle.mh_grammar.specs.Plain.{PlainGrammar, IsSymbolBelow, Derives};
 ghost use Rattle.mh_grammar.specs.declared.types.Look.{Look as LookOf};
 ghost use Rattle.mh_items.specs.code.Links.{IsLinkOf};
-ghost use Rattle.mh_items.specs.Firsts.{AreSets, Begins, IsRest};
+ghost use Rattle.mh_items.specs.Firsts.{AreNullableAndFirst, IsFirstLook, IsStringFirst};
 
-use crate::first_sets::Sets;
+use crate::first_sets::NullableAndFirst;
 use mh_grammar::{Look, Symbol};
 use mh_items_kernels::{rest_from, symbol_in};
 use mh_sets::TokenSet;
 
-/// The tokens that a string of symbols may begin with, and whether it may derive the empty word.
+/// FIRST of a string of symbols, and whether the string is nullable.
 #[derive(Drop)]
-pub(crate) struct Rest<const W: usize> {
+pub(crate) struct StringFirst<const W: usize> {
+    /// FIRST of the string.
     pub(crate) tokens: TokenSet<W>,
+    /// Whether the string is nullable.
     pub(crate) passes: bool,
 }
 
-/// A production that begins with a nonterminal, and what may come after this nonterminal.
+/// A production that begins with a nonterminal `to`: FIRST of the symbols after `to`, and whether they are nullable.
 #[derive(Drop)]
-pub(crate) struct Link<const W: usize> {
+pub(crate) struct FirstLink<const W: usize> {
+    /// The first nonterminal of the right side.
     pub(crate) to: u16,
+    /// FIRST of the symbols after it.
     pub(crate) tokens: TokenSet<W>,
+    /// Whether the symbols after it are nullable, so that looks pass to the nonterminal.
     pub(crate) passes: bool,
 }
 
-/// What a string of symbols may begin with.
-pub(crate) fn rest_of<const W: usize>(sets: &Sets<W>, symbols: &[Symbol]) -> Rest<W>
+/// Returns FIRST of a string of symbols, and whether the string is nullable.
+pub(crate) fn rest_of<const W: usize>(
+    sets: &NullableAndFirst<W>,
+    symbols: &[Symbol],
+) -> StringFirst<W>
     requires few { W ≤ 8 }
     requires len { length sets.now.first ≡ length sets.now.nullable }
     requires symbols { All (IsSymbolBelow (64 * W) (length sets.now.nullable)) symbols.now }
-    ensures { (g : PlainGrammar) → AreSets g sets.now → IsRest g symbols.now result.tokens result.passes }
+    ensures { (g : PlainGrammar) → AreNullableAndFirst g sets.now → IsStringFirst g symbols.now result.tokens result.passes }
 {
     let mut tokens = TokenSet::empty();
     for symbol in symbols {
         if !add_symbol(&mut tokens, sets, *symbol) {
-            return Rest {
+            return StringFirst {
                 tokens,
                 passes: false,
             };
         }
     }
-    Rest {
+    StringFirst {
         tokens,
         passes: true,
     }
 }
 
-/// Adds the FIRST of a symbol, and says whether the symbol is nullable.
-fn add_symbol<const W: usize>(tokens: &mut TokenSet<W>, sets: &Sets<W>, symbol: Symbol) -> bool
+/// Adds the FIRST set of a symbol, and returns whether the symbol is nullable.
+fn add_symbol<const W: usize>(
+    tokens: &mut TokenSet<W>,
+    sets: &NullableAndFirst<W>,
+    symbol: Symbol,
+) -> bool
     requires few { W ≤ 8 }
     requires len { length sets.now.first ≡ length sets.now.nullable }
     requires symbol { IsSymbolBelow (64 * W) (length sets.now.nullable) symbol }
-    ensures first { (g : PlainGrammar) → AreSets g sets.now → (b : LookOf) → Contains tokens.new b ↔ (Contains tokens.old b ⊎ Begins g symbol b) }
-    ensures empty { (g : PlainGrammar) → AreSets g sets.now → IsTrue result ↔ Derives g symbol [] }
+    ensures first { (g : PlainGrammar) → AreNullableAndFirst g sets.now → (b : LookOf) → Contains tokens.new b ↔ (Contains tokens.old b ⊎ IsFirstLook g symbol b) }
+    ensures empty { (g : PlainGrammar) → AreNullableAndFirst g sets.now → IsTrue result ↔ Derives g symbol [] }
 {
     match symbol {
         Symbol::T(token) => {
@@ -68,7 +80,7 @@ fn add_symbol<const W: usize>(tokens: &mut TokenSet<W>, sets: &Sets<W>, symbol: 
     }
 }
 
-/// Whether a nonterminal is marked, as those are that derive the empty word.
+/// True if the nonterminal is marked as nullable.
 fn is_marked(marks: &[bool], n: u16) -> bool
     requires { n < length marks.now }
     ensures { result ≡ slice_index_or marks.now n false }
@@ -76,17 +88,20 @@ fn is_marked(marks: &[bool], n: u16) -> bool
     marks[usize::from(n)]
 }
 
-/// The link of a right side, where it begins with a nonterminal.
-pub(crate) fn link_of<const W: usize>(sets: &Sets<W>, symbols: &[Symbol]) -> Option<Link<W>>
+/// The link of a right side, if it begins with a nonterminal.
+pub(crate) fn link_of<const W: usize>(
+    sets: &NullableAndFirst<W>,
+    symbols: &[Symbol],
+) -> Option<FirstLink<W>>
     requires few { W ≤ 8 }
     requires len { length sets.now.first ≡ length sets.now.nullable }
     requires symbols { All (IsSymbolBelow (64 * W) (length sets.now.nullable)) symbols.now }
-    ensures { (g : PlainGrammar) → AreSets g sets.now → IsLinkOf g symbols.now result }
+    ensures { (g : PlainGrammar) → AreNullableAndFirst g sets.now → IsLinkOf g symbols.now result }
 {
     match symbol_in(symbols, 0) {
         Some(Symbol::N(to)) => {
             let rest = rest_of(sets, rest_from(symbols, 0));
-            Some(Link {
+            Some(FirstLink {
                 to,
                 tokens: rest.tokens,
                 passes: rest.passes,

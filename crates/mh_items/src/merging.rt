@@ -1,27 +1,28 @@
-//! Two rising lists of items as one.
+//! The union of two rising lists of items.
 ghost use Rattle.std.specs.Prelude.{◌≡◌, ◌<◌, ◌≤◌, ◌+◌, ◌⊎◌, List, [], ◌∷◌, ◌++◌, length, IfOk};
-ghost use Rattle.mh_grammar.specs.Plain.{plain_of, IsInRange};
+ghost use Rattle.mh_grammar.specs.Plain.{plain_of};
 ghost use Rattle.mh_items_kernels.specs.Kernels.{IsItemList};
-ghost use Rattle.mh_items_kernels.specs.Shapes.{KernelItem as ItemOf};
-ghost use Rattle.mh_items.specs.code.Merging.{IsUnion, IsMerged, IsTurn, place_order};
+ghost use Rattle.mh_items_kernels.specs.KernelTypes.{KernelItem as ItemOf};
+ghost use Rattle.mh_items.specs.Fitting.{FitsSets};
+ghost use Rattle.mh_items.specs.code.ItemUnion.{IsItemUnion, IsUnionSoFar, HasNextItem, item_order};
 
 use mh_grammar::{Grammar, Memory, Sequence};
 use mh_items_kernels::{Closure, KernelItem, copied_item, joined_item};
 use std::alloc::Global;
 use std::cmp::Ordering;
 
-/// The items of both lists, rising; items with one place become one, with the looks of both.
+/// Returns the items of both lists, rising; two items with the same production and dot become one item with the looks
+/// of both.
 pub(crate) fn merged<const W: usize>(
     alloc: Global,
     grammar: &Grammar,
     left: &[KernelItem<W>],
     right: &[KernelItem<W>],
 ) -> Result<Closure<W>, Memory>
-    requires few { W ≤ 8 }
-    requires range { IsInRange (plain_of grammar.now) }
+    requires fits { FitsSets W grammar.now }
     requires left { IsItemList (plain_of grammar.now) (record { items = left.now }) }
     requires right { IsItemList (plain_of grammar.now) (record { items = right.now }) }
-    ensures { IfOk result (λ closed. IsUnion (plain_of grammar.now) left.now right.now closed.items) }
+    ensures { IfOk result (λ closed. IsItemUnion (plain_of grammar.now) left.now right.now closed.items) }
 {
     let mut items = Vec::new(alloc);
     let mut i = 0;
@@ -37,7 +38,7 @@ pub(crate) fn merged<const W: usize>(
     })
 }
 
-/// The item that comes next, and the places in both lists after this item.
+/// Returns the next item, and the indices in both lists after this item.
 fn next_item<const W: usize>(
     grammar: &Grammar,
     left: &[KernelItem<W>],
@@ -45,23 +46,22 @@ fn next_item<const W: usize>(
     right: &[KernelItem<W>],
     j: usize,
 ) -> (KernelItem<W>, (usize, usize))
-    requires few { W ≤ 8 }
-    requires range { IsInRange (plain_of grammar.now) }
+    requires fits { FitsSets W grammar.now }
     requires left { IsItemList (plain_of grammar.now) (record { items = left.now }) }
     requires right { IsItemList (plain_of grammar.now) (record { items = right.now }) }
     requires more { (i < length left.now) ⊎ (j < length right.now) }
-    ensures merged { (items : List ItemOf) → IsMerged (plain_of grammar.now) left.now i right.now j items → IsMerged (plain_of grammar.now) left.now result.1.0 right.now result.1.1 (items ++ result.0 ∷ []) }
+    ensures merged { (items : List ItemOf) → IsUnionSoFar (plain_of grammar.now) left.now i right.now j items → IsUnionSoFar (plain_of grammar.now) left.now result.1.0 right.now result.1.1 (items ++ result.0 ∷ []) }
     ensures more { i + j < result.1.0 + result.1.1 }
 {
-    match turn(left, i, right, j) {
+    match next_side(left, i, right, j) {
         Ordering::Less => (copied_item(&left[i]), (i + 1, j)),
         Ordering::Greater => (copied_item(&right[j]), (i, j + 1)),
         Ordering::Equal => (joined_item(&left[i], &right[j]), (i + 1, j + 1)),
     }
 }
 
-/// Which list has the next item, or both.
-fn turn<const W: usize>(
+/// The list that has the next item: `Less` for the left, `Greater` for the right, `Equal` for both.
+fn next_side<const W: usize>(
     left: &[KernelItem<W>],
     i: usize,
     right: &[KernelItem<W>],
@@ -69,7 +69,7 @@ fn turn<const W: usize>(
 ) -> Ordering
     requires few { W ≤ 8 }
     requires more { (i < length left.now) ⊎ (j < length right.now) }
-    ensures { IsTurn left.now i right.now j result }
+    ensures { HasNextItem left.now i right.now j result }
 {
     if j >= right.len() {
         return Ordering::Less;
@@ -80,9 +80,9 @@ fn turn<const W: usize>(
     order(&left[i], &right[j])
 }
 
-/// Which of two items comes first, by production and then by dot.
+/// The order of two items, by production and then by dot.
 fn order<const W: usize>(x: &KernelItem<W>, y: &KernelItem<W>) -> Ordering
-    ensures { result ≡ place_order x.now y.now }
+    ensures { result ≡ item_order x.now y.now }
 {
     if x.production < y.production {
         return Ordering::Less;

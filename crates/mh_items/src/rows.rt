@@ -1,39 +1,41 @@
-//! A row of items for each symbol.
+//! Rows of items, one for each symbol.
 ghost use Rattle.std.specs.Prelude.{◌≡◌, ◌<◌, ◌≤◌, ◌+◌, ◌^◌, [], ◌∷◌, ◌++◌, ℕ, set, length, vec_len, slice_index_or, IfOk, OnOk};
 ghost use Rattle.mh_grammar.specs.Plain.{plain_of, IsInRange, IsSymbolBelow};
-ghost use Rattle.mh_items.specs.code.Rows.{AreEmpty, AreFilled, IsListed, place_of, row_at};
+ghost use Rattle.mh_items.specs.Fitting.{FitsSets};
+ghost use Rattle.mh_items.specs.code.SymbolRows.{AreRowsEmpty, AreFilled, IsListedAsFilled, row_index, row_at};
 
 use mh_grammar::{Grammar, Memory, Sequence, Symbol};
 use mh_items_kernels::KernelItem;
 use std::alloc::Global;
 
-/// A row of items for each token, then one for each nonterminal; and the places of the rows that have items. It is used
-/// again and again, at the cost of what it held.
+/// A row of items for each token, then one for each nonterminal, and the indices of the rows with items. It is scratch
+/// space: emptying it takes time proportional to its contents.
 #[derive(Drop)]
-pub struct Rows<const W: usize> {
+pub struct SymbolRows<const W: usize> {
+    /// The items of each row.
     pub(crate) rows: Vec<Sequence<KernelItem<W>>>,
+    /// The indices of the rows with items.
     pub(crate) filled: Vec<u32>,
 }
 
-impl<const W: usize> Rows<W> {
-    /// Empty rows for the symbols of a grammar. It fails for want of memory alone.
-    pub fn new(alloc: Global, grammar: &Grammar) -> Result<Rows<W>, Memory>
-        requires few { W ≤ 8 }
-        requires range { IsInRange (plain_of grammar.now) }
-        ensures { IfOk result (AreEmpty (plain_of grammar.now)) }
+impl<const W: usize> SymbolRows<W> {
+    /// Returns empty rows for the symbols of a grammar. It fails only if there is no memory.
+    pub fn new(alloc: Global, grammar: &Grammar) -> Result<SymbolRows<W>, Memory>
+        requires fits { FitsSets W grammar.now }
+        ensures { IfOk result (AreRowsEmpty (plain_of grammar.now)) }
     {
         let count = grammar.tokens.len() + grammar.nonterminals.len();
         let mut rows = Vec::with_capacity(alloc, count)?;
         for _ in 0..count {
             rows.push(Sequence::new(alloc))?;
         }
-        Ok(Rows {
+        Ok(SymbolRows {
             rows,
             filled: Vec::new(alloc),
         })
     }
 
-    /// Puts an item behind those of a row.
+    /// Appends an item to a row.
     pub(crate) fn add(&mut self, place: usize, item: KernelItem<W>) -> Result<(), Memory>
         requires few { W ≤ 8 }
         requires place { place < vec_len self.old.rows }
@@ -46,13 +48,13 @@ impl<const W: usize> Rows<W> {
         Ok(())
     }
 
-    /// Notes a row that has no items yet as filled.
+    /// Adds a row to the list of filled rows if it is still empty.
     fn note_filled(&mut self, place: usize) -> Result<(), Memory>
         requires few { W ≤ 8 }
         requires place { place < vec_len self.old.rows }
         requires small { vec_len self.old.rows < 2 ^ 32 }
         ensures rows { OnOk result (self.new.rows ≡ self.old.rows) }
-        ensures listed { OnOk result (IsListed place self.old self.new) }
+        ensures listed { OnOk result (IsListedAsFilled place self.old self.new) }
     {
         if !self.rows[place].is_empty() {
             return Ok(());
@@ -62,11 +64,11 @@ impl<const W: usize> Rows<W> {
     }
 }
 
-/// Where the row of a symbol stands.
+/// The index of the row of a symbol.
 pub(crate) fn place(grammar: &Grammar, symbol: Symbol) -> usize
     requires range { IsInRange (plain_of grammar.now) }
     requires symbol { IsSymbolBelow (length grammar.now.tokens) (length grammar.now.nonterminals) symbol }
-    ensures at { result ≡ place_of (length grammar.now.tokens) symbol }
+    ensures at { result ≡ row_index (length grammar.now.tokens) symbol }
     ensures within { result < length grammar.now.tokens + length grammar.now.nonterminals }
 {
     match symbol {

@@ -1,6 +1,6 @@
-pub mod Dotted
-pub mod Exact
-pub mod OneList
-pub mod Sides
-pub mod Pushing
-pub mod Advancing
+pub mod SymbolAtDot
+pub mod KernelEquality
+pub mod UniqueItemList
+pub mod RhsInRange
+pub mod AppendedItem
+pub mod IsMove

@@ -1,25 +1,26 @@
--- Kernels as lists that are the only ones for their sets of items.
+-- Kernels as lists of items; each set of items has at most one list.
 use Rattle.std.specs.Prelude.{◌≡◌, ◌<◌, ◌≤◌, ◌⊎◌, ◌↔◌, ℕ, length}
 use Rattle.std.specs.List.{AllByRecursion, Contains}
 use Rattle.mh_grammar.specs.declared.types.Look.{Look}
 use Rattle.mh_grammar.specs.Plain.{PlainGrammar, production_count, rhs_of, IsLookBelow}
 use Rattle.mh_grammar.specs.Edges.{IsRising, IsLookBefore}
 use Rattle.mh_grammar.specs.ItemSets.{ItemSet}
-use Rattle.mh_items_kernels.specs.Shapes.{KernelItem}
-use Rattle.mh_items_kernels.specs.Shapes.{Kernel}
+use Rattle.mh_items_kernels.specs.KernelTypes.{KernelItem}
+use Rattle.mh_items_kernels.specs.KernelTypes.{Kernel}
 
--- the set of items that a kernel stands for
+-- The set of items that a kernel lists.
 abbrev pub Holds : Kernel → ItemSet
 Holds k p d look = (item : KernelItem) × Contains k.items item × (item.production ≡ p) × (item.dot ≡ d) × Contains item.looks look
 
--- the pair of a production and a dot is in the core of a kernel
-abbrev pub HasPlace : Kernel → ℕ → ℕ → Type 0
-HasPlace k p d = (item : KernelItem) × Contains k.items item × (item.production ≡ p) × (item.dot ≡ d)
+-- The pair of the production p and the dot d is in the core of a kernel.
+abbrev pub HasCoreItem : Kernel → ℕ → ℕ → Type 0
+HasCoreItem k p d = (item : KernelItem) × Contains k.items item × (item.production ≡ p) × (item.dot ≡ d)
 
+-- The order of items: by production, then by dot (this project's own).
 abbrev pub IsItemBefore : KernelItem → KernelItem → Type 0
 IsItemBefore i j = (i.production < j.production) ⊎ ((i.production ≡ j.production) × (i.dot < j.dot))
 
--- an item with its looks: numbers are the grammar's, the looks rise, and there is one
+-- An item with its looks: its numbers are in the grammar's range, its looks rise, and it has at least one look.
 pub record IsKernelItem (g : PlainGrammar) (item : KernelItem) : Type 0 where
   pub production : item.production < production_count g
   pub dot : item.dot ≤ length (rhs_of g item.production)
@@ -27,12 +28,12 @@ pub record IsKernelItem (g : PlainGrammar) (item : KernelItem) : Type 0 where
   pub rising : IsRising IsLookBefore item.looks
   pub some : 0 < length item.looks
 
--- a list of items that is the only one for its set
+-- A rising list of items: the only list for its set of items.
 pub record IsItemList (g : PlainGrammar) (k : Kernel) : Type 0 where
   pub items : AllByRecursion (IsKernelItem g) k.items
   pub rising : IsRising IsItemBefore k.items
 
--- an item with the looks of both
+-- The item z has the production and the dot of x, and the looks of both x and y.
 pub record IsJoined (x y z : KernelItem) : Type 0 where
   pub production : z.production ≡ x.production
   pub dot : z.dot ≡ x.dot

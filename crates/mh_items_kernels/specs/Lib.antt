@@ -2,5 +2,5 @@ pub mod Automaton
 pub mod Collection
 pub mod Conflicts
 pub mod Kernels
-pub mod Shapes
+pub mod KernelTypes
 pub mod code

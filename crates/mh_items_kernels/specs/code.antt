@@ -1,2 +1,2 @@
-pub mod Empties
-pub mod Moving
+pub mod EmptyMarks
+pub mod KernelMoves

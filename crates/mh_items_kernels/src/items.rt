@@ -1,5 +1,5 @@
-//! What closures, moves and merging do with one item: how its dot moves, how it is copied, how two become one, and
-//! which looks it passes on.
+//! Operations on one item, for closures, moves and merging: copy it, advance its dot, join its looks with those of
+//! another item, and compute the looks that it passes on.
 ghost use Rattle.std.specs.Prelude.{◌≡◌, ◌<◌, ◌+◌, ◌^◌, ◌⊎◌, ◌↔◌, true};
 ghost use Rattle.std.specs.List.{Contains};
 ghost use Rattle.mh_grammar.specs.declared.types.Look.{Look as LookOf};
@@ -8,7 +8,7 @@ ghost use Rattle.mh_items_kernels.specs.Kernels.{IsJoined};
 use crate::kernels::KernelItem;
 use mh_sets::TokenSet;
 
-/// The item with the dot after the next symbol.
+/// The item with its dot after the next symbol.
 pub fn advanced<const W: usize>(item: &KernelItem<W>) -> KernelItem<W>
     requires { item.now.dot + 1 < 2 ^ 32 }
     ensures { result ≡ record item.now { dot = item.now.dot + 1 } }
@@ -20,7 +20,7 @@ pub fn advanced<const W: usize>(item: &KernelItem<W>) -> KernelItem<W>
     }
 }
 
-/// The same item. It takes no memory.
+/// A copy of the item. It takes no memory.
 pub fn copied_item<const W: usize>(item: &KernelItem<W>) -> KernelItem<W>
     ensures { result ≡ item.now }
 {
@@ -31,7 +31,7 @@ pub fn copied_item<const W: usize>(item: &KernelItem<W>) -> KernelItem<W>
     }
 }
 
-/// An item with the looks of another one, too.
+/// The item with the looks of another item added.
 pub fn joined_item<const W: usize>(item: &KernelItem<W>, other: &KernelItem<W>) -> KernelItem<W>
     ensures { IsJoined item.now other.now result }
 {
@@ -44,7 +44,7 @@ pub fn joined_item<const W: usize>(item: &KernelItem<W>, other: &KernelItem<W>) 
     }
 }
 
-/// The tokens, and where they pass the looks on, the looks.
+/// The union of the tokens with the looks, if `passes`; otherwise the tokens alone.
 pub fn passed_on<const W: usize>(
     tokens: &TokenSet<W>,
     passes: bool,

@@ -1,49 +1,51 @@
-//! Lists of items, which kernels and closures are, and automata.
+//! Types for items, kernels and automata.
 use mh_grammar::{Edge, Memory, Sequence};
 use mh_sets::TokenSet;
 use std::alloc::{AllocError, AllocFailed};
 
-/// A production and a dot with the looks that it stands with.
+/// A production with a dot and a lookahead set.
 #[derive(Drop, PartialEq, Eq, Hash)]
 pub struct ItemWith<L> {
-    /// The number of the production; those of the starts come first.
+    /// The number of the production; the start productions are first.
     pub production: u32,
-    /// How many symbols of the right side stand before the dot.
+    /// The number of symbols of the right side before the dot.
     pub dot: u32,
     pub looks: L,
 }
 
-/// Items, rising by production and dot: those of a kernel or of a closure.
+/// A list of items, rising by production and then by dot: a kernel or a closure.
 #[derive(Drop, PartialEq, Eq, Hash)]
 pub struct ItemsWith<L> {
     pub items: Sequence<ItemWith<L>>,
 }
 
-/// States by their kernels, with the edges of each in the order of symbols.
+/// The kernels of the states, and for each state its edges in the order of their symbols.
 #[derive(Drop)]
 pub struct AutomatonWith<L> {
+    /// The kernels of the states, by their numbers.
     pub kernels: Sequence<ItemsWith<L>>,
+    /// The edges of each state, in the order of their symbols.
     pub edges: Sequence<Sequence<Edge>>,
 }
 
-/// An item whose looks are a set of a width.
+/// An item whose lookahead set has W words.
 pub type KernelItem<const W: usize> = ItemWith<TokenSet<W>>;
 
-/// A kernel whose looks are sets of a width.
+/// A kernel whose lookahead sets have W words.
 pub type Kernel<const W: usize> = ItemsWith<TokenSet<W>>;
 
-/// A closure whose looks are sets of a width.
+/// A closure whose lookahead sets have W words.
 pub type Closure<const W: usize> = ItemsWith<TokenSet<W>>;
 
-/// An automaton whose looks are sets of a width.
+/// An automaton whose lookahead sets have W words.
 pub type Automaton<const W: usize> = AutomatonWith<TokenSet<W>>;
 
-/// Why no automaton is given.
+/// The reason why no automaton is returned.
 #[derive(Clone, Copy, PartialEq, Eq)]
 pub enum StatesFault {
-    /// It has more than 200,000 states.
+    /// The automaton has more than 200,000 states.
     TooManyStates,
-    /// There was no memory for it.
+    /// There was no memory for the automaton.
     Memory,
 }
 

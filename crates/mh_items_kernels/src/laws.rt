@@ -1,21 +1,21 @@
-//! Laws of the definitions, and equality.
+//! Laws of the definitions, and equality of kernels.
 ghost use Rattle.std.specs.Prelude.{◌≡◌, ◌↔◌, IsTrue};
 ghost use Rattle.mh_grammar.specs.Plain.{plain_of};
-ghost use Rattle.mh_grammar.specs.ItemSets.{AreSame};
-ghost use Rattle.mh_items_kernels.specs.Shapes.{Kernel as KernelOf};
+ghost use Rattle.mh_grammar.specs.ItemSets.{AreSameItems};
+ghost use Rattle.mh_items_kernels.specs.KernelTypes.{Kernel as KernelOf};
 ghost use Rattle.mh_items_kernels.specs.Kernels.{Holds, IsItemList};
 
 use crate::kernels::Kernel;
 use mh_grammar::Grammar;
 
-/// Kernels with one set of items are one kernel.
+/// Law: two kernels with the same set of items are equal.
 pub fn one_list(grammar: &Grammar)
-    ensures { (left right : KernelOf) → IsItemList (plain_of grammar.now) left → IsItemList (plain_of grammar.now) right → AreSame (Holds left) (Holds right) → left ≡ right }
+    ensures { (left right : KernelOf) → IsItemList (plain_of grammar.now) left → IsItemList (plain_of grammar.now) right → AreSameItems (Holds left) (Holds right) → left ≡ right }
 {
     let _grammar = grammar;
 }
 
-/// Whether two kernels are one.
+/// True if the two kernels are equal.
 pub fn are_equal<const W: usize>(left: &Kernel<W>, right: &Kernel<W>) -> bool
     ensures { IsTrue result ↔ (left.now ≡ right.now) }
 {

@@ -1,4 +1,4 @@
-//! LR(1) kernels, the symbols at their dots, and what every layer needs of an automaton.
+//! LR(1) kernels, the symbols at their dots, and the properties that every layer needs of an automaton.
 #![tactic(auto)]
 
 mod items;
@@ -12,5 +12,5 @@ pub use kernels::{
     Automaton, AutomatonWith, Closure, ItemWith, ItemsWith, Kernel, KernelItem, StatesFault,
 };
 pub use laws::{are_equal, one_list};
-pub use places::{behind, rest_from, symbol_at, symbol_in};
+pub use places::{rest_from, symbol_at, symbol_in, symbols_after_dot};
 pub use starts::start_kernel;

@@ -1,4 +1,4 @@
-//! The kernels that automata begin with.
+//! The kernels of the start states.
 ghost use Rattle.std.specs.Prelude.{◌≡◌, ◌<◌, ◌≤◌, length, IfOk};
 ghost use Rattle.mh_grammar.specs.Plain.{plain_of, IsInRange};
 ghost use Rattle.mh_items_kernels.specs.Kernels.{IsItemList};
@@ -9,7 +9,8 @@ use mh_grammar::{Grammar, Look, Memory, Sequence};
 use mh_sets::TokenSet;
 use std::alloc::Global;
 
-/// The kernel of a start: its production, before its symbol, at the end of the stream. It fails for want of memory alone.
+/// The kernel of a start: its production with the dot before its symbol and the end of the stream as look. It fails
+/// only if there is no memory.
 pub fn start_kernel<const W: usize>(
     alloc: Global,
     grammar: &Grammar,
@@ -21,7 +22,7 @@ pub fn start_kernel<const W: usize>(
     ensures kernel { IfOk result (IsItemList (plain_of grammar.now)) }
     ensures exact { IfOk result (λ k. k ≡ kernel_of_start start) }
 {
-    // The clauses alone speak of it.
+    // Only the contract uses the grammar.
     let _grammar = grammar;
     let mut items = Sequence::new(alloc);
     items.push(KernelItem {

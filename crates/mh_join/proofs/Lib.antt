@@ -1,5 +1,5 @@
-pub mod PreludeRules
-pub mod Shallow
-pub mod Able
-pub mod Costing
-pub mod Readying
+pub mod PreludeResolved
+pub mod PreludeDepth
+pub mod CanJoin
+pub mod CostsInRange
+pub mod JoinedReady

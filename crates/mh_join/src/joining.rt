@@ -1,21 +1,21 @@
-//! Several files as one list of rules.
+//! Joins several files into one list of rules.
 ghost use Rattle.std.specs.Prelude.{◌≡◌, IfOk};
 ghost use Rattle.mh_join_names.specs.Joining.{Joins};
-ghost use Rattle.mh_join_names.specs.code.Maps.{HasMeanings};
+ghost use Rattle.mh_join_names.specs.code.SymbolTables.{HasMeanings};
 ghost use Rattle.mh_join_names.specs.Prelude as spec;
-ghost use Rattle.mh_rules.specs.Ready.{AreModulesReady, IsReady};
+ghost use Rattle.mh_rules.specs.Ready.{AreModulesReady, IsJoinedReady};
 
 use crate::checking::check;
 use mh_join_gather::names_of;
-use mh_join_names::{JoinFault, Names};
+use mh_join_names::{JoinFault, SymbolTables};
 use mh_join_parts::{joined, prelude_rules};
 use mh_rules::{Joined, Module, Rule};
 use std::alloc::Global;
 
-/// Joins files whose names are known.
+/// Joins files whose tables of names are given.
 fn join_named(
     alloc: Global,
-    names: &Names,
+    names: &SymbolTables,
     modules: &[Module],
     prelude: bool,
     from_prelude: &[Rule],
@@ -34,7 +34,7 @@ fn join_named(
     }
 }
 
-/// Joins files with this prelude.
+/// Joins files with the given prelude.
 fn join_with(
     alloc: Global,
     modules: &[Module],
@@ -51,23 +51,23 @@ fn join_with(
     }
 }
 
-/// Joins the files of a grammar. Tokens of all files are shared and numbered in order of first declaration. A rule is
-/// public where it is marked so, or its name is a start symbol of any file, or another definition of its name in the
-/// file is public; public definitions of one name are joined, and other rules are their file's own. A name in a file
-/// stands for the first that is there of a formal, a token, a rule of the file's own, a public rule, a rule of the
-/// prelude; names in the prelude stand for its own rules. Rules come in the order of their first definitions, those of
-/// the prelude last; starts in order of first naming. A rule of a file's own whose name another file defines too is printed
-/// with `@` and the number of its file, and a rule of the prelude whose name a file defines with `@0`. With `prelude` false
-/// there is no prelude.
+/// Joins the files of a grammar. The tokens of all files are shared and numbered in order of first declaration. A rule
+/// is public if it is marked `%public`, or its name is a start symbol of any file, or another definition of its name in
+/// the file is public. Public definitions of one name are joined to one rule; all other rules are private to their
+/// files. A name in a file means a formal, else a token, else a private rule of the file, else a public rule, else a
+/// rule of the prelude; a name in the prelude means a rule of the prelude. The rules come in the order of their first
+/// definitions, those of the prelude last; the start symbols in order of first declaration. A private rule whose name
+/// another file defines too is printed with `@` and the number of its file, and a rule of the prelude whose name a file
+/// defines with `@0`. If `prelude` is false there is no prelude.
 ///
-/// Answers the first fault where there is one: all names and strings stand for something; nothing has two meanings;
-/// some start symbol is named; no rule speaks of `error`; each `%prec` is of a token or has a level; there are at most
-/// 512 tokens. Answers `Memory` only where memory runs out. The recursion over actuals is as deep as they are, at most
-/// `MAX_DEPTH`. (The Menhir manual on grammars split into files; this project's profile.)
+/// Returns the first fault, if there is one. The faults are searched in this order: undefined names and strings; names
+/// and strings with two meanings; no start symbol; the token `error` in a rule; a `%prec` whose name is no token and
+/// has no level; more than 512 tokens. Returns `Memory` only if memory runs out. The recursion over actuals is at most
+/// `MAX_DEPTH` deep. (Menhir manual, grammars split into files; the choice is a rule of this project.)
 pub fn join(alloc: Global, modules: &[Module], prelude: bool) -> Result<Joined, JoinFault>
     requires { AreModulesReady modules.now }
     ensures joins { Joins prelude modules.now result }
-    ensures ready { IfOk result IsReady }
+    ensures ready { IfOk result IsJoinedReady }
 {
     match prelude_rules(alloc, prelude) {
         Ok(from_prelude) => join_with(alloc, modules, prelude, from_prelude.as_slice()),

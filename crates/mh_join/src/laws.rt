@@ -1,11 +1,11 @@
-//! Laws of the definition, each the contract of an empty function.
+//! Laws of the definition of joining. Each is the contract of an empty function.
 ghost use Rattle.std.specs.Prelude.{◌≡◌, ◌≢◌, Err, Ok};
 ghost use Rattle.mh_join_names.specs.Joining.{Joins};
 
 use mh_join_names::JoinFault;
 use mh_rules::{Joined, Module};
 
-/// The files of a grammar are joined in one way.
+/// Law: two joined values of the same files are equal.
 pub fn is_one_joined(prelude: bool, modules: &[Module], left: &Joined, right: &Joined)
     requires left { Joins prelude modules.now (Ok left.now) }
     requires right { Joins prelude modules.now (Ok right.now) }
@@ -17,7 +17,7 @@ pub fn is_one_joined(prelude: bool, modules: &[Module], left: &Joined, right: &J
     let _right = right;
 }
 
-/// Where files are joined there is no fault but want of memory.
+/// Law: if files can be joined, then the only fault that joining may report is that memory ran out.
 pub fn is_joined_or_fault(prelude: bool, modules: &[Module], joined: &Joined, fault: &JoinFault)
     requires joined { Joins prelude modules.now (Ok joined.now) }
     requires fault { Joins prelude modules.now (Err fault.now) }
@@ -29,7 +29,7 @@ pub fn is_joined_or_fault(prelude: bool, modules: &[Module], joined: &Joined, fa
     let _fault = fault;
 }
 
-/// There is one first fault.
+/// Law: two faults of the same files are equal, unless one of them reports that memory ran out.
 pub fn is_one_fault(prelude: bool, modules: &[Module], left: &JoinFault, right: &JoinFault)
     requires left { Joins prelude modules.now (Err left.now) }
     requires right { Joins prelude modules.now (Err right.now) }

@@ -1,4 +1,4 @@
-//! The files of a grammar joined: names resolved, public rules put together, the prelude beside them.
+//! Joins the files of a grammar: names are resolved, public rules of one name are joined, and the prelude is added.
 #![tactic(auto)]
 
 mod checking;

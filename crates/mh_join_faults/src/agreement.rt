@@ -1,4 +1,4 @@
-//! Whether a later definition or level agrees with the first of its name.
+//! Whether a later definition or level agrees with the first one of its name.
 ghost use Rattle.std.specs.Prelude.{◌≡◌};
 ghost use Rattle.mh_join_names.specs.Faults as spec;
 
@@ -6,14 +6,14 @@ use mh_grammar::Level;
 use mh_join_names::Outline;
 use mh_rules::Rule;
 
-/// Whether a definition agrees with the first of its rule in `%inline` and in the count of formals.
+/// Whether a definition has the `%inline` and the number of formals of its rule's first definition.
 pub(crate) fn same_shape(first: &Outline, rule: &Rule) -> bool
     ensures { result ≡ spec.same_shape first.now rule.now }
 {
     first.inlined == rule.inlined && first.formals == rule.formals.len() as u64
 }
 
-/// Whether two levels come from one declaration.
+/// Whether two levels come from the same declaration.
 pub(crate) fn same_level(first: &Level, level: Level) -> bool
     ensures { result ≡ spec.same_level first.now level }
 {

@@ -1,23 +1,25 @@
-//! Names and strings with two meanings.
+//! The search for names and strings with two meanings.
 ghost use Rattle.std.specs.Prelude.{◌≡◌, []};
 ghost use Rattle.std.specs.List.{flat_map, enumerate_from};
 ghost use Rattle.mh_join_names.specs.Names.{files};
 ghost use Rattle.mh_join_names.specs.Names as names_spec;
 ghost use Rattle.mh_join_names.specs.Faults as spec;
-ghost use Rattle.mh_join_names.specs.Faults.{Finds, unless, name_duplicates, rule_duplicates, other_kind, kinds_in_file, other_token, aliases_in_file, repeats, own_names, own_in_file, formals_in_file, other_shape, shapes_in_file, other_level, levels_in_declaration, levels_in_file};
-ghost use Rattle.mh_join_names.specs.code.Maps.{meanings_in, is_public_in};
-ghost use Rattle.mh_join_faults.specs.code.Once.{PutsOnce, PutsOwn};
+ghost use Rattle.mh_join_names.specs.Faults.{ReportsFirst, unless, name_duplicates, rule_duplicates, other_kind, kinds_in_file, other_token, aliases_in_file, repeats, own_names, own_in_file, formals_in_file, other_shape, shapes_in_file, other_level, levels_in_declaration, levels_in_file};
+ghost use Rattle.mh_join_names.specs.code.SymbolTables.{meanings_in, is_public_in};
+ghost use Rattle.mh_join_faults.specs.code.UniqueNames.{InsertsUnique, InsertsPrivate};
 
 use crate::agreement::{same_level, same_shape};
 use mh_grammar::{Level, Name};
-use mh_join_names::{JoinFault, Kind, Names, is_public, marked_public, name_by, put_name};
+use mh_join_names::{
+    JoinFault, NameKind, SymbolTables, is_public, marked_public, name_by, put_name,
+};
 use mh_rules::{LevelDecl, Module, Ref, Rule, TokenDecl};
 use std::alloc::Global;
 use std::collections::HashSet;
 
-/// Refuses a name, unless it agrees with what came first.
+/// Reports a name as a duplicate, unless it agrees with its first occurrence.
 fn require_one(agrees: bool, name: &Name) -> Result<(), JoinFault>
-    ensures { Finds (unless agrees (JoinFault.Duplicate name.now)) result }
+    ensures { ReportsFirst (unless agrees (JoinFault.Duplicate name.now)) result }
 {
     if agrees {
         return Ok(());
@@ -28,8 +30,8 @@ fn require_one(agrees: bool, name: &Name) -> Result<(), JoinFault>
     }
 }
 
-fn check_kind(names: &Names, kind: Kind, name: &Name) -> Result<(), JoinFault>
-    ensures { Finds (other_kind (meanings_in names.now) kind name.now) result }
+fn check_kind(names: &SymbolTables, kind: NameKind, name: &Name) -> Result<(), JoinFault>
+    ensures { ReportsFirst (other_kind (meanings_in names.now) kind name.now) result }
 {
     let agrees = match names.kinds.get(name) {
         Some(first) => *first == kind,
@@ -38,31 +40,31 @@ fn check_kind(names: &Names, kind: Kind, name: &Name) -> Result<(), JoinFault>
     require_one(agrees, name)
 }
 
-fn check_token_kinds(names: &Names, tokens: &[TokenDecl]) -> Result<(), JoinFault>
-    ensures { Finds (flat_map (λ t. other_kind (meanings_in names.now) Kind.Token t.name) tokens.now) result }
+fn check_token_kinds(names: &SymbolTables, tokens: &[TokenDecl]) -> Result<(), JoinFault>
+    ensures { ReportsFirst (flat_map (λ t. other_kind (meanings_in names.now) NameKind.Token t.name) tokens.now) result }
 {
     for token in tokens {
-        if let Err(fault) = check_kind(names, Kind::Token, &token.name) {
+        if let Err(fault) = check_kind(names, NameKind::Token, &token.name) {
             return Err(fault);
         }
     }
     Ok(())
 }
 
-fn check_rule_kinds(names: &Names, rules: &[Rule]) -> Result<(), JoinFault>
-    ensures { Finds (flat_map (λ r. other_kind (meanings_in names.now) Kind.Rule r.name) rules.now) result }
+fn check_rule_kinds(names: &SymbolTables, rules: &[Rule]) -> Result<(), JoinFault>
+    ensures { ReportsFirst (flat_map (λ r. other_kind (meanings_in names.now) NameKind.Rule r.name) rules.now) result }
 {
     for rule in rules {
-        if let Err(fault) = check_kind(names, Kind::Rule, &rule.name) {
+        if let Err(fault) = check_kind(names, NameKind::Rule, &rule.name) {
             return Err(fault);
         }
     }
     Ok(())
 }
 
-/// No name in a file is a token and a rule.
-fn check_kinds(names: &Names, file: &Module) -> Result<(), JoinFault>
-    ensures { Finds (kinds_in_file (meanings_in names.now) file.now) result }
+/// Checks that no name in a file is both a token and a rule.
+fn check_kinds(names: &SymbolTables, file: &Module) -> Result<(), JoinFault>
+    ensures { ReportsFirst (kinds_in_file (meanings_in names.now) file.now) result }
 {
     match check_token_kinds(names, file.tokens.as_slice()) {
         Ok(()) => check_rule_kinds(names, file.rules.as_slice()),
@@ -70,8 +72,8 @@ fn check_kinds(names: &Names, file: &Module) -> Result<(), JoinFault>
     }
 }
 
-fn check_alias(names: &Names, token: &TokenDecl) -> Result<(), JoinFault>
-    ensures { Finds (other_token (meanings_in names.now) token.now.name token.now.alias) result }
+fn check_alias(names: &SymbolTables, token: &TokenDecl) -> Result<(), JoinFault>
+    ensures { ReportsFirst (other_token (meanings_in names.now) token.now.name token.now.alias) result }
 {
     let Some(alias) = &token.alias else {
         return Ok(());
@@ -83,9 +85,9 @@ fn check_alias(names: &Names, token: &TokenDecl) -> Result<(), JoinFault>
     require_one(agrees, alias)
 }
 
-/// No alias in a file has two tokens.
-fn check_aliases(names: &Names, file: &Module) -> Result<(), JoinFault>
-    ensures { Finds (aliases_in_file (meanings_in names.now) file.now) result }
+/// Checks that no alias in a file has two tokens.
+fn check_aliases(names: &SymbolTables, file: &Module) -> Result<(), JoinFault>
+    ensures { ReportsFirst (aliases_in_file (meanings_in names.now) file.now) result }
 {
     for token in file.tokens.as_slice() {
         if let Err(fault) = check_alias(names, token) {
@@ -95,9 +97,9 @@ fn check_aliases(names: &Names, file: &Module) -> Result<(), JoinFault>
     Ok(())
 }
 
-/// Puts in a name, which is not to be there.
+/// Inserts a name into the set of the names seen, or reports a duplicate if the set has it.
 fn put_once(seen: &mut HashSet<Name>, name: &Name) -> Result<(), JoinFault>
-    ensures { PutsOnce seen.old name.now seen.new result }
+    ensures { InsertsUnique seen.old name.now seen.new result }
 {
     match put_name(seen, name) {
         Ok(is_new) => require_one(is_new, name),
@@ -105,9 +107,9 @@ fn put_once(seen: &mut HashSet<Name>, name: &Name) -> Result<(), JoinFault>
     }
 }
 
-/// No name stands twice.
+/// Checks that no name occurs twice in a list.
 fn check_names(alloc: Global, names: &[Name]) -> Result<(), JoinFault>
-    ensures { Finds (repeats [] names.now) result }
+    ensures { ReportsFirst (repeats [] names.now) result }
 {
     let mut seen = HashSet::new(alloc);
     for name in names {
@@ -118,9 +120,9 @@ fn check_names(alloc: Global, names: &[Name]) -> Result<(), JoinFault>
     Ok(())
 }
 
-/// No two rules of a file's own have one name.
-fn check_own(alloc: Global, names: &Names, file: &Module) -> Result<(), JoinFault>
-    ensures { Finds (own_in_file (meanings_in names.now) file.now) result }
+/// Checks that no two private rules of a file have the same name.
+fn check_own(alloc: Global, names: &SymbolTables, file: &Module) -> Result<(), JoinFault>
+    ensures { ReportsFirst (own_in_file (meanings_in names.now) file.now) result }
 {
     match marked_public(alloc, file.rules.as_slice()) {
         Ok(marked) => check_own_rules(alloc, names, &marked, file.rules.as_slice()),
@@ -130,11 +132,11 @@ fn check_own(alloc: Global, names: &Names, file: &Module) -> Result<(), JoinFaul
 
 fn check_own_rules(
     alloc: Global,
-    names: &Names,
+    names: &SymbolTables,
     marked: &HashSet<Name>,
     rules: &[Rule],
 ) -> Result<(), JoinFault>
-    ensures { Finds (repeats [] (own_names (is_public_in names.now marked.now) rules.now)) result }
+    ensures { ReportsFirst (repeats [] (own_names (is_public_in names.now marked.now) rules.now)) result }
 {
     let mut seen = HashSet::new(alloc);
     for rule in rules {
@@ -145,14 +147,15 @@ fn check_own_rules(
     Ok(())
 }
 
-/// Puts in the name of a rule that is not public, which is not to be there.
+/// Inserts the name of a private rule into the set of the names seen, or reports a duplicate; a public rule changes
+/// nothing.
 fn put_own(
-    names: &Names,
+    names: &SymbolTables,
     marked: &HashSet<Name>,
     seen: &mut HashSet<Name>,
     rule: &Rule,
 ) -> Result<(), JoinFault>
-    ensures { PutsOwn (is_public_in names.now marked.now rule.now.name) seen.old rule.now.name seen.new result }
+    ensures { InsertsPrivate (is_public_in names.now marked.now rule.now.name) seen.old rule.now.name seen.new result }
 {
     if is_public(&names.starts, marked, &rule.name) {
         return Ok(());
@@ -160,9 +163,9 @@ fn put_own(
     put_once(seen, &rule.name)
 }
 
-/// No rule of a file has one formal twice.
+/// Checks that no rule of a file has a formal twice.
 fn check_formals(alloc: Global, rules: &[Rule]) -> Result<(), JoinFault>
-    ensures { Finds (flat_map (λ r. repeats [] r.formals) rules.now) result }
+    ensures { ReportsFirst (flat_map (λ r. repeats [] r.formals) rules.now) result }
 {
     for rule in rules {
         if let Err(fault) = check_names(alloc, rule.formals.as_slice()) {
@@ -172,11 +175,12 @@ fn check_formals(alloc: Global, rules: &[Rule]) -> Result<(), JoinFault>
     Ok(())
 }
 
-/// Whether a public rule is like its first definition.
-fn has_first_shape(names: &Names, rule: &Rule) -> bool
+/// Whether a public rule agrees with its first definition.
+fn has_first_shape(names: &SymbolTables, rule: &Rule) -> bool
     ensures { result ≡ spec.agrees spec.same_shape ((meanings_in names.now).joined rule.now.name) rule.now }
 {
-    // A public rule of the files has a number, and its first definition stands there. What has none agrees with all.
+    // Every public rule of the files has a number, and the outline with this number is that of its first definition. A
+    // name without a number agrees with every definition.
     let Some(number) = names.numbering.public.get(&rule.name) else {
         return true;
     };
@@ -186,8 +190,8 @@ fn has_first_shape(names: &Names, rule: &Rule) -> bool
     }
 }
 
-fn check_shape(names: &Names, marked: &HashSet<Name>, rule: &Rule) -> Result<(), JoinFault>
-    ensures { Finds (other_shape (meanings_in names.now) (is_public_in names.now marked.now) rule.now) result }
+fn check_shape(names: &SymbolTables, marked: &HashSet<Name>, rule: &Rule) -> Result<(), JoinFault>
+    ensures { ReportsFirst (other_shape (meanings_in names.now) (is_public_in names.now marked.now) rule.now) result }
 {
     if !is_public(&names.starts, marked, &rule.name) {
         return Ok(());
@@ -195,8 +199,12 @@ fn check_shape(names: &Names, marked: &HashSet<Name>, rule: &Rule) -> Result<(),
     require_one(has_first_shape(names, rule), &rule.name)
 }
 
-fn check_file_shapes(names: &Names, marked: &HashSet<Name>, rules: &[Rule]) -> Result<(), JoinFault>
-    ensures { Finds
+fn check_file_shapes(
+    names: &SymbolTables,
+    marked: &HashSet<Name>,
+    rules: &[Rule],
+) -> Result<(), JoinFault>
+    ensures { ReportsFirst
         (flat_map (other_shape (meanings_in names.now) (is_public_in names.now marked.now)) rules.now)
         result }
 {
@@ -208,9 +216,9 @@ fn check_file_shapes(names: &Names, marked: &HashSet<Name>, rules: &[Rule]) -> R
     Ok(())
 }
 
-/// The public rules of a file are like their first definitions.
-fn check_shapes(alloc: Global, names: &Names, file: &Module) -> Result<(), JoinFault>
-    ensures { Finds (shapes_in_file (meanings_in names.now) file.now) result }
+/// Checks that the public rules of a file agree with their first definitions.
+fn check_shapes(alloc: Global, names: &SymbolTables, file: &Module) -> Result<(), JoinFault>
+    ensures { ReportsFirst (shapes_in_file (meanings_in names.now) file.now) result }
 {
     match marked_public(alloc, file.rules.as_slice()) {
         Ok(marked) => check_file_shapes(names, &marked, file.rules.as_slice()),
@@ -218,8 +226,8 @@ fn check_shapes(alloc: Global, names: &Names, file: &Module) -> Result<(), JoinF
     }
 }
 
-fn check_level(names: &Names, level: Level, reference: &Ref) -> Result<(), JoinFault>
-    ensures { Finds
+fn check_level(names: &SymbolTables, level: Level, reference: &Ref) -> Result<(), JoinFault>
+    ensures { ReportsFirst
         (other_level (meanings_in names.now) level
         (names_spec.name_by (meanings_in names.now).aliased reference.now))
         result }
@@ -235,12 +243,12 @@ fn check_level(names: &Names, level: Level, reference: &Ref) -> Result<(), JoinF
 }
 
 fn check_declaration(
-    names: &Names,
+    names: &SymbolTables,
     file: u64,
     rank: u64,
     declared: &LevelDecl,
 ) -> Result<(), JoinFault>
-    ensures { Finds (levels_in_declaration (meanings_in names.now) file (rank, declared.now)) result }
+    ensures { ReportsFirst (levels_in_declaration (meanings_in names.now) file (rank, declared.now)) result }
 {
     let assoc = declared.assoc;
     let level = Level { file, rank, assoc };
@@ -252,9 +260,9 @@ fn check_declaration(
     Ok(())
 }
 
-/// No name in a file's level declarations first got another level.
-fn check_levels(names: &Names, file: u64, levels: &[LevelDecl]) -> Result<(), JoinFault>
-    ensures { Finds
+/// Checks that no name in the level declarations of a file has another level from an earlier declaration.
+fn check_levels(names: &SymbolTables, file: u64, levels: &[LevelDecl]) -> Result<(), JoinFault>
+    ensures { ReportsFirst
         (flat_map (levels_in_declaration (meanings_in names.now) file) (enumerate_from 0 levels.now))
         result }
 {
@@ -266,8 +274,8 @@ fn check_levels(names: &Names, file: u64, levels: &[LevelDecl]) -> Result<(), Jo
     Ok(())
 }
 
-fn check_all_kinds(names: &Names, modules: &[Module]) -> Result<(), JoinFault>
-    ensures { Finds (flat_map (kinds_in_file (meanings_in names.now)) modules.now) result }
+fn check_all_kinds(names: &SymbolTables, modules: &[Module]) -> Result<(), JoinFault>
+    ensures { ReportsFirst (flat_map (kinds_in_file (meanings_in names.now)) modules.now) result }
 {
     for file in modules {
         if let Err(fault) = check_kinds(names, file) {
@@ -277,8 +285,8 @@ fn check_all_kinds(names: &Names, modules: &[Module]) -> Result<(), JoinFault>
     Ok(())
 }
 
-fn check_all_aliases(names: &Names, modules: &[Module]) -> Result<(), JoinFault>
-    ensures { Finds (flat_map (aliases_in_file (meanings_in names.now)) modules.now) result }
+fn check_all_aliases(names: &SymbolTables, modules: &[Module]) -> Result<(), JoinFault>
+    ensures { ReportsFirst (flat_map (aliases_in_file (meanings_in names.now)) modules.now) result }
 {
     for file in modules {
         if let Err(fault) = check_aliases(names, file) {
@@ -288,8 +296,8 @@ fn check_all_aliases(names: &Names, modules: &[Module]) -> Result<(), JoinFault>
     Ok(())
 }
 
-fn check_all_own(alloc: Global, names: &Names, modules: &[Module]) -> Result<(), JoinFault>
-    ensures { Finds (flat_map (own_in_file (meanings_in names.now)) modules.now) result }
+fn check_all_own(alloc: Global, names: &SymbolTables, modules: &[Module]) -> Result<(), JoinFault>
+    ensures { ReportsFirst (flat_map (own_in_file (meanings_in names.now)) modules.now) result }
 {
     for file in modules {
         if let Err(fault) = check_own(alloc, names, file) {
@@ -300,7 +308,7 @@ fn check_all_own(alloc: Global, names: &Names, modules: &[Module]) -> Result<(),
 }
 
 fn check_all_formals(alloc: Global, modules: &[Module]) -> Result<(), JoinFault>
-    ensures { Finds (flat_map formals_in_file modules.now) result }
+    ensures { ReportsFirst (flat_map formals_in_file modules.now) result }
 {
     for file in modules {
         if let Err(fault) = check_formals(alloc, file.rules.as_slice()) {
@@ -310,8 +318,12 @@ fn check_all_formals(alloc: Global, modules: &[Module]) -> Result<(), JoinFault>
     Ok(())
 }
 
-fn check_all_shapes(alloc: Global, names: &Names, modules: &[Module]) -> Result<(), JoinFault>
-    ensures { Finds (flat_map (shapes_in_file (meanings_in names.now)) modules.now) result }
+fn check_all_shapes(
+    alloc: Global,
+    names: &SymbolTables,
+    modules: &[Module],
+) -> Result<(), JoinFault>
+    ensures { ReportsFirst (flat_map (shapes_in_file (meanings_in names.now)) modules.now) result }
 {
     for file in modules {
         if let Err(fault) = check_shapes(alloc, names, file) {
@@ -321,8 +333,8 @@ fn check_all_shapes(alloc: Global, names: &Names, modules: &[Module]) -> Result<
     Ok(())
 }
 
-fn check_all_levels(names: &Names, modules: &[Module]) -> Result<(), JoinFault>
-    ensures { Finds (flat_map (levels_in_file (meanings_in names.now)) (files modules.now)) result }
+fn check_all_levels(names: &SymbolTables, modules: &[Module]) -> Result<(), JoinFault>
+    ensures { ReportsFirst (flat_map (levels_in_file (meanings_in names.now)) (files modules.now)) result }
 {
     for (at, file) in modules.iter().enumerate() {
         if let Err(fault) = check_levels(names, at as u64 + 1, file.levels.as_slice()) {
@@ -332,9 +344,9 @@ fn check_all_levels(names: &Names, modules: &[Module]) -> Result<(), JoinFault>
     Ok(())
 }
 
-/// Names and aliases each mean one thing.
-fn check_names_of_all(names: &Names, modules: &[Module]) -> Result<(), JoinFault>
-    ensures { Finds (name_duplicates (meanings_in names.now) modules.now) result }
+/// Checks that each name and each alias has only one meaning.
+fn check_names_of_all(names: &SymbolTables, modules: &[Module]) -> Result<(), JoinFault>
+    ensures { ReportsFirst (name_duplicates (meanings_in names.now) modules.now) result }
 {
     match check_all_kinds(names, modules) {
         Ok(()) => check_all_aliases(names, modules),
@@ -342,9 +354,13 @@ fn check_names_of_all(names: &Names, modules: &[Module]) -> Result<(), JoinFault
     }
 }
 
-/// Rules and their formals each mean one thing.
-fn check_rules_of_all(alloc: Global, names: &Names, modules: &[Module]) -> Result<(), JoinFault>
-    ensures { Finds (rule_duplicates (meanings_in names.now) modules.now) result }
+/// Checks that each rule and each formal has only one meaning.
+fn check_rules_of_all(
+    alloc: Global,
+    names: &SymbolTables,
+    modules: &[Module],
+) -> Result<(), JoinFault>
+    ensures { ReportsFirst (rule_duplicates (meanings_in names.now) modules.now) result }
 {
     if let Err(fault) = check_all_own(alloc, names, modules) {
         return Err(fault);
@@ -355,9 +371,13 @@ fn check_rules_of_all(alloc: Global, names: &Names, modules: &[Module]) -> Resul
     check_all_shapes(alloc, names, modules)
 }
 
-/// Nothing has two meanings.
-pub fn check_duplicates(alloc: Global, names: &Names, modules: &[Module]) -> Result<(), JoinFault>
-    ensures { Finds (spec.duplicates (meanings_in names.now) modules.now) result }
+/// Checks that nothing in the files has two meanings; reports the first duplicate, or that memory ran out.
+pub fn check_duplicates(
+    alloc: Global,
+    names: &SymbolTables,
+    modules: &[Module],
+) -> Result<(), JoinFault>
+    ensures { ReportsFirst (spec.duplicates (meanings_in names.now) modules.now) result }
 {
     if let Err(fault) = check_names_of_all(names, modules) {
         return Err(fault);

@@ -1,17 +1,17 @@
-//! The other faults: no start, the token `error`, unknown levels, too many tokens.
+//! The search for the other faults: no start symbol, the token `error`, unknown levels, too many tokens.
 ghost use Rattle.std.specs.Prelude.{◌≡◌, ◌++◌, length};
 ghost use Rattle.std.specs.List.{flat_map};
 ghost use Rattle.mh_rules.specs.Ready.{AreModulesReady};
-ghost use Rattle.mh_join_names.specs.Faults.{Finds, unless, has_some, errors_in_actual, errors_in_rule, errors_in_file, unlevelled, unlevelled_in_rule, unlevelled_in_file, many_tokens, other_faults};
-ghost use Rattle.mh_join_names.specs.code.Maps.{meanings_in};
+ghost use Rattle.mh_join_names.specs.Faults.{ReportsFirst, unless, has_some, errors_in_actual, errors_in_rule, errors_in_file, unlevelled, unlevelled_in_rule, unlevelled_in_file, many_tokens, other_faults};
+ghost use Rattle.mh_join_names.specs.code.SymbolTables.{meanings_in};
 
 use crate::undefined::is_error;
 use mh_grammar::Name;
-use mh_join_names::{JoinFault, Names};
+use mh_join_names::{JoinFault, SymbolTables};
 use mh_rules::{Actual, MAX_TOKENS, Module, Ref, Rule};
 
-fn check_start(names: &Names) -> Result<(), JoinFault>
-    ensures { Finds (unless (has_some (meanings_in names.now).starts) JoinFault.NoStart) result }
+fn check_start(names: &SymbolTables) -> Result<(), JoinFault>
+    ensures { ReportsFirst (unless (has_some (meanings_in names.now).starts) JoinFault.NoStart) result }
 {
     if names.starts.is_empty() {
         Err(JoinFault::NoStart)
@@ -22,7 +22,7 @@ fn check_start(names: &Names) -> Result<(), JoinFault>
 
 #[cycle(errors)]
 fn check_actual(actual: &Actual) -> Result<(), JoinFault>
-    ensures { Finds (errors_in_actual actual.now) result }
+    ensures { ReportsFirst (errors_in_actual actual.now) result }
 {
     if is_error(&actual.head) {
         return Err(JoinFault::ErrorToken);
@@ -32,7 +32,7 @@ fn check_actual(actual: &Actual) -> Result<(), JoinFault>
 
 #[cycle(errors)]
 fn check_actuals(actuals: &[Actual]) -> Result<(), JoinFault>
-    ensures { Finds (flat_map errors_in_actual actuals.now) result }
+    ensures { ReportsFirst (flat_map errors_in_actual actuals.now) result }
 {
     for actual in actuals {
         if let Err(fault) = check_actual(actual) {
@@ -42,9 +42,9 @@ fn check_actuals(actuals: &[Actual]) -> Result<(), JoinFault>
     Ok(())
 }
 
-/// A rule does not speak of the token `error`.
+/// Checks that no head in a rule is the token `error`.
 fn check_rule(rule: &Rule) -> Result<(), JoinFault>
-    ensures { Finds (errors_in_rule rule.now) result }
+    ensures { ReportsFirst (errors_in_rule rule.now) result }
 {
     for alternative in rule.alternatives.as_slice() {
         if let Err(fault) = check_actuals(alternative.producers.as_slice()) {
@@ -55,7 +55,7 @@ fn check_rule(rule: &Rule) -> Result<(), JoinFault>
 }
 
 fn check_rules(rules: &[Rule]) -> Result<(), JoinFault>
-    ensures { Finds (flat_map errors_in_rule rules.now) result }
+    ensures { ReportsFirst (flat_map errors_in_rule rules.now) result }
 {
     for rule in rules {
         if let Err(fault) = check_rule(rule) {
@@ -66,7 +66,7 @@ fn check_rules(rules: &[Rule]) -> Result<(), JoinFault>
 }
 
 fn check_errors(modules: &[Module]) -> Result<(), JoinFault>
-    ensures { Finds (flat_map errors_in_file modules.now) result }
+    ensures { ReportsFirst (flat_map errors_in_file modules.now) result }
 {
     for file in modules {
         if let Err(fault) = check_rules(file.rules.as_slice()) {
@@ -77,7 +77,7 @@ fn check_errors(modules: &[Module]) -> Result<(), JoinFault>
 }
 
 fn require_level(is_known: bool, name: &Name) -> Result<(), JoinFault>
-    ensures { Finds (unless is_known (JoinFault.UnknownLevel name.now)) result }
+    ensures { ReportsFirst (unless is_known (JoinFault.UnknownLevel name.now)) result }
 {
     if is_known {
         return Ok(());
@@ -88,9 +88,9 @@ fn require_level(is_known: bool, name: &Name) -> Result<(), JoinFault>
     }
 }
 
-/// A name behind `%prec` is a token or has a level.
-fn check_prec(names: &Names, prec: &Option<Ref>) -> Result<(), JoinFault>
-    ensures { Finds (unlevelled (meanings_in names.now) prec.now) result }
+/// Checks that a name after `%prec` is a token or has a level.
+fn check_prec(names: &SymbolTables, prec: &Option<Ref>) -> Result<(), JoinFault>
+    ensures { ReportsFirst (unlevelled (meanings_in names.now) prec.now) result }
 {
     match prec {
         Some(Ref::Plain(name)) => require_level(names.is_levelled(name), name),
@@ -98,8 +98,8 @@ fn check_prec(names: &Names, prec: &Option<Ref>) -> Result<(), JoinFault>
     }
 }
 
-fn check_rule_precs(names: &Names, rule: &Rule) -> Result<(), JoinFault>
-    ensures { Finds (unlevelled_in_rule (meanings_in names.now) rule.now) result }
+fn check_rule_precs(names: &SymbolTables, rule: &Rule) -> Result<(), JoinFault>
+    ensures { ReportsFirst (unlevelled_in_rule (meanings_in names.now) rule.now) result }
 {
     for alternative in rule.alternatives.as_slice() {
         if let Err(fault) = check_prec(names, &alternative.prec) {
@@ -109,8 +109,8 @@ fn check_rule_precs(names: &Names, rule: &Rule) -> Result<(), JoinFault>
     Ok(())
 }
 
-fn check_file_precs(names: &Names, rules: &[Rule]) -> Result<(), JoinFault>
-    ensures { Finds (flat_map (unlevelled_in_rule (meanings_in names.now)) rules.now) result }
+fn check_file_precs(names: &SymbolTables, rules: &[Rule]) -> Result<(), JoinFault>
+    ensures { ReportsFirst (flat_map (unlevelled_in_rule (meanings_in names.now)) rules.now) result }
 {
     for rule in rules {
         if let Err(fault) = check_rule_precs(names, rule) {
@@ -120,8 +120,8 @@ fn check_file_precs(names: &Names, rules: &[Rule]) -> Result<(), JoinFault>
     Ok(())
 }
 
-fn check_precs(names: &Names, modules: &[Module]) -> Result<(), JoinFault>
-    ensures { Finds (flat_map (unlevelled_in_file (meanings_in names.now)) modules.now) result }
+fn check_precs(names: &SymbolTables, modules: &[Module]) -> Result<(), JoinFault>
+    ensures { ReportsFirst (flat_map (unlevelled_in_file (meanings_in names.now)) modules.now) result }
 {
     for file in modules {
         if let Err(fault) = check_file_precs(names, file.rules.as_slice()) {
@@ -131,8 +131,8 @@ fn check_precs(names: &Names, modules: &[Module]) -> Result<(), JoinFault>
     Ok(())
 }
 
-fn check_count(names: &Names) -> Result<(), JoinFault>
-    ensures { Finds (many_tokens (length (meanings_in names.now).tokens)) result }
+fn check_count(names: &SymbolTables) -> Result<(), JoinFault>
+    ensures { ReportsFirst (many_tokens (length (meanings_in names.now).tokens)) result }
 {
     let count = names.tokens.len();
     if count > MAX_TOKENS {
@@ -143,9 +143,9 @@ fn check_count(names: &Names) -> Result<(), JoinFault>
     Ok(())
 }
 
-/// Unknown levels, and too many tokens.
-fn check_last(names: &Names, modules: &[Module]) -> Result<(), JoinFault>
-    ensures { Finds
+/// Checks for unknown levels and for too many tokens.
+fn check_last(names: &SymbolTables, modules: &[Module]) -> Result<(), JoinFault>
+    ensures { ReportsFirst
         (flat_map (unlevelled_in_file (meanings_in names.now)) modules.now
         ++ many_tokens (length (meanings_in names.now).tokens))
         result }
@@ -156,10 +156,10 @@ fn check_last(names: &Names, modules: &[Module]) -> Result<(), JoinFault>
     }
 }
 
-/// What comes behind names that stand for nothing and names with two meanings.
-pub fn check_others(names: &Names, modules: &[Module]) -> Result<(), JoinFault>
+/// Checks for the faults that are reported after undefined and duplicate names, and reports the first.
+pub fn check_others(names: &SymbolTables, modules: &[Module]) -> Result<(), JoinFault>
     requires { AreModulesReady modules.now }
-    ensures { Finds (other_faults (meanings_in names.now) modules.now) result }
+    ensures { ReportsFirst (other_faults (meanings_in names.now) modules.now) result }
 {
     if let Err(fault) = check_start(names) {
         return Err(fault);

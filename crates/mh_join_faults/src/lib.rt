@@ -1,7 +1,6 @@
-//! Names and strings of several files that stand for nothing, and the faults that are asked for last: no start, the token
-//! `error`, unknown levels, too many tokens.
-//!
-//! Names and strings of several files that have two meanings.
+//! The search for the first fault in the files of a grammar: undefined names and strings; names and strings with two
+//! meanings; and the faults reported last, which are no start symbol, the token `error`, unknown levels, and too many
+//! tokens.
 #![tactic(auto)]
 
 mod agreement;

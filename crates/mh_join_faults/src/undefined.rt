@@ -1,20 +1,20 @@
-//! Names and strings that stand for nothing.
+//! The search for undefined names and strings.
 ghost use Rattle.std.specs.Prelude.{◌≡◌, [], false};
 ghost use Rattle.std.specs.List.{flat_map};
 ghost use Rattle.mh_rules.specs.Ready.{AreModulesReady};
 ghost use Rattle.mh_join_names.specs.Names.{files, formal_number};
 ghost use Rattle.mh_join_names.specs.Faults as spec;
-ghost use Rattle.mh_join_names.specs.Faults.{Finds, meant_by, unless, undefined_in_actual, undefined_prec, undefined_in_alternative, undefined_in_rule, undefined_start, undefined_in_level, undefined_in_on_error, undefined_in_declarations, undefined_in_file};
-ghost use Rattle.mh_join_names.specs.code.Maps.{meanings_in, formals_in};
+ghost use Rattle.mh_join_names.specs.Faults.{ReportsFirst, meant_by, unless, undefined_in_actual, undefined_prec, undefined_in_alternative, undefined_in_rule, undefined_start, undefined_in_level, undefined_in_on_error, undefined_in_declarations, undefined_in_file};
+ghost use Rattle.mh_join_names.specs.code.SymbolTables.{meanings_in, formals_in};
 
 use mh_grammar::{Name, Sequence};
-use mh_join_names::{Formals, JoinFault, Names, formals_of};
+use mh_join_names::{Formals, JoinFault, SymbolTables, formals_of};
 use mh_rules::{Actual, Alternative, LevelDecl, Module, Ref, Rule};
 use std::alloc::Global;
 
-/// Refuses a name, unless the test passes.
+/// Reports a name as undefined, unless the test passes.
 fn require_defined(is_defined: bool, name: &Name) -> Result<(), JoinFault>
-    ensures { Finds (unless is_defined (JoinFault.Undefined name.now)) result }
+    ensures { ReportsFirst (unless is_defined (JoinFault.Undefined name.now)) result }
 {
     if is_defined {
         return Ok(());
@@ -33,7 +33,7 @@ fn text_of(reference: &Ref) -> &Name
     }
 }
 
-/// Whether this is the name `error`.
+/// Whether the reference is the name `error`.
 pub(crate) fn is_error(reference: &Ref) -> bool
     ensures { result ≡ spec.is_error reference.now }
 {
@@ -44,13 +44,13 @@ pub(crate) fn is_error(reference: &Ref) -> bool
 }
 
 fn check_head(
-    names: &Names,
+    names: &SymbolTables,
     file: u64,
     formals: &Formals,
     in_body: bool,
     reference: &Ref,
 ) -> Result<(), JoinFault>
-    ensures { Finds
+    ensures { ReportsFirst
         (spec.undefined in_body
         (meant_by (meanings_in names.now) file (formals_in formals.now)) reference.now)
         result }
@@ -59,16 +59,17 @@ fn check_head(
     require_defined(is_known, text_of(reference))
 }
 
-/// Heads before arguments. In the body of a rule the name `error` is not asked for.
+/// Checks the heads in an actual, each before those in its arguments. In the body of a rule the name `error` is not
+/// examined.
 #[cycle(actuals)]
 fn check_actual(
-    names: &Names,
+    names: &SymbolTables,
     file: u64,
     formals: &Formals,
     in_body: bool,
     actual: &Actual,
 ) -> Result<(), JoinFault>
-    ensures { Finds
+    ensures { ReportsFirst
         (undefined_in_actual in_body
         (meant_by (meanings_in names.now) file (formals_in formals.now)) actual.now)
         result }
@@ -81,13 +82,13 @@ fn check_actual(
 
 #[cycle(actuals)]
 fn check_actuals(
-    names: &Names,
+    names: &SymbolTables,
     file: u64,
     formals: &Formals,
     in_body: bool,
     actuals: &[Actual],
 ) -> Result<(), JoinFault>
-    ensures { Finds
+    ensures { ReportsFirst
         (flat_map
         (undefined_in_actual in_body
         (meant_by (meanings_in names.now) file (formals_in formals.now)))
@@ -102,9 +103,9 @@ fn check_actuals(
     Ok(())
 }
 
-/// A string is to be an alias.
-fn check_string(names: &Names, reference: &Ref) -> Result<(), JoinFault>
-    ensures { Finds (spec.unknown_string (meanings_in names.now).aliased reference.now) result }
+/// Checks that a string is an alias.
+fn check_string(names: &SymbolTables, reference: &Ref) -> Result<(), JoinFault>
+    ensures { ReportsFirst (spec.unknown_string (meanings_in names.now).aliased reference.now) result }
 {
     match reference {
         Ref::Plain(_) => Ok(()),
@@ -112,8 +113,8 @@ fn check_string(names: &Names, reference: &Ref) -> Result<(), JoinFault>
     }
 }
 
-fn check_prec(names: &Names, prec: &Option<Ref>) -> Result<(), JoinFault>
-    ensures { Finds (undefined_prec (meanings_in names.now).aliased prec.now) result }
+fn check_prec(names: &SymbolTables, prec: &Option<Ref>) -> Result<(), JoinFault>
+    ensures { ReportsFirst (undefined_prec (meanings_in names.now).aliased prec.now) result }
 {
     match prec {
         Some(reference) => check_string(names, reference),
@@ -122,12 +123,12 @@ fn check_prec(names: &Names, prec: &Option<Ref>) -> Result<(), JoinFault>
 }
 
 fn check_alternative(
-    names: &Names,
+    names: &SymbolTables,
     file: u64,
     formals: &Formals,
     alternative: &Alternative,
 ) -> Result<(), JoinFault>
-    ensures { Finds
+    ensures { ReportsFirst
         (undefined_in_alternative (meanings_in names.now).aliased
         (meant_by (meanings_in names.now) file (formals_in formals.now)) alternative.now)
         result }
@@ -139,12 +140,12 @@ fn check_alternative(
 }
 
 fn check_alternatives(
-    names: &Names,
+    names: &SymbolTables,
     file: u64,
     formals: &Formals,
     alternatives: &[Alternative],
 ) -> Result<(), JoinFault>
-    ensures { Finds
+    ensures { ReportsFirst
         (flat_map
         (undefined_in_alternative (meanings_in names.now).aliased
         (meant_by (meanings_in names.now) file (formals_in formals.now)))
@@ -159,8 +160,8 @@ fn check_alternatives(
     Ok(())
 }
 
-fn check_rule(alloc: Global, names: &Names, file: u64, rule: &Rule) -> Result<(), JoinFault>
-    ensures { Finds (undefined_in_rule (meanings_in names.now) file rule.now) result }
+fn check_rule(alloc: Global, names: &SymbolTables, file: u64, rule: &Rule) -> Result<(), JoinFault>
+    ensures { ReportsFirst (undefined_in_rule (meanings_in names.now) file rule.now) result }
 {
     match formals_of(alloc, rule.formals.as_slice()) {
         Ok(formals) => check_alternatives(names, file, &formals, rule.alternatives.as_slice()),
@@ -168,8 +169,13 @@ fn check_rule(alloc: Global, names: &Names, file: u64, rule: &Rule) -> Result<()
     }
 }
 
-fn check_rules(alloc: Global, names: &Names, file: u64, rules: &[Rule]) -> Result<(), JoinFault>
-    ensures { Finds (flat_map (undefined_in_rule (meanings_in names.now) file) rules.now) result }
+fn check_rules(
+    alloc: Global,
+    names: &SymbolTables,
+    file: u64,
+    rules: &[Rule],
+) -> Result<(), JoinFault>
+    ensures { ReportsFirst (flat_map (undefined_in_rule (meanings_in names.now) file) rules.now) result }
 {
     for rule in rules {
         if let Err(fault) = check_rule(alloc, names, file, rule) {
@@ -179,8 +185,8 @@ fn check_rules(alloc: Global, names: &Names, file: u64, rules: &[Rule]) -> Resul
     Ok(())
 }
 
-fn check_starts(names: &Names, starts: &[Name]) -> Result<(), JoinFault>
-    ensures { Finds (flat_map (undefined_start (meanings_in names.now)) starts.now) result }
+fn check_starts(names: &SymbolTables, starts: &[Name]) -> Result<(), JoinFault>
+    ensures { ReportsFirst (flat_map (undefined_start (meanings_in names.now)) starts.now) result }
 {
     for start in starts {
         if let Err(fault) = require_defined(names.numbering.public.contains_key(start), start) {
@@ -190,8 +196,8 @@ fn check_starts(names: &Names, starts: &[Name]) -> Result<(), JoinFault>
     Ok(())
 }
 
-fn check_level(names: &Names, level: &LevelDecl) -> Result<(), JoinFault>
-    ensures { Finds (undefined_in_level (meanings_in names.now) level.now) result }
+fn check_level(names: &SymbolTables, level: &LevelDecl) -> Result<(), JoinFault>
+    ensures { ReportsFirst (undefined_in_level (meanings_in names.now) level.now) result }
 {
     for reference in level.names.as_slice() {
         if let Err(fault) = check_string(names, reference) {
@@ -201,8 +207,8 @@ fn check_level(names: &Names, level: &LevelDecl) -> Result<(), JoinFault>
     Ok(())
 }
 
-fn check_levels(names: &Names, levels: &[LevelDecl]) -> Result<(), JoinFault>
-    ensures { Finds (flat_map (undefined_in_level (meanings_in names.now)) levels.now) result }
+fn check_levels(names: &SymbolTables, levels: &[LevelDecl]) -> Result<(), JoinFault>
+    ensures { ReportsFirst (flat_map (undefined_in_level (meanings_in names.now)) levels.now) result }
 {
     for level in levels {
         if let Err(fault) = check_level(names, level) {
@@ -213,12 +219,12 @@ fn check_levels(names: &Names, levels: &[LevelDecl]) -> Result<(), JoinFault>
 }
 
 fn check_on_error(
-    names: &Names,
+    names: &SymbolTables,
     file: u64,
     none: &Formals,
     on_error: &[Sequence<Actual>],
 ) -> Result<(), JoinFault>
-    ensures { Finds
+    ensures { ReportsFirst
         (flat_map
         (undefined_in_on_error (meant_by (meanings_in names.now) file (formals_in none.now)))
         on_error.now)
@@ -232,14 +238,14 @@ fn check_on_error(
     Ok(())
 }
 
-/// No name in an on-error declaration is a formal.
+/// Checks the on-error declarations of a file; no name in them is a formal.
 fn check_file_on_error(
     alloc: Global,
-    names: &Names,
+    names: &SymbolTables,
     number: u64,
     file: &Module,
 ) -> Result<(), JoinFault>
-    ensures { Finds
+    ensures { ReportsFirst
         (flat_map (undefined_in_on_error (meant_by (meanings_in names.now) number (formal_number []))) file.now.on_error)
         result }
 {
@@ -249,14 +255,14 @@ fn check_file_on_error(
     }
 }
 
-/// Everything in the declarations of a file stands for something.
+/// Checks that all names and strings in the declarations of a file are defined.
 fn check_declarations(
     alloc: Global,
-    names: &Names,
+    names: &SymbolTables,
     number: u64,
     file: &Module,
 ) -> Result<(), JoinFault>
-    ensures { Finds (undefined_in_declarations (meanings_in names.now) number file.now) result }
+    ensures { ReportsFirst (undefined_in_declarations (meanings_in names.now) number file.now) result }
 {
     if let Err(fault) = check_starts(names, file.starts.as_slice()) {
         return Err(fault);
@@ -267,9 +273,14 @@ fn check_declarations(
     check_file_on_error(alloc, names, number, file)
 }
 
-/// Everything in a file stands for something.
-fn check_file(alloc: Global, names: &Names, number: u64, file: &Module) -> Result<(), JoinFault>
-    ensures { Finds (undefined_in_file (meanings_in names.now) (number, file.now)) result }
+/// Checks that all names and strings in a file are defined.
+fn check_file(
+    alloc: Global,
+    names: &SymbolTables,
+    number: u64,
+    file: &Module,
+) -> Result<(), JoinFault>
+    ensures { ReportsFirst (undefined_in_file (meanings_in names.now) (number, file.now)) result }
 {
     match check_declarations(alloc, names, number, file) {
         Ok(()) => check_rules(alloc, names, number, file.rules.as_slice()),
@@ -277,10 +288,14 @@ fn check_file(alloc: Global, names: &Names, number: u64, file: &Module) -> Resul
     }
 }
 
-/// Everything in the files stands for something.
-pub fn check_undefined(alloc: Global, names: &Names, modules: &[Module]) -> Result<(), JoinFault>
+/// Checks that all names and strings in the files are defined; reports the first that is not, or that memory ran out.
+pub fn check_undefined(
+    alloc: Global,
+    names: &SymbolTables,
+    modules: &[Module],
+) -> Result<(), JoinFault>
     requires { AreModulesReady modules.now }
-    ensures { Finds (flat_map (undefined_in_file (meanings_in names.now)) (files modules.now)) result }
+    ensures { ReportsFirst (flat_map (undefined_in_file (meanings_in names.now)) (files modules.now)) result }
 {
     for (at, file) in modules.iter().enumerate() {
         if let Err(fault) = check_file(alloc, names, at as u64 + 1, file) {

@@ -1,3 +1,3 @@
-pub mod Defining
-pub mod Numbers
-pub mod Meaning
+pub mod AddsDefiningFile
+pub mod InsertsRules
+pub mod HasMeanings

@@ -1,1 +1,1 @@
-pub mod Blank
+pub mod EmptyTables

@@ -4,16 +4,16 @@ ghost use Rattle.std.specs.List.{flat_map};
 ghost use Rattle.std.specs.HashMap.{get, IsEmpty};
 ghost use Rattle.mh_grammar.specs.Text.{Text};
 ghost use Rattle.mh_join_names.specs.Names.{same, cost_of, given_cost};
-ghost use Rattle.mh_join_names.specs.code.Puts.{Puts};
+ghost use Rattle.mh_join_names.specs.code.Insertions.{InsertsNew};
 
 use mh_grammar::Memory;
 use mh_join_names::{Costs, put_first};
 use mh_rules::{Module, TokenDecl};
 
-/// Puts in the cost of a token, if the declaration gives one: the first that its name is given counts. Fails for want
-/// of memory alone.
+/// Records the cost of a token, if its declaration gives one. The first cost of a name counts. Fails only if memory
+/// runs out.
 fn add_cost(costs: &mut Costs, token: &TokenDecl) -> Result<(), Memory>
-    ensures { OnOk result (Puts costs.old (given_cost token.now) costs.new) }
+    ensures { OnOk result (InsertsNew costs.old (given_cost token.now) costs.new) }
 {
     if let Some(cost) = token.cost {
         put_first(costs, &token.name, cost)?;
@@ -22,7 +22,7 @@ fn add_cost(costs: &mut Costs, token: &TokenDecl) -> Result<(), Memory>
 }
 
 fn add_costs(costs: &mut Costs, tokens: &[TokenDecl]) -> Result<(), Memory>
-    ensures { OnOk result (Puts costs.old (flat_map given_cost tokens.now) costs.new) }
+    ensures { OnOk result (InsertsNew costs.old (flat_map given_cost tokens.now) costs.new) }
 {
     for token in tokens {
         add_cost(costs, token)?;

@@ -1,8 +1,8 @@
-//! The names of several files, put into maps.
+//! Builds the tables of the names of several files.
 ghost use Rattle.std.specs.Prelude.{◌≡◌, IfOk, OnOk};
 ghost use Rattle.mh_join_names.specs.Prelude.{prelude_rules};
-ghost use Rattle.mh_join_names.specs.code.Maps.{HasMeanings};
-ghost use Rattle.mh_join_gather.specs.code.Blank.{IsBlank};
+ghost use Rattle.mh_join_names.specs.code.SymbolTables.{HasMeanings};
+ghost use Rattle.mh_join_gather.specs.code.EmptyTables.{HasNoNames};
 
 use crate::aliases::put_aliases;
 use crate::costs::put_costs;
@@ -12,16 +12,16 @@ use crate::levels::put_levels;
 use crate::numbering::{no_rules, put_rules};
 use crate::tokens::{put_starts, put_tokens};
 use mh_grammar::{Memory, lost};
-use mh_join_names::{NameList, Names};
+use mh_join_names::{NameList, SymbolTables};
 use mh_rules::{Module, Rule};
 use std::alloc::Global;
 use std::collections::HashMap;
 
-/// Names that stand for nothing.
-fn no_names(alloc: Global) -> Names
-    ensures { IsBlank result }
+/// Tables without any names.
+fn no_names(alloc: Global) -> SymbolTables
+    ensures { HasNoNames result }
 {
-    Names {
+    SymbolTables {
         tokens: NameList::new(alloc),
         starts: NameList::new(alloc),
         aliases: HashMap::new(alloc),
@@ -33,16 +33,16 @@ fn no_names(alloc: Global) -> Names
     }
 }
 
-/// Puts in what the names of these files stand for, with this prelude. (Each map in its place: what is owned at a way out
-/// is proved to be let go.)
+/// Fills the tables with the names of these files and of this prelude. The maps are filled in place: a value that a
+/// function owns must be proved to be dropped at each of its early returns.
 fn fill(
-    names: &mut Names,
+    names: &mut SymbolTables,
     alloc: Global,
     files: &[Module],
     prelude: bool,
     from_prelude: &[Rule],
 ) -> Result<(), Memory>
-    requires blank { IsBlank names.old }
+    requires blank { HasNoNames names.old }
     requires from_prelude { from_prelude.now ≡ prelude_rules prelude }
     ensures { OnOk result (HasMeanings prelude files.now names.new) }
 {
@@ -63,13 +63,13 @@ fn fill(
     Ok(())
 }
 
-/// What the names of these files stand for, with this prelude. Fails for want of memory alone.
+/// The tables of the names of these files, with this prelude. Fails only if memory runs out.
 pub fn names_of(
     alloc: Global,
     files: &[Module],
     prelude: bool,
     from_prelude: &[Rule],
-) -> Result<Names, Memory>
+) -> Result<SymbolTables, Memory>
     requires { from_prelude.now ≡ prelude_rules prelude }
     ensures { IfOk result (HasMeanings prelude files.now) }
 {

@@ -6,7 +6,7 @@ ghost use Rattle.std.specs.HashMap.{get, IsEmpty};
 ghost use Rattle.mh_join_names.specs.Names as spec;
 ghost use Rattle.mh_grammar.specs.Text.{Text};
 ghost use Rattle.mh_join_names.specs.Names.{same, with_level, levels_by, levels_in};
-ghost use Rattle.mh_join_names.specs.code.Puts.{Puts};
+ghost use Rattle.mh_join_names.specs.code.Insertions.{InsertsNew};
 
 use mh_grammar::{Level, Memory};
 use mh_join_names::{Aliases, Levels, name_by, put_first};
@@ -18,7 +18,7 @@ fn add_level(
     level: Level,
     reference: &Ref,
 ) -> Result<(), Memory>
-    ensures { OnOk result (Puts levels.old
+    ensures { OnOk result (InsertsNew levels.old
         (with_level level (spec.name_by (λ a. get same aliases.now a) reference.now)) levels.new) }
 {
     if let Some(name) = name_by(aliases, reference) {
@@ -35,7 +35,7 @@ fn add_declaration(
     declared: &LevelDecl,
 ) -> Result<(), Memory>
     ensures { OnOk result
-        (Puts levels.old (levels_by (λ a. get same aliases.now a) file (rank, declared.now)) levels.new) }
+        (InsertsNew levels.old (levels_by (λ a. get same aliases.now a) file (rank, declared.now)) levels.new) }
 {
     let assoc = declared.assoc;
     let level = Level { file, rank, assoc };
@@ -51,7 +51,7 @@ fn add_declarations(
     file: u64,
     declared: &[LevelDecl],
 ) -> Result<(), Memory>
-    ensures { OnOk result (Puts levels.old
+    ensures { OnOk result (InsertsNew levels.old
         (flat_map (levels_by (λ a. get same aliases.now a) file) (enumerate_from 0 declared.now))
         levels.new) }
 {

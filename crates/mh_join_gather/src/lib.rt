@@ -1,4 +1,4 @@
-//! The names of several files gathered: what each of them stands for.
+//! Gathers the names of several files with their meanings.
 #![tactic(auto)]
 
 mod aliases;

@@ -1,12 +1,12 @@
-//! The rules of all files and of the prelude, by numbers in order of their first definitions.
+//! Numbers the rules of all files and of the prelude, in order of their first definitions.
 ghost use Rattle.std.specs.Prelude.{◌≡◌, ◌∷◌, [], ◌+◌, length, map, OnOk};
 ghost use Rattle.std.specs.List.{All};
 ghost use Rattle.std.specs.HashMap.{IsEmpty};
 ghost use Rattle.std.specs.HashSet.{contains};
 ghost use Rattle.mh_grammar.specs.Text.{Text};
 ghost use Rattle.mh_join_names.specs.Names.{same, marks_public};
-ghost use Rattle.mh_join_names.specs.code.Numbering.{outline_by, outline_in, outlines_of, IsNumbered, IsOwner, AddsNumber, Numbers};
-ghost use Rattle.mh_join_gather.specs.code.Blank.{HasNone};
+ghost use Rattle.mh_join_names.specs.code.Numbering.{outline_by, outline_in, outlines_of, IsNumbered, IsOwner, AddsNumber, InsertsRules};
+ghost use Rattle.mh_join_gather.specs.code.EmptyTables.{HasNoRules};
 
 use mh_grammar::{Memory, Name};
 use mh_join_names::{NameList, Numbering, Outline, marked_public, owner_in, put_first};
@@ -14,7 +14,7 @@ use mh_rules::{Module, Rule};
 use std::alloc::Global;
 use std::collections::{HashMap, HashSet};
 
-/// Puts in so many maps without names, and one more.
+/// Appends `count` empty maps, and one more for the prelude.
 fn put_maps(maps: &mut Vec<HashMap<Name, u64>>, alloc: Global, count: usize) -> Result<(), Memory>
     requires { maps.old.items ≡ [] }
     ensures len { OnOk result (length maps.new.items ≡ count + 1) }
@@ -27,9 +27,9 @@ fn put_maps(maps: &mut Vec<HashMap<Name, u64>>, alloc: Global, count: usize) -> 
     Ok(())
 }
 
-/// No rules.
+/// A numbering without rules.
 pub(crate) fn no_rules(alloc: Global) -> Numbering
-    ensures { HasNone result }
+    ensures { HasNoRules result }
 {
     Numbering {
         public: HashMap::new(alloc),
@@ -59,7 +59,7 @@ fn add_own(numbering: &mut Numbering, file: u64, name: &Name, number: u64) -> Re
     Ok(())
 }
 
-/// Gives a rule a number.
+/// Records the number of a rule.
 fn add_number(
     numbering: &mut Numbering,
     owner: Option<u64>,
@@ -75,11 +75,11 @@ fn add_number(
     }
 }
 
-/// Puts in the rule of a definition, where it is new.
+/// Appends the outline of a definition, if its rule is new.
 fn add_rule(numbering: &mut Numbering, owner: Option<u64>, rule: &Rule) -> Result<(), Memory>
     requires numbered { IsNumbered numbering.old }
     requires owner { IsOwner numbering.old owner }
-    ensures { OnOk result (Numbers numbering.old numbering.new (outline_by owner rule.now ∷ [])) }
+    ensures { OnOk result (InsertsRules numbering.old numbering.new (outline_by owner rule.now ∷ [])) }
 {
     if numbering.number_of(owner, &rule.name).is_none() {
         let number = rule_count(numbering);
@@ -94,7 +94,7 @@ fn add_rule(numbering: &mut Numbering, owner: Option<u64>, rule: &Rule) -> Resul
     Ok(())
 }
 
-/// Puts in the rules of a file that marks these names.
+/// Inserts the rules of a file in which `marked` are the names marked `%public`.
 fn add_each(
     numbering: &mut Numbering,
     starts: &NameList,
@@ -105,7 +105,7 @@ fn add_each(
     requires numbered { IsNumbered numbering.old }
     requires owner { IsOwner numbering.old (Some file) }
     requires marked { (x : Text) → contains same marked.now x ≡ marks_public rules.now x }
-    ensures { OnOk result (Numbers numbering.old numbering.new (map (outline_in starts.now.keys file rules.now) rules.now)) }
+    ensures { OnOk result (InsertsRules numbering.old numbering.new (map (outline_in starts.now.keys file rules.now) rules.now)) }
 {
     for rule in rules {
         add_rule(numbering, owner_in(starts, marked, file, &rule.name), rule)?;
@@ -113,7 +113,7 @@ fn add_each(
     Ok(())
 }
 
-/// Puts in the rules of a file.
+/// Inserts the rules of a file.
 fn add_rules(
     numbering: &mut Numbering,
     alloc: Global,
@@ -123,7 +123,7 @@ fn add_rules(
 ) -> Result<(), Memory>
     requires numbered { IsNumbered numbering.old }
     requires owner { IsOwner numbering.old (Some file) }
-    ensures { OnOk result (Numbers numbering.old numbering.new (map (outline_in starts.now.keys file rules.now) rules.now)) }
+    ensures { OnOk result (InsertsRules numbering.old numbering.new (map (outline_in starts.now.keys file rules.now) rules.now)) }
 {
     let marked = marked_public(alloc, rules)?;
     let added = add_each(numbering, starts, &marked, file, rules);
@@ -131,11 +131,11 @@ fn add_rules(
     added
 }
 
-/// Puts in the rules of the prelude, which owns them: none of them is joined with a rule of a file.
+/// Inserts the rules of the prelude as private rules of file 0, so that none of them is joined with a rule of a file.
 fn add_prelude(numbering: &mut Numbering, rules: &[Rule]) -> Result<(), Memory>
     requires numbered { IsNumbered numbering.old }
     requires owner { IsOwner numbering.old (Some 0) }
-    ensures { OnOk result (Numbers numbering.old numbering.new (map (outline_by (Some 0)) rules.now)) }
+    ensures { OnOk result (InsertsRules numbering.old numbering.new (map (outline_by (Some 0)) rules.now)) }
 {
     for rule in rules {
         add_rule(numbering, Some(0), rule)?;
@@ -143,7 +143,7 @@ fn add_prelude(numbering: &mut Numbering, rules: &[Rule]) -> Result<(), Memory>
     Ok(())
 }
 
-/// The rules of these files, and of the prelude behind them.
+/// Inserts the rules of these files, and then those of the prelude.
 pub(crate) fn put_rules(
     numbering: &mut Numbering,
     alloc: Global,
@@ -151,7 +151,7 @@ pub(crate) fn put_rules(
     files: &[Module],
     prelude: &[Rule],
 ) -> Result<(), Memory>
-    requires { HasNone numbering.old }
+    requires { HasNoRules numbering.old }
     ensures numbered { OnOk result (IsNumbered numbering.new) }
     ensures rules { OnOk result (numbering.new.rules.items ≡ outlines_of starts.now.keys files.now prelude.now) }
 {

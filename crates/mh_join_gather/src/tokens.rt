@@ -1,4 +1,4 @@
-//! The tokens and the start symbols of all files.
+//! The names of the tokens and of the start symbols of all files.
 ghost use Rattle.std.specs.Prelude.{◌≡◌, [], map, OnOk};
 ghost use Rattle.mh_join_names.specs.Names as spec;
 ghost use Rattle.mh_join_names.specs.Names.{same, insert_all};
@@ -16,7 +16,7 @@ fn add_tokens(names: &mut NameList, tokens: &[TokenDecl]) -> Result<(), Memory>
     Ok(())
 }
 
-/// The names of tokens, in order of first declaration.
+/// Inserts the names of the tokens, in order of first declaration.
 pub(crate) fn put_tokens(names: &mut NameList, files: &[Module]) -> Result<(), Memory>
     requires { names.old.keys ≡ [] }
     ensures { OnOk result (names.new.keys ≡ spec.token_names files.now) }
@@ -36,7 +36,7 @@ fn add_names(names: &mut NameList, more: &[Name]) -> Result<(), Memory>
     Ok(())
 }
 
-/// The start symbols, in order of first naming.
+/// Inserts the names of the start symbols, in order of first declaration.
 pub(crate) fn put_starts(names: &mut NameList, files: &[Module]) -> Result<(), Memory>
     requires { names.old.keys ≡ [] }
     ensures { OnOk result (names.new.keys ≡ spec.start_names files.now) }

@@ -1,5 +1,5 @@
 pub mod Lists
-pub mod Listing
-pub mod Finding
-pub mod Actuals
-pub mod Resolving
+pub mod IsPositionMap
+pub mod ReportsFirst
+pub mod Refs
+pub mod Resolved

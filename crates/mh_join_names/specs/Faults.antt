@@ -1,5 +1,5 @@
--- The faults in several files, each where it occurs. Source: the Menhir manual on grammars split into files; this
--- project's profile.
+-- The faults in the files of a grammar, each at its occurrence (Menhir manual, grammars split into files; the choice is
+-- a rule of this project).
 use Rattle.std.specs.Prelude.{◌≡◌, ◌==◌, ◌&&◌, ◌||◌, ◌⊎◌, ℕ, not, nat_lt, is_some, if◌then◌else◌, codes, List, [], ◌∷◌, ◌++◌, length, Option, Some, None, Bool, true, false, Result, Ok, Err}
 use Rattle.std.specs.List.{enumerate_from, list_any, flat_map, find}
 use Rattle.std.specs.Map.{lookup}
@@ -16,36 +16,36 @@ use Rattle.mh_rules.specs.declared.modules.Rule.{Rule}
 use Rattle.mh_rules.specs.declared.modules.Module.{Module}
 use Rattle.mh_rules.specs.declared.joined.Head.{Head}
 use Rattle.mh_join_names.specs.declared.outlines.Outline.{Outline}
-use Rattle.mh_join_names.specs.declared.kinds.Kind.{Kind}
-use Rattle.mh_join_names.specs.declared.kinds.Kind.TheVariants as kinds
+use Rattle.mh_join_names.specs.declared.kinds.NameKind.{NameKind}
+use Rattle.mh_join_names.specs.declared.kinds.NameKind.TheVariants as kinds
 use Rattle.mh_join_names.specs.declared.fault.JoinFault.{JoinFault}
 use Rattle.mh_join_names.specs.declared.fault.JoinFault.TheVariants as faults
 use Rattle.mh_grammar.specs.Text.{Text}
-use Rattle.mh_join_names.specs.Names.{same, Numbers, files, name_by, level_in, is_public, is_rule, formal_number, head_by, token_names, aliased, level_of, cost_of, start_names, rules, numbers_of}
+use Rattle.mh_join_names.specs.Names.{same, NameNumbers, files, name_by, level_in, is_public, is_rule, formal_number, head_by, token_names, aliased, level_of, cost_of, start_names, rules, numbers_of}
 
--- WHAT NAMES MEAN
+-- THE MEANINGS OF NAMES
 
--- the names of a file with what each names, in order
-abbrev pub kinds_in : Module → List (Text × Kind)
+-- The names that a file defines, each with its kind: the tokens, then the rules.
+abbrev pub kinds_in : Module → List (Text × NameKind)
 kinds_in m = flat_map (λ t. (t.name, kinds.Token) ∷ []) m.tokens ++ flat_map (λ r. (r.name, kinds.Rule) ∷ []) m.rules
 
--- the first use of a name
-abbrev pub kind_of : List Module → Text → Option Kind
+-- The kind of a name at its first definition.
+abbrev pub kind_of : List Module → Text → Option NameKind
 kind_of ms x = lookup (same x) (flat_map kinds_in ms)
 
--- What the faults ask for: the tokens, the starts, the token of an alias, the level and the first use of a name, the public
--- rule of a name by its first definition, and numbers.
+-- The look-ups that joining needs: the token names, the start symbols, the token of an alias, the level, the cost and
+-- the kind of a name, the outline of the public rule of a name, and the numbers of tokens and rules.
 pub record Meanings : Type 0 where
   pub tokens : List Text
   pub starts : List Text
   pub aliased : Text → Option Text
   pub level : Text → Option Level
   pub cost : Text → Option ℕ
-  pub kind : Text → Option Kind
+  pub kind : Text → Option NameKind
   pub joined : Text → Option Outline
-  pub numbers : Numbers
+  pub numbers : NameNumbers
 
--- what the files give, with the prelude where it is there
+-- The look-ups that the files give, with the prelude if p is true.
 abbrev pub meanings : Bool → List Module → Meanings
 meanings p ms = record {
   tokens = token_names ms;
@@ -66,7 +66,7 @@ meant_by w k formals r = head_by w.numbers w.aliased k formals r
 abbrev pub refs_step : Actual-F (List Ref) → List Ref
 refs_step a = a.head ∷ flat_map (λ rs. rs) a.args
 
--- the heads in an actual, each before those of its arguments
+-- The heads in an actual in preorder: each head before the heads in its arguments.
 abbrev pub refs : Actual → List Ref
 refs = fold-Actual (List Ref) refs_step
 
@@ -80,21 +80,21 @@ text_of (Alias a) = a
 
 -- UNDEFINED
 
--- a fault where the test fails
+-- The fault, if the test is false.
 abbrev pub unless : Bool → JoinFault → List JoinFault
 unless true e = []
 unless false e = e ∷ []
 
--- the string, where it is no alias
+-- A fault if the reference is a string that is no alias.
 abbrev pub unknown_string : (Text → Option Text) → Ref → List JoinFault
 unknown_string aliased (Plain x) = []
 unknown_string aliased (Alias a) = unless (is_some (aliased a)) (faults.Undefined a)
 
--- the name or string, where it stands for nothing; in the body of a rule the name `error` is not asked for
+-- A fault if the reference is not defined. In the body of a rule the name `error` is not examined.
 abbrev pub undefined : Bool → (Ref → Option Head) → Ref → List JoinFault
 undefined in_body meant r = unless ((in_body && is_error r) || is_some (meant r)) (faults.Undefined (text_of r))
 
--- each head before those of its arguments
+-- The faults of the heads in an actual, in preorder.
 abbrev pub undefined_in_actual : Bool → (Ref → Option Head) → Actual → List JoinFault
 undefined_in_actual in_body meant a = flat_map (undefined in_body meant) (refs a)
 
@@ -102,7 +102,7 @@ abbrev pub undefined_prec : (Text → Option Text) → Option Ref → List JoinF
 undefined_prec aliased None = []
 undefined_prec aliased (Some r) = unknown_string aliased r
 
--- in an alternative: the producers in order, and then the `%prec`
+-- The faults in an alternative: those of the producers in order, then that of the `%prec`.
 abbrev pub undefined_in_alternative : (Text → Option Text) → (Ref → Option Head) → Alternative → List JoinFault
 undefined_in_alternative aliased meant a =
     flat_map (undefined_in_actual true meant) a.producers ++ undefined_prec aliased a.prec
@@ -110,7 +110,7 @@ undefined_in_alternative aliased meant a =
 abbrev pub undefined_in_rule : Meanings → ℕ → Rule → List JoinFault
 undefined_in_rule w k r = flat_map (undefined_in_alternative w.aliased (meant_by w k (formal_number r.formals))) r.alternatives
 
--- the start, where no file of the grammar defines it: the definitions of a start are public
+-- A fault if no file of the grammar defines the start symbol; the definitions of a start symbol are public.
 abbrev pub undefined_start : Meanings → Text → List JoinFault
 undefined_start w x = unless (is_some (w.numbers.rule None x)) (faults.Undefined x)
 
@@ -120,18 +120,19 @@ undefined_in_level w d = flat_map (unknown_string w.aliased) d.names
 abbrev pub undefined_in_on_error : (Ref → Option Head) → List Actual → List JoinFault
 undefined_in_on_error meant actuals = flat_map (undefined_in_actual false meant) actuals
 
--- in a file's declarations: the starts, which are to be rules of the grammar's files, the levels, the on-error declarations
+-- The faults in the declarations of file k: those of the start symbols, of the levels, and of the on-error
+-- declarations.
 abbrev pub undefined_in_declarations : Meanings → ℕ → Module → List JoinFault
 undefined_in_declarations w k m =
     flat_map (undefined_start w) m.starts ++ (flat_map (undefined_in_level w) m.levels ++ flat_map (undefined_in_on_error (meant_by w k (formal_number []))) m.on_error)
 
--- in a file: its declarations, and then the rules
+-- The faults in a file: those in its declarations, then those in its rules.
 abbrev pub undefined_in_file : Meanings → ℕ × Module → List JoinFault
 undefined_in_file w f = undefined_in_declarations w f.0 f.1 ++ flat_map (undefined_in_rule w f.0) f.1.rules
 
 -- DUPLICATE
 
-abbrev pub same_kind : Kind → Kind → Bool
+abbrev pub same_kind : NameKind → NameKind → Bool
 same_kind kinds.Token kinds.Token = true
 same_kind kinds.Rule kinds.Rule = true
 same_kind _ _ = false
@@ -140,27 +141,27 @@ abbrev pub same_flag : Bool → Bool → Bool
 same_flag true b = b
 same_flag false b = not b
 
--- one declaration
+-- The levels come from the same declaration.
 abbrev pub same_level : Level → Level → Bool
 same_level a b = (a.file == b.file) && (a.rank == b.rank)
 
 abbrev pub same_shape : Outline → Rule → Bool
 same_shape o r = same_flag o.inlined r.inlined && (o.formals == length r.formals)
 
--- what came first is like this, by the test
+-- The first value x, if there is one, passes the test with y.
 abbrev pub agrees : {X Y : Type 0} → (X → Y → Bool) → Option X → Y → Bool
 agrees like None y = true
 agrees like (Some x) y = like x y
 
--- a name was first used for the other kind
-abbrev pub other_kind : Meanings → Kind → Text → List JoinFault
+-- A fault if the name was first defined with the other kind.
+abbrev pub other_kind : Meanings → NameKind → Text → List JoinFault
 other_kind w kind x = unless (agrees same_kind (w.kind x) kind) (faults.Duplicate x)
 
--- a name is a token and a rule
+-- The faults in a file for names that are both a token and a rule.
 abbrev pub kinds_in_file : Meanings → Module → List JoinFault
 kinds_in_file w m = flat_map (λ t. other_kind w kinds.Token t.name) m.tokens ++ flat_map (λ r. other_kind w kinds.Rule r.name) m.rules
 
--- an alias was first another token's
+-- A fault if the alias belongs to an earlier token.
 abbrev pub other_token : Meanings → Text → Option Text → List JoinFault
 other_token w x None = []
 other_token w x (Some a) = unless (agrees same (w.aliased a) x) (faults.Duplicate a)
@@ -168,34 +169,35 @@ other_token w x (Some a) = unless (agrees same (w.aliased a) x) (faults.Duplicat
 abbrev pub aliases_in_file : Meanings → Module → List JoinFault
 aliases_in_file w m = flat_map (λ t. other_token w t.name t.alias) m.tokens
 
--- the names that stand before, or earlier among these
+-- The names in the second list that also occur in the first or earlier in the second.
 abbrev pub repeats : List Text → List Text → List JoinFault
 repeats before [] = []
 repeats before (x ∷ xs) = unless (not (list_any (same x) before)) (faults.Duplicate x) ++ repeats (before ++ x ∷ []) xs
 
--- the names of a file's own rules
+-- The name of the rule, if the rule is private.
 abbrev pub own_name : (Text → Bool) → Rule → List Text
 own_name is_public r = if is_public r.name then [] else r.name ∷ []
 
 abbrev pub own_names : (Text → Bool) → List Rule → List Text
 own_names is_public rs = flat_map (own_name is_public) rs
 
--- a file has two rules of its own of one name
+-- The faults in a file for private rules that share a name.
 abbrev pub own_in_file : Meanings → Module → List JoinFault
 own_in_file w m = repeats [] (own_names (is_public w.starts m.rules) m.rules)
 
--- a rule has one formal twice
+-- The faults in a file for rules that have a formal twice.
 abbrev pub formals_in_file : Module → List JoinFault
 formals_in_file m = flat_map (λ r. repeats [] r.formals) m.rules
 
--- a public rule is inline, or has as many formals, otherwise than by its first definition
+-- A fault if the rule is public and differs from the first definition of its name in `%inline` or in the number of
+-- formals.
 abbrev pub other_shape : Meanings → (Text → Bool) → Rule → List JoinFault
 other_shape w is_public r = if is_public r.name then unless (agrees same_shape (w.joined r.name) r) (faults.Duplicate r.name) else []
 
 abbrev pub shapes_in_file : Meanings → Module → List JoinFault
 shapes_in_file w m = flat_map (other_shape w (is_public w.starts m.rules)) m.rules
 
--- a name first got another level
+-- A fault if the name has another level from an earlier declaration.
 abbrev pub other_level : Meanings → Level → Option Text → List JoinFault
 other_level w l None = []
 other_level w l (Some x) = unless (agrees same_level (w.level x) l) (faults.Duplicate x)
@@ -203,28 +205,28 @@ other_level w l (Some x) = unless (agrees same_level (w.level x) l) (faults.Dupl
 abbrev pub levels_in_declaration : Meanings → ℕ → ℕ × LevelDecl → List JoinFault
 levels_in_declaration w k e = flat_map (λ r. other_level w (level_in k e.0 e.1.assoc) (name_by w.aliased r)) e.1.names
 
--- a name gets two levels, an alias counting as its token
+-- The faults in a file for names with two levels; an alias counts as its token.
 abbrev pub levels_in_file : Meanings → ℕ × Module → List JoinFault
 levels_in_file w f = flat_map (levels_in_declaration w f.0) (enumerate_from 0 f.1.levels)
 
--- names and aliases
+-- The faults for names and aliases with two meanings.
 abbrev pub name_duplicates : Meanings → List Module → List JoinFault
 name_duplicates w ms = flat_map (kinds_in_file w) ms ++ flat_map (aliases_in_file w) ms
 
--- rules and formals
+-- The faults for rules and formals with two meanings.
 abbrev pub rule_duplicates : Meanings → List Module → List JoinFault
 rule_duplicates w ms = flat_map (own_in_file w) ms ++ (flat_map formals_in_file ms ++ flat_map (shapes_in_file w) ms)
 
 abbrev pub duplicates : Meanings → List Module → List JoinFault
 duplicates w ms = name_duplicates w ms ++ (rule_duplicates w ms ++ flat_map (levels_in_file w) (files ms))
 
--- THE OTHERS
+-- THE OTHER FAULTS
 
 abbrev pub has_some : {X : Type 0} → List X → Bool
 has_some [] = false
 has_some (x ∷ xs) = true
 
--- a head in a rule is the name `error`
+-- A fault if the head is the name `error`.
 abbrev pub error_token : Ref → List JoinFault
 error_token r = unless (not (is_error r)) faults.ErrorToken
 
@@ -240,7 +242,7 @@ errors_in_rule r = flat_map errors_in_alternative r.alternatives
 abbrev pub errors_in_file : Module → List JoinFault
 errors_in_file m = flat_map errors_in_rule m.rules
 
--- a name behind `%prec` that is no token and has no level
+-- A fault if the name after `%prec` is no token and has no level.
 abbrev pub unlevelled : Meanings → Option Ref → List JoinFault
 unlevelled w (Some (Plain x)) = unless (list_any (same x) w.tokens || is_some (w.level x)) (faults.UnknownLevel x)
 unlevelled w _ = []
@@ -251,13 +253,13 @@ unlevelled_in_rule w r = flat_map (λ a. unlevelled w a.prec) r.alternatives
 abbrev pub unlevelled_in_file : Meanings → Module → List JoinFault
 unlevelled_in_file w m = flat_map (unlevelled_in_rule w) m.rules
 
--- a grammar does not have too many tokens
+-- A fault if the grammar has more than `MAX_TOKENS` tokens.
 abbrev pub many_tokens : ℕ → List JoinFault
 many_tokens n = unless (not (nat_lt MAX_TOKENS n)) (faults.TooManyTokens n)
 
--- ALL, IN THE ORDER OF WORK
+-- ALL FAULTS, IN THE ORDER OF THE SEARCH
 
--- behind those that stand for nothing and those with two meanings
+-- The faults that are reported after undefined and duplicate names.
 abbrev pub other_faults : Meanings → List Module → List JoinFault
 other_faults w ms =
     unless (has_some w.starts) faults.NoStart ++ (flat_map errors_in_file ms ++ (flat_map (unlevelled_in_file w) ms ++ many_tokens (length w.tokens)))
@@ -265,6 +267,7 @@ other_faults w ms =
 abbrev pub faults_by : Meanings → List Module → List JoinFault
 faults_by w ms = flat_map (undefined_in_file w) (files ms) ++ (duplicates w ms ++ other_faults w ms)
 
+-- All faults in the files of a grammar, with the prelude if p is true; the first is reported.
 abbrev pub join_faults : Bool → List Module → List JoinFault
 join_faults p ms = faults_by (meanings p ms) ms
 
@@ -272,7 +275,7 @@ abbrev pub first : {X : Type 0} → List X → Option X
 first [] = None
 first (x ∷ xs) = Some x
 
--- nothing where there is no fault, and else the first; want of memory may come instead of either
-abbrev pub Finds : {X : Type 0} → List JoinFault → Result X JoinFault → Type 0
-Finds es (Ok x) = es ≡ []
-Finds es (Err e) = (e ≡ faults.Memory) ⊎ (first es ≡ Some e)
+-- The result is a success and there is no fault, or it is the first fault, or it reports that memory ran out.
+abbrev pub ReportsFirst : {X : Type 0} → List JoinFault → Result X JoinFault → Type 0
+ReportsFirst es (Ok x) = es ≡ []
+ReportsFirst es (Err e) = (e ≡ faults.Memory) ⊎ (first es ≡ Some e)

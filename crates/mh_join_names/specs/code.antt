@@ -1,5 +1,5 @@
-pub mod Puts
-pub mod Definers
-pub mod Listed
+pub mod Insertions
+pub mod DefiningFiles
+pub mod KeyLists
 pub mod Numbering
-pub mod Maps
+pub mod SymbolTables

@@ -1,4 +1,4 @@
-//! What names and strings mean by the aliases.
+//! Aliases: the strings by which grammar files may write tokens.
 ghost use Rattle.std.specs.Prelude.{◌≡◌};
 ghost use Rattle.std.specs.Option.{option_copied};
 ghost use Rattle.std.specs.HashMap.{get};
@@ -9,10 +9,11 @@ use mh_grammar::Name;
 use mh_rules::Ref;
 use std::collections::HashMap;
 
-/// Each alias with the name of its first token.
+/// The name of the first token declared with each alias.
 pub type Aliases = HashMap<Name, Name>;
 
-/// What a name or string means: of a string the name of its token.
+/// The name that a reference means: a plain name itself, an alias the name of its token. `None` if no token has the
+/// alias.
 pub fn name_by<'a>(aliases: &'a Aliases, reference: &'a Ref) -> Option<&'a Name>
     ensures { option_copied result ≡ spec.name_by (λ a. get same aliases.now a) reference.now }
 {

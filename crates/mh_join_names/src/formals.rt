@@ -9,10 +9,10 @@ use mh_grammar::{Memory, Name};
 use std::alloc::Global;
 use std::collections::HashMap;
 
-/// Each formal with its place.
+/// The position of each formal in the list of formals, from 0.
 pub type Formals = HashMap<Name, u64>;
 
-/// Of two formals of one name the first counts. Fails for want of memory alone.
+/// The positions of the formals by name. If two formals have one name, the first counts. Fails only if memory runs out.
 pub fn formals_of(alloc: Global, formals: &[Name]) -> Result<Formals, Memory>
     ensures { IfOk result (λ numbers. (x : Text) → get same numbers x ≡ formal_number formals.now x) }
 {

@@ -1,8 +1,8 @@
-//! What a name is used for.
+//! The two kinds of names: tokens and rules.
 
-/// What a name is used for: a token, or a rule.
+/// Whether a name names a token or a rule.
 #[derive(Clone, Copy, PartialEq, Eq)]
-pub enum Kind {
+pub enum NameKind {
     Token,
     Rule,
 }

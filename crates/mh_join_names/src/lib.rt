@@ -1,4 +1,4 @@
-//! What several files of a grammar mean together: the definitions, and the names of the files looked up by hash.
+//! The definition of joining the files of a grammar, and hash tables with the meanings of their names.
 #![tactic(auto)]
 
 mod aliases;
@@ -15,10 +15,10 @@ mod publics;
 pub use aliases::{Aliases, name_by};
 pub use fault::JoinFault;
 pub use formals::{Formals, formals_of};
-pub use kinds::Kind;
+pub use kinds::NameKind;
 pub use maps::{put_first, put_name};
 pub use name_list::NameList;
-pub use names::{Costs, Definers, DefinersOf, Kinds, Levels, Names};
+pub use names::{Costs, DefiningFiles, DefiningFilesOf, Levels, NameKinds, SymbolTables};
 pub use numbering::Numbering;
 pub use outlines::Outline;
 pub use publics::{is_public, marked_public, owner_in};

@@ -1,16 +1,16 @@
-//! Sets of names, and names with what they first came with, looked up by hash.
+//! Insertion of names into hash sets and hash maps.
 ghost use Rattle.std.specs.Prelude.{◌≡◌, ◌∷◌, [], ◌||◌, not, IfOk, OnOk};
 ghost use Rattle.std.specs.HashSet.{contains};
 ghost use Rattle.mh_grammar.specs.Text.{Text};
 ghost use Rattle.mh_join_names.specs.Names.{same};
-ghost use Rattle.mh_join_names.specs.code.Puts.{Puts};
+ghost use Rattle.mh_join_names.specs.code.Insertions.{InsertsNew};
 
 use mh_grammar::{Memory, Name};
 use std::collections::{HashMap, HashSet};
 
-/// Puts in a name with a value, where it has none yet. Fails for want of memory alone.
+/// Inserts a name with a value, unless the name is there already. Fails only if memory runs out.
 pub fn put_first<V: Drop>(map: &mut HashMap<Name, V>, name: &Name, value: V) -> Result<(), Memory>
-    ensures { OnOk result (Puts map.old ((name.now, value) ∷ []) map.new) }
+    ensures { OnOk result (InsertsNew map.old ((name.now, value) ∷ []) map.new) }
 {
     if !map.contains_key(name) {
         map.insert(name.clone()?, value)?;
@@ -18,7 +18,7 @@ pub fn put_first<V: Drop>(map: &mut HashMap<Name, V>, name: &Name, value: V) -> 
     Ok(())
 }
 
-/// Puts in a name. Whether it was not there. Fails for want of memory alone.
+/// Inserts a name and returns true if it is new. Fails only if memory runs out.
 pub fn put_name(names: &mut HashSet<Name>, name: &Name) -> Result<bool, Memory>
     ensures names { OnOk result ((x : Text) →
         contains same names.new x ≡ (contains same names.old x || same x name.now)) }

@@ -1,17 +1,17 @@
-//! Names in order.
+//! Lists of different names with their positions.
 ghost use Rattle.std.specs.Prelude.{◌≡◌, ◌<◌, ◌↔◌, ◌++◌, ◌∷◌, [], cond, Some, false, is_some, length, position, IfSome, IsTrue, OnErr, OnOk};
 ghost use Rattle.std.specs.List.{list_any};
 ghost use Rattle.std.specs.HashMap.{get};
 ghost use Rattle.mh_grammar.specs.Text.{Text};
 ghost use Rattle.mh_join_names.specs.Names.{same, insert_key};
-ghost use Rattle.mh_join_names.specs.code.Listed.{IsPlaced};
+ghost use Rattle.mh_join_names.specs.code.KeyLists.{IsPositionMap};
 
 use mh_grammar::{Memory, Name};
 use std::alloc::Global;
 use std::collections::HashMap;
 use std::marker::Model;
 
-/// Different names in the order in which they first came, each found by hash.
+/// Different names in the order of their first insertion, with a hash map from each name to its position.
 #[derive(Drop)]
 pub struct NameList {
     names: Vec<Name>,
@@ -19,16 +19,16 @@ pub struct NameList {
 }
 
 impl Model for NameList {
-    ghost use Rattle.mh_join_names.specs.code.Listed.{Listed, IsPlaced};
+    ghost use Rattle.mh_join_names.specs.code.KeyLists.{KeyList, IsPositionMap};
 
-    ghost Value = { Listed };
+    ghost Value = { KeyList };
 
     ghost view = { λ l. record { keys = l.names.items } };
 
-    ghost invariant = { λ l. IsPlaced l.names.items l.places };
+    ghost invariant = { λ l. IsPositionMap l.names.items l.places };
 }
 
-/// Gives a name a place. Without memory each name keeps its own.
+/// Records the position of a name. If memory runs out, the map is unchanged.
 fn put_place(places: &mut HashMap<Name, usize>, name: &Name, place: usize) -> Result<(), Memory>
     ensures placed { OnOk result ((x : Text) →
         get same places.new x ≡ cond (same name.now x) (Some place) (get same places.old x)) }
@@ -38,15 +38,15 @@ fn put_place(places: &mut HashMap<Name, usize>, name: &Name, place: usize) -> Re
     Ok(())
 }
 
-/// Puts a name that is not there behind the others.
+/// Appends a name that is not in the list.
 fn put_new(
     names: &mut Vec<Name>,
     places: &mut HashMap<Name, usize>,
     name: &Name,
 ) -> Result<(), Memory>
-    requires placed { IsPlaced names.old.items places.old }
+    requires placed { IsPositionMap names.old.items places.old }
     requires new { is_some (get same places.old name.now) ≡ false }
-    ensures placed { IsPlaced names.new.items places.new }
+    ensures placed { IsPositionMap names.new.items places.new }
     ensures names { OnOk result (names.new.items ≡ names.old.items ++ name.now ∷ []) }
 {
     let place = names.len();
@@ -59,7 +59,7 @@ fn put_new(
 }
 
 impl NameList {
-    /// No names. It takes no memory.
+    /// The empty list. It allocates nothing.
     pub fn new(alloc: Global) -> NameList
         ensures { result.keys ≡ [] }
     {
@@ -69,7 +69,7 @@ impl NameList {
         }
     }
 
-    /// Puts a name behind the others, where it is not there. Fails for want of memory alone.
+    /// Appends a name, unless the list has it already. Fails only if memory runs out.
     pub fn put(&mut self, name: &Name) -> Result<(), Memory>
         ensures { OnOk result (self.new.keys ≡ insert_key same self.old.keys name.now) }
     {
@@ -79,7 +79,7 @@ impl NameList {
         put_new(&mut self.names, &mut self.places, name)
     }
 
-    /// The place of a name, counted from 0.
+    /// The position of a name, from 0.
     pub fn place_of(&self, name: &Name) -> Option<usize>
         ensures place { result ≡ position (same name.now) self.now.keys }
         ensures within { IfSome result (λ i. i < length self.now.keys) }
@@ -87,21 +87,21 @@ impl NameList {
         self.places.get(name).copied()
     }
 
-    /// Whether a name is there.
+    /// Whether the list has a name.
     pub fn contains(&self, name: &Name) -> bool
         ensures { result ≡ list_any (same name.now) self.now.keys }
     {
         self.places.contains_key(name)
     }
 
-    /// How many names there are.
+    /// The number of names.
     pub fn len(&self) -> usize
         ensures { result ≡ length self.now.keys }
     {
         self.names.len()
     }
 
-    /// Whether there is no name.
+    /// Whether the list is empty.
     pub fn is_empty(&self) -> bool
         ensures { IsTrue result ↔ (length self.now.keys ≡ 0) }
     {

@@ -1,55 +1,55 @@
-//! What the names and strings of several files stand for.
+//! The meanings of the names and strings in the files of a grammar.
 ghost use Rattle.std.specs.Prelude.{◌≡◌, ◌≤◌, ◌||◌, is_some, length};
 ghost use Rattle.std.specs.List.{list_any};
 ghost use Rattle.std.specs.HashMap.{get};
 ghost use Rattle.mh_join_names.specs.Names as spec;
 ghost use Rattle.mh_join_names.specs.Names.{same, user_head, visible_head};
 ghost use Rattle.mh_join_names.specs.Faults.{meant_by};
-ghost use Rattle.mh_join_names.specs.code.Maps.{numbers_in, meanings_in, elsewhere_in, formals_in};
+ghost use Rattle.mh_join_names.specs.code.SymbolTables.{numbers_in, meanings_in, elsewhere_in, formals_in};
 
 use crate::aliases::Aliases;
 use crate::formals::Formals;
-use crate::kinds::Kind;
+use crate::kinds::NameKind;
 use crate::name_list::NameList;
 use crate::numbering::Numbering;
 use mh_grammar::{Level, Name, Token};
 use mh_rules::{Head, MAX_TOKENS, Ref};
 use std::collections::HashMap;
 
-/// Each token that is given a cost with its first.
+/// The first cost given to each token that has one, from 1 to 1,000.
 pub type Costs = HashMap<Name, u32>;
 
-/// Each name with its first use.
-pub type Kinds = HashMap<Name, Kind>;
+/// The kind of each name at its first definition.
+pub type NameKinds = HashMap<Name, NameKind>;
 
-/// Each name with its first level.
+/// The first level given to each name that has one.
 pub type Levels = HashMap<Name, Level>;
 
-/// The files that define a rule of one name.
+/// The files that define a rule of some name: only the file of this number, or several.
 #[derive(Clone, Copy)]
-pub enum Definers {
+pub enum DefiningFiles {
     One(u64),
     Several,
 }
 
-/// Each name with its definers.
-pub type DefinersOf = HashMap<Name, Definers>;
+/// The files that define each name.
+pub type DefiningFilesOf = HashMap<Name, DefiningFiles>;
 
-/// What the names of all files stand for. Files count from 1, and the prelude is file 0.
+/// The meanings of the names of all files, as hash tables. Files are numbered from 1; the prelude is file 0.
 #[derive(Drop)]
-pub struct Names {
+pub struct SymbolTables {
     pub tokens: NameList,
     pub starts: NameList,
     pub aliases: Aliases,
     pub levels: Levels,
     pub costs: Costs,
-    pub kinds: Kinds,
-    pub definers: DefinersOf,
+    pub kinds: NameKinds,
+    pub definers: DefiningFilesOf,
     pub numbering: Numbering,
 }
 
-impl Names {
-    /// Whether a name or string of a file stands for something, in a rule with these formals.
+impl SymbolTables {
+    /// Whether a name or string is defined, in a rule of this file with these formals.
     pub fn stands(&self, file: u64, formals: &Formals, reference: &Ref) -> bool
         ensures { result ≡ is_some (meant_by (meanings_in self.now) file (formals_in formals.now) reference.now) }
     {
@@ -98,7 +98,7 @@ impl Names {
         self.is_rule(None, name)
     }
 
-    /// Whether a name is a token or a rule that the file sees, beside the prelude's rules.
+    /// Whether a name is a token or a rule that this file can use, other than the rules of the prelude.
     fn is_visible(&self, file: u64, name: &Name) -> bool
         ensures { result ≡ is_some (visible_head (numbers_in self.now) file name.now) }
     {
@@ -161,7 +161,7 @@ impl Names {
         self.rule_head(Some(0), name)
     }
 
-    /// What a name or string of a file stands for, in a rule with these formals.
+    /// The meaning of a name or string, in a rule of this file with these formals.
     pub fn head_of(&self, file: u64, formals: &Formals, reference: &Ref) -> Option<Head>
         requires { length self.now.tokens.keys ≤ MAX_TOKENS }
         ensures { result ≡ meant_by (meanings_in self.now) file (formals_in formals.now) reference.now }
@@ -185,8 +185,8 @@ impl Names {
     {
         match self.definers.get(name) {
             None => false,
-            Some(Definers::One(only)) => *only != file,
-            Some(Definers::Several) => true,
+            Some(DefiningFiles::One(only)) => *only != file,
+            Some(DefiningFiles::Several) => true,
         }
     }
 }

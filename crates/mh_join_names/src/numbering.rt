@@ -1,4 +1,4 @@
-//! Rules by their numbers.
+//! The numbers of the rules.
 ghost use Rattle.std.specs.Prelude.{◌≡◌};
 ghost use Rattle.mh_join_names.specs.code.Numbering.{number_in};
 
@@ -6,7 +6,8 @@ use crate::outlines::Outline;
 use mh_grammar::Name;
 use std::collections::HashMap;
 
-/// The rules, with their numbers by name: those of the public ones, and those of each file's own, the prelude's first.
+/// The rules, and the number of each rule by its name: one map for the public rules, and for each file a map for its
+/// private rules; the prelude is file 0.
 #[derive(Drop)]
 pub struct Numbering {
     pub public: HashMap<Name, u64>,
@@ -15,7 +16,7 @@ pub struct Numbering {
 }
 
 impl Numbering {
-    /// The number of the rule of this owner and name.
+    /// The number of the rule with this owner and name; a public rule has no owner.
     pub fn number_of(&self, owner: Option<u64>, name: &Name) -> Option<u64>
         ensures { result ≡ number_in self.now owner name.now }
     {

@@ -1,4 +1,4 @@
-//! Which rules of a file are public.
+//! The public rules of a file.
 ghost use Rattle.std.specs.Prelude.{◌≡◌, ◌||◌, ◌&&◌, if◌then◌else◌, IfOk, OnOk};
 ghost use Rattle.std.specs.List.{list_any};
 ghost use Rattle.std.specs.HashSet.{contains};
@@ -24,7 +24,7 @@ fn mark_public(marked: &mut HashSet<Name>, rule: &Rule) -> Result<(), Memory>
     Ok(())
 }
 
-/// The names of rules that a file marks public. Fails for want of memory alone.
+/// The names of the rules that are marked `%public` in a file. Fails only if memory runs out.
 pub fn marked_public(alloc: Global, rules: &[Rule]) -> Result<HashSet<Name>, Memory>
     ensures { IfOk result (λ marked. (x : Text) → contains same marked x ≡ marks_public rules.now x) }
 {
@@ -35,14 +35,15 @@ pub fn marked_public(alloc: Global, rules: &[Rule]) -> Result<HashSet<Name>, Mem
     Ok(marked)
 }
 
-/// Whether the rules of a name are public in a file that marks these names.
+/// Whether the rules of this name are public in a file in which `marked` are the names marked `%public`: the name is
+/// marked or is a start symbol.
 pub fn is_public(starts: &NameList, marked: &HashSet<Name>, name: &Name) -> bool
     ensures { result ≡ (list_any (same name.now) starts.now.keys || contains same marked.now name.now) }
 {
     starts.contains(name) || marked.contains(name)
 }
 
-/// Who owns the rules of a name in a file.
+/// The owner of the rules of this name in a file: `None` if they are public, else the file.
 pub fn owner_in(starts: &NameList, marked: &HashSet<Name>, file: u64, name: &Name) -> Option<u64>
     ensures { result
         ≡ (if list_any (same name.now) starts.now.keys || contains same marked.now name.now then None else

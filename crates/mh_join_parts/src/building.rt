@@ -1,4 +1,4 @@
-//! The parts of joined files.
+//! Builds the parts of the joined files.
 ghost use Rattle.std.specs.Prelude.{◌≡◌, ◌++◌, ◌∷◌, ◌≤◌, ◌<◌, ◌+◌, ◌^◌, [], None, false, length, map, option_and_then, unwrap_or, IfOk, OnOk};
 ghost use Rattle.std.specs.List.{flat_map, enumerate_from};
 ghost use Rattle.mh_join_names.specs.Names as names_spec;
@@ -7,12 +7,12 @@ ghost use Rattle.mh_grammar.specs.Text.{Text};
 ghost use Rattle.mh_join_names.specs.Names.{same, marks_public, files, formal_number, definitions_from, definitions_in};
 ghost use Rattle.mh_join_names.specs.Faults.{meant_by, undefined_in_actual, undefined_in_on_error, undefined_start};
 ghost use Rattle.mh_join_names.specs.Joining.{resolved, all_resolved, prec_by, alternative_by, token_info, on_error_in, rule_without, AreRules};
-ghost use Rattle.mh_join_names.specs.code.Maps.{meanings_in, elsewhere_in, formals_in};
-ghost use Rattle.mh_join_parts.specs.code.Standing.{unresolved, unresolved_in_rule, unresolved_in_rules, unresolved_in_file, unresolved_on_error, definitions_by, Adds};
+ghost use Rattle.mh_join_names.specs.code.SymbolTables.{meanings_in, elsewhere_in, formals_in};
+ghost use Rattle.mh_join_parts.specs.code.CanJoin.{unresolved, unresolved_in_rule, unresolved_in_rules, unresolved_in_file, unresolved_on_error, definitions_by, AddsAlternatives};
 
 use crate::printing::printed;
 use mh_grammar::{Level, Memory, Name, Sequence, TokenInfo, lost};
-use mh_join_names::{Formals, Names, formals_of, marked_public, name_by, owner_in};
+use mh_join_names::{Formals, SymbolTables, formals_of, marked_public, name_by, owner_in};
 use mh_rules::{
     Actual, Alternative, Applied, JoinedAlternative, JoinedRule, MAX_TOKENS, Module, Prec, Ref,
     Rule,
@@ -20,15 +20,16 @@ use mh_rules::{
 use std::alloc::Global;
 use std::collections::HashSet;
 
-/// Where a name stands, which says what it stands for: in a file, among some formals.
+/// The place of a reference: the file and the formals that determine its meaning.
 #[derive(Clone, Copy)]
 struct Scope<'a> {
-    names: &'a Names,
+    names: &'a SymbolTables,
     file: u64,
     formals: &'a Formals,
 }
 
-/// A definition of a rule in a file. `place` is that of the first of its alternatives.
+/// A definition of a rule in a file; `place` is the position of its first alternative among all alternatives of the
+/// file.
 #[derive(Clone, Copy)]
 struct Definition<'a> {
     file: u64,
@@ -37,7 +38,7 @@ struct Definition<'a> {
     rule: &'a Rule,
 }
 
-/// An actual with its names resolved.
+/// The actual with its names resolved.
 #[cycle(actuals)]
 fn joined_actual(alloc: Global, scope: &Scope<'_>, actual: &Actual) -> Result<Applied, Memory>
     requires few { length scope.now.names.now.tokens.keys ≤ MAX_TOKENS }
@@ -78,7 +79,7 @@ fn joined_actuals(
 }
 
 /// The level of a name or string.
-fn level_of(names: &Names, reference: &Ref) -> Option<Level>
+fn level_of(names: &SymbolTables, reference: &Ref) -> Option<Level>
     ensures { result
         ≡ option_and_then (meanings_in names.now).level
         (names_spec.name_by (meanings_in names.now).aliased reference.now) }
@@ -89,8 +90,8 @@ fn level_of(names: &Names, reference: &Ref) -> Option<Level>
         .copied()
 }
 
-/// What a `%prec` gives.
-fn joined_prec(names: &Names, prec: &Option<Ref>) -> Prec
+/// The precedence that a `%prec` gives.
+fn joined_prec(names: &SymbolTables, prec: &Option<Ref>) -> Prec
     ensures { result ≡ prec_by (meanings_in names.now).aliased (meanings_in names.now).level prec.now }
 {
     match prec {
@@ -99,8 +100,8 @@ fn joined_prec(names: &Names, prec: &Option<Ref>) -> Prec
     }
 }
 
-/// The cost that a token is given first, else 1.
-fn cost_of(names: &Names, name: &Name) -> u32
+/// The first cost that a token is given, or 1.
+fn cost_of(names: &SymbolTables, name: &Name) -> u32
     ensures { result ≡ unwrap_or ((meanings_in names.now).cost name.now) 1 }
 {
     match names.costs.get(name) {
@@ -109,8 +110,11 @@ fn cost_of(names: &Names, name: &Name) -> u32
     }
 }
 
-/// Puts in the tokens.
-pub(crate) fn put_tokens(names: &Names, tokens: &mut Sequence<TokenInfo>) -> Result<(), Memory>
+/// Appends the tokens.
+pub(crate) fn put_tokens(
+    names: &SymbolTables,
+    tokens: &mut Sequence<TokenInfo>,
+) -> Result<(), Memory>
     requires { tokens.old ≡ [] }
     ensures { OnOk result (tokens.new ≡ map (token_info (meanings_in names.now)) (meanings_in names.now).tokens) }
 {
@@ -124,15 +128,15 @@ pub(crate) fn put_tokens(names: &Names, tokens: &mut Sequence<TokenInfo>) -> Res
     Ok(())
 }
 
-fn start_number(names: &Names, name: &Name) -> u64
+fn start_number(names: &SymbolTables, name: &Name) -> u64
     requires { undefined_start (meanings_in names.now) name.now ≡ [] }
     ensures { Some result ≡ (meanings_in names.now).numbers.rule None name.now }
 {
     names.numbering.public.get(name).copied().unwrap()
 }
 
-/// Puts in the numbers of the starts.
-pub(crate) fn put_starts(names: &Names, starts: &mut Sequence<u64>) -> Result<(), Memory>
+/// Appends the numbers of the start symbols.
+pub(crate) fn put_starts(names: &SymbolTables, starts: &mut Sequence<u64>) -> Result<(), Memory>
     requires blank { starts.old ≡ [] }
     requires stand { flat_map (undefined_start (meanings_in names.now)) (meanings_in names.now).starts ≡ [] }
     ensures { OnOk result
@@ -166,10 +170,10 @@ fn add_on_error(
     Ok(())
 }
 
-/// Puts in the on-error declarations of all files, which have no formals.
+/// Appends the on-error declarations of all files, with an empty map of formals.
 fn put_all_on_error(
     alloc: Global,
-    names: &Names,
+    names: &SymbolTables,
     none: &Formals,
     modules: &[Module],
     joined: &mut Sequence<Sequence<Applied>>,
@@ -193,10 +197,10 @@ fn put_all_on_error(
     Ok(())
 }
 
-/// Puts in the on-error declarations of all files.
+/// Appends the on-error declarations of all files.
 pub(crate) fn put_on_error(
     alloc: Global,
-    names: &Names,
+    names: &SymbolTables,
     modules: &[Module],
     joined: &mut Sequence<Sequence<Applied>>,
 ) -> Result<(), Memory>
@@ -258,10 +262,10 @@ fn add_alternatives(
     Ok(())
 }
 
-/// Puts the alternatives of a definition behind those of its rule.
+/// Appends the alternatives of a definition to the list of its rule's alternatives.
 fn add_definition(
     alloc: Global,
-    names: &Names,
+    names: &SymbolTables,
     definition: &Definition<'_>,
     joined: &mut Sequence<JoinedAlternative>,
 ) -> Result<(), Memory>
@@ -287,22 +291,22 @@ fn add_definition(
     added
 }
 
-/// Puts the alternatives of a definition behind those of its rule.
+/// Appends the alternatives of a definition to its rule in the list of joined rules.
 fn add_rule(
     alloc: Global,
-    names: &Names,
+    names: &SymbolTables,
     definition: &Definition<'_>,
     joined: &mut [JoinedRule],
 ) -> Result<(), Memory>
     requires few { length names.now.tokens.keys ≤ MAX_TOKENS }
     requires fits { definition.now.place + length definition.now.rule.now.alternatives < 2 ^ 64 }
     requires stand { unresolved_in_rule (meanings_in names.now) definition.now.file definition.now.rule.now ≡ [] }
-    ensures { OnOk result (Adds (meanings_in names.now)
+    ensures { OnOk result (AddsAlternatives (meanings_in names.now)
         (record { file = definition.now.file; owner = definition.now.owner; place = definition.now.place; rule = definition.now.rule.now } ∷ []) joined.old
         joined.new) }
 {
-    // In joined files each definition has a number, and its rule stands there. `Adds` holds without: it speaks of the rules
-    // that are there.
+    // In joined files each definition has a number, and its rule has this number in the list. `AddsAlternatives` holds even without
+    // this fact, because it only speaks of the rules in the list.
     if let Some(number) = names
         .numbering
         .number_of(definition.owner, &definition.rule.name)
@@ -315,8 +319,8 @@ fn add_rule(
     Ok(())
 }
 
-/// The place behind the alternatives of a rule. No file within memory has so many that it does not fit.
-fn place_behind(place: u64, rule: &Rule) -> Result<u64, Memory>
+/// The position after the alternatives of a rule. It fits into 64 bits for every file that fits into memory.
+fn place_after(place: u64, rule: &Rule) -> Result<u64, Memory>
     ensures next { IfOk result (λ n. n ≡ place + length rule.now.alternatives) }
     ensures fits { IfOk result (λ n. n < 2 ^ 64) }
 {
@@ -326,10 +330,11 @@ fn place_behind(place: u64, rule: &Rule) -> Result<u64, Memory>
     }
 }
 
-/// Puts the alternatives of a file that marks these names behind those of its rules.
+/// Appends the alternatives of a file to those of their rules, where `marked` are the names that the file marks
+/// `%public`.
 fn add_rules(
     alloc: Global,
-    names: &Names,
+    names: &SymbolTables,
     file: u64,
     marked: &HashSet<Name>,
     rules: &[Rule],
@@ -338,14 +343,14 @@ fn add_rules(
     requires few { length names.now.tokens.keys ≤ MAX_TOKENS }
     requires marked { (x : Text) → contains same marked.now x ≡ marks_public rules.now x }
     requires stand { unresolved_in_rules (meanings_in names.now) file rules.now ≡ [] }
-    ensures { OnOk result (Adds (meanings_in names.now)
+    ensures { OnOk result (AddsAlternatives (meanings_in names.now)
         (definitions_from (names_spec.owner_in names.now.starts.keys file rules.now) file 0
         rules.now)
         joined.old joined.new) }
 {
     let mut place = 0u64;
     for rule in rules {
-        let next = place_behind(place, rule)?;
+        let next = place_after(place, rule)?;
         let owner = owner_in(&names.starts, marked, file, &rule.name);
         let definition = Definition {
             file,
@@ -359,17 +364,17 @@ fn add_rules(
     Ok(())
 }
 
-/// Puts the alternatives of a file behind those of its rules.
+/// Appends the alternatives of a file to those of their rules.
 fn add_file(
     alloc: Global,
-    names: &Names,
+    names: &SymbolTables,
     file: u64,
     rules: &[Rule],
     joined: &mut [JoinedRule],
 ) -> Result<(), Memory>
     requires few { length names.now.tokens.keys ≤ MAX_TOKENS }
     requires stand { unresolved_in_rules (meanings_in names.now) file rules.now ≡ [] }
-    ensures { OnOk result (Adds (meanings_in names.now)
+    ensures { OnOk result (AddsAlternatives (meanings_in names.now)
         (definitions_from (names_spec.owner_in names.now.starts.keys file rules.now) file 0
         rules.now)
         joined.old joined.new) }
@@ -380,21 +385,21 @@ fn add_file(
     added
 }
 
-/// Puts the alternatives of the prelude behind those of its rules.
+/// Appends the alternatives of the prelude to those of their rules.
 fn add_prelude(
     alloc: Global,
-    names: &Names,
+    names: &SymbolTables,
     rules: &[Rule],
     joined: &mut [JoinedRule],
 ) -> Result<(), Memory>
     requires few { length names.now.tokens.keys ≤ MAX_TOKENS }
     requires stand { unresolved_in_rules (meanings_in names.now) 0 rules.now ≡ [] }
     ensures { OnOk result
-        (Adds (meanings_in names.now) (names_spec.prelude_definitions rules.now) joined.old joined.new) }
+        (AddsAlternatives (meanings_in names.now) (names_spec.prelude_definitions rules.now) joined.old joined.new) }
 {
     let mut place = 0u64;
     for rule in rules {
-        let next = place_behind(place, rule)?;
+        let next = place_after(place, rule)?;
         let definition = Definition {
             file: 0,
             owner: Some(0),
@@ -407,8 +412,12 @@ fn add_prelude(
     Ok(())
 }
 
-/// Puts in the rules before their alternatives.
-fn put_outlines(alloc: Global, names: &Names, rules: &mut Vec<JoinedRule>) -> Result<(), Memory>
+/// Appends the rules without their alternatives.
+fn put_outlines(
+    alloc: Global,
+    names: &SymbolTables,
+    rules: &mut Vec<JoinedRule>,
+) -> Result<(), Memory>
     requires { rules.old.items ≡ [] }
     ensures { OnOk result
         (rules.new.items ≡ map (rule_without (elsewhere_in names.now)) names.now.numbering.rules.items) }
@@ -424,8 +433,8 @@ fn put_outlines(alloc: Global, names: &Names, rules: &mut Vec<JoinedRule>) -> Re
     Ok(())
 }
 
-/// The rules before their alternatives.
-fn rules_without(alloc: Global, names: &Names) -> Result<Vec<JoinedRule>, Memory>
+/// The rules without their alternatives.
+fn rules_without(alloc: Global, names: &SymbolTables) -> Result<Vec<JoinedRule>, Memory>
     ensures { IfOk result (λ rules.
         rules.items ≡ map (rule_without (elsewhere_in names.now)) names.now.numbering.rules.items) }
 {
@@ -438,13 +447,13 @@ fn rules_without(alloc: Global, names: &Names) -> Result<Vec<JoinedRule>, Memory
 
 fn add_files(
     alloc: Global,
-    names: &Names,
+    names: &SymbolTables,
     modules: &[Module],
     joined: &mut [JoinedRule],
 ) -> Result<(), Memory>
     requires few { length names.now.tokens.keys ≤ MAX_TOKENS }
     requires stand { flat_map (unresolved_in_file (meanings_in names.now)) (files modules.now) ≡ [] }
-    ensures { OnOk result (Adds (meanings_in names.now)
+    ensures { OnOk result (AddsAlternatives (meanings_in names.now)
         (flat_map (definitions_in names.now.starts.keys) (files modules.now)) joined.old joined.new) }
 {
     for (at, file) in modules.iter().enumerate() {
@@ -453,10 +462,10 @@ fn add_files(
     Ok(())
 }
 
-/// Puts in the alternatives of the files in order, and then those of the prelude.
+/// Appends the alternatives of the files in order, and then those of the prelude.
 fn add_all(
     alloc: Global,
-    names: &Names,
+    names: &SymbolTables,
     modules: &[Module],
     from_prelude: &[Rule],
     joined: &mut [JoinedRule],
@@ -465,7 +474,7 @@ fn add_all(
     requires stand { flat_map (unresolved_in_file (meanings_in names.now)) (files modules.now) ≡ [] }
     requires prelude_stands { unresolved_in_rules (meanings_in names.now) 0 from_prelude.now ≡ [] }
     ensures { OnOk result
-        (Adds (meanings_in names.now) (definitions_by names.now modules.now from_prelude.now) joined.old
+        (AddsAlternatives (meanings_in names.now) (definitions_by names.now modules.now from_prelude.now) joined.old
         joined.new) }
 {
     add_files(alloc, names, modules, joined)?;
@@ -473,10 +482,10 @@ fn add_all(
     Ok(())
 }
 
-/// The rules of the files in order, and then those of the prelude.
+/// The joined rules: those of the files in order, and then those of the prelude.
 pub(crate) fn joined_rules(
     alloc: Global,
-    names: &Names,
+    names: &SymbolTables,
     modules: &[Module],
     from_prelude: &[Rule],
 ) -> Result<Sequence<JoinedRule>, Memory>

@@ -1,12 +1,11 @@
-//! The prelude, the rules of Menhir's standard library, as the module that its text spells.
-//!
-//! The rules of several files joined, where no fault is in them.
+//! The prelude, which is the rules of Menhir's standard library; and the joined value of several files that have no
+//! fault.
 #![tactic(auto)]
 
 mod building;
+mod joined_value;
 mod prelude;
 mod printing;
-mod whole;
 
+pub use joined_value::joined;
 pub use prelude::prelude_rules;
-pub use whole::joined;

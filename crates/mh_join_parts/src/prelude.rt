@@ -1,4 +1,4 @@
-//! The prelude, the rules of Menhir's standard library.
+//! The prelude, which is the rules of Menhir's standard library.
 ghost use Rattle.std.specs.Prelude.{◌≡◌, ◌∷◌, ◌++◌, [], codes, map, true, false, IfOk, OnOk};
 ghost use Rattle.mh_join_names.specs.Prelude as spec;
 ghost use Rattle.mh_join_names.specs.Prelude.{plain, rule_of, in_order, list_rule, nonempty_list_rule, separated_items, separated_list_rule, separated_nonempty_list_rule, option_rules, pair_rules, list_rules, other_rules};
@@ -7,7 +7,7 @@ use mh_grammar::{Memory, Name, Sequence, from_bytes};
 use mh_rules::{Actual, Alternative, Ref, Rule};
 use std::alloc::Global;
 
-/// A name applied to actual arguments.
+/// A name applied to actuals.
 fn call(alloc: Global, name: &str, args: Sequence<Actual>) -> Result<Actual, Memory>
     ensures { IfOk result (λ a. a ≡ spec.call name.now args) }
 {
@@ -17,7 +17,7 @@ fn call(alloc: Global, name: &str, args: Sequence<Actual>) -> Result<Actual, Mem
     })
 }
 
-/// Names without arguments.
+/// Names without arguments, as actuals.
 fn words(alloc: Global, names: &[&str]) -> Result<Sequence<Actual>, Memory>
     ensures { IfOk result (λ actuals. actuals ≡ spec.words (map (λ n. n.now) names.now)) }
 {
@@ -45,7 +45,7 @@ fn formals_of(alloc: Global, names: &[&str]) -> Result<Sequence<Name>, Memory>
     Ok(formals)
 }
 
-/// A rule without alternatives.
+/// A public rule without alternatives.
 fn rule(alloc: Global, inlined: bool, name: &str, formals: &[&str]) -> Result<Rule, Memory>
     ensures { IfOk result (λ r. r ≡ rule_of inlined name.now (map (λ n. n.now) formals.now) []) }
 {
@@ -58,7 +58,7 @@ fn rule(alloc: Global, inlined: bool, name: &str, formals: &[&str]) -> Result<Ru
     })
 }
 
-/// The rule with an alternative more.
+/// The rule with one more alternative.
 fn with_alternative(mut rule: Rule, producers: Sequence<Actual>) -> Result<Rule, Memory>
     ensures { IfOk result (λ r. r ≡ record rule { alternatives = rule.alternatives ++ plain producers ∷ [] }) }
 {
@@ -69,14 +69,14 @@ fn with_alternative(mut rule: Rule, producers: Sequence<Actual>) -> Result<Rule,
     Ok(rule)
 }
 
-/// A rule that may be nothing.
+/// A rule with an empty alternative.
 fn empty(alloc: Global, inlined: bool, name: &str) -> Result<Rule, Memory>
     ensures { IfOk result (λ r. r ≡ rule_of inlined name.now (spec.texts ("X" ∷ [])) (plain [] ∷ [])) }
 {
     with_alternative(rule(alloc, inlined, name, &["X"])?, Sequence::new(alloc))
 }
 
-/// Nothing, or the formal.
+/// A rule that derives the empty word or its formal.
 fn optional(alloc: Global, inlined: bool, name: &str) -> Result<Rule, Memory>
     ensures { IfOk result (λ r. r ≡ spec.optional inlined name.now) }
 {
@@ -84,7 +84,7 @@ fn optional(alloc: Global, inlined: bool, name: &str) -> Result<Rule, Memory>
     with_alternative(empty(alloc, inlined, name)?, formal)
 }
 
-/// The formals in order.
+/// A rule whose one alternative is its formals in order.
 fn in_order(alloc: Global, inlined: bool, name: &str, formals: &[&str]) -> Result<Rule, Memory>
     ensures { IfOk result (λ r. r ≡ in_order inlined name.now (map (λ n. n.now) formals.now)) }
 {
@@ -92,7 +92,7 @@ fn in_order(alloc: Global, inlined: bool, name: &str, formals: &[&str]) -> Resul
     with_alternative(rule(alloc, inlined, name, formals)?, producers)
 }
 
-/// Names, and an actual behind them.
+/// Names without arguments, followed by an actual.
 fn words_before(alloc: Global, names: &[&str], last: Actual) -> Result<Sequence<Actual>, Memory>
     ensures { IfOk result (λ all. all ≡ spec.words (map (λ n. n.now) names.now) ++ last ∷ []) }
 {
@@ -132,7 +132,7 @@ fn separated_list(alloc: Global) -> Result<Rule, Memory>
     )
 }
 
-/// The rule of separated items before it says that there may be more.
+/// The rule `separated_nonempty_list` with its first alternative only, one item.
 fn one_or_more(alloc: Global) -> Result<Rule, Memory>
     ensures { IfOk result (λ r. r ≡ rule_of false (codes "separated_nonempty_list")
         (spec.texts ("separator" ∷ "X" ∷ [])) (plain (spec.words (spec.texts ("X" ∷ []))) ∷ [])) }
@@ -152,7 +152,7 @@ fn separated_nonempty_list(alloc: Global) -> Result<Rule, Memory>
     with_alternative(one_or_more(alloc)?, more)
 }
 
-/// Adds a rule that is nothing, or the formal.
+/// Appends a rule that derives the empty word or its formal.
 fn add_optional(
     alloc: Global,
     rules: &mut Sequence<Rule>,
@@ -165,7 +165,7 @@ fn add_optional(
     Ok(())
 }
 
-/// Adds a rule of its formals in order.
+/// Appends a rule whose one alternative is its formals in order.
 fn add_in_order(
     alloc: Global,
     rules: &mut Sequence<Rule>,
@@ -227,8 +227,8 @@ fn add_others(alloc: Global, rules: &mut Sequence<Rule>) -> Result<(), Memory>
     Ok(())
 }
 
-/// The prelude's rules, or none where it is left out. (The Menhir manual's standard library.) Fails for want of memory
-/// alone.
+/// The rules of the prelude, or none if `with` is false. (Menhir manual, standard library.) Fails only if memory runs
+/// out.
 #[tactic(auto, unfolding(mh_join_names::specs::Prelude::prelude_rules))]
 pub fn prelude_rules(alloc: Global, with: bool) -> Result<Sequence<Rule>, Memory>
     ensures { IfOk result (λ rules. rules ≡ spec.prelude_rules with) }

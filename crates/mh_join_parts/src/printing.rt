@@ -1,14 +1,14 @@
-//! The names of rules as they are printed.
+//! The printed names of rules.
 ghost use Rattle.std.specs.Prelude.{◌≡◌, IfOk};
 ghost use Rattle.mh_join_names.specs.Joining as spec;
 ghost use Rattle.mh_join_names.specs.Joining.{printed_by};
-ghost use Rattle.mh_join_names.specs.code.Maps.{elsewhere_in};
+ghost use Rattle.mh_join_names.specs.code.SymbolTables.{elsewhere_in};
 
 use mh_grammar::{Memory, Name, from_bytes};
-use mh_join_names::{Names, Outline};
+use mh_join_names::{Outline, SymbolTables};
 use std::alloc::Global;
 
-/// A name, `@`, and the number of a file.
+/// The name followed by `@` and the number of a file.
 fn with_file(alloc: Global, name: &Name, file: u64) -> Result<Name, Memory>
     ensures { IfOk result (λ n. n ≡ spec.with_file name.now file) }
 {
@@ -19,8 +19,12 @@ fn with_file(alloc: Global, name: &Name, file: u64) -> Result<Name, Memory>
     from_bytes(alloc, text.as_slice())
 }
 
-/// A rule's name as it is printed.
-pub(crate) fn printed(alloc: Global, names: &Names, outline: &Outline) -> Result<Name, Memory>
+/// The printed name of a rule.
+pub(crate) fn printed(
+    alloc: Global,
+    names: &SymbolTables,
+    outline: &Outline,
+) -> Result<Name, Memory>
     ensures { IfOk result (λ n. n ≡ printed_by (elsewhere_in names.now) outline.now.name outline.now.owner) }
 {
     if let Some(file) = outline.owner {

@@ -1,68 +1,69 @@
--- Bytes and their lexemes. Source: the Menhir manual's syntax of grammars, and this project's profile.
+-- Bytes and their lexemes (Menhir manual, syntax of grammars; the choice is a rule of this project).
 use Rattle.std.specs.Prelude.{◌≡◌, ◌≢◌, ℕ, suc, ◌-◌, ◌<◌, ◌≤◌, List, [], ◌∷◌, ◌++◌, length, Option, Some, None, drop, Result, Ok, Err}
 use Rattle.mh_lex.specs.declared.kinds.SyntaxFault.{SyntaxFault}
 use Rattle.mh_lex.specs.declared.kinds.SyntaxFault.TheVariants.{Syntax, Memory}
-use Rattle.mh_lex.specs.declared.code.Ends.{Ends}
+use Rattle.mh_lex.specs.declared.code.Delimiter.{Delimiter}
 use Rattle.mh_lex.specs.declared.kinds.Kind.{Kind}
 use Rattle.mh_lex.specs.declared.kinds.Kind.TheVariants as kinds
 use Rattle.mh_lex.specs.declared.kinds.Lexeme.{Lexeme}
-use Rattle.mh_lex.specs.declared.kinds.Front.TheVariants.{Ended, Short, Long}
+use Rattle.mh_lex.specs.declared.kinds.LexemeStart.TheVariants.{Ended, Short, Long}
 use Rattle.mh_lex_bytes.specs.Lines.{line_at}
-use Rattle.mh_lex.specs.Begins.{front}
+use Rattle.mh_lex.specs.LexemeStarts.{lexeme_start}
 use Rattle.mh_lex.specs.Bodies.{Body}
 
--- Taken bytes what rest: a lexeme of this kind, or what is dropped, stands at the front, and rest is what follows.
-pub data Taken : List ℕ → Option Kind → List ℕ → Type 0 where
-  short : {bytes rest : List ℕ} {what : Option Kind} {n : ℕ} → front bytes ≡ Short what n → rest ≡ drop n bytes → Taken bytes what rest
-  long : {bytes rest : List ℕ} {what : Option Kind} {e : Ends} {n : ℕ} → front bytes ≡ Long what e n → Body e (drop n bytes) rest → Taken bytes what rest
+-- The bytes begin with a lexeme of this kind, or with a blank or a comment, which has no kind; `rest` are the bytes
+-- that follow it.
+pub data Scanned : List ℕ → Option Kind → List ℕ → Type 0 where
+  short : {bytes rest : List ℕ} {what : Option Kind} {n : ℕ} → lexeme_start bytes ≡ Short what n → rest ≡ drop n bytes → Scanned bytes what rest
+  long : {bytes rest : List ℕ} {what : Option Kind} {e : Delimiter} {n : ℕ} → lexeme_start bytes ≡ Long what e n → Body e (drop n bytes) rest → Scanned bytes what rest
 
--- a lexeme between two places
-abbrev pub piece : Option Kind → ℕ → ℕ → List Lexeme
-piece None start end = []
-piece (Some k) start end = record { kind = k; start = start; end = end } ∷ []
+-- The lexeme between two positions; a blank or a comment gives no lexeme.
+abbrev pub lexeme_between : Option Kind → ℕ → ℕ → List Lexeme
+lexeme_between None start end = []
+lexeme_between (Some k) start end = record { kind = k; start = start; end = end } ∷ []
 
--- in a file of so many bytes, the lexeme between two rests
-abbrev pub kept : ℕ → List ℕ → Option Kind → List ℕ → List Lexeme
-kept total bytes what rest = piece what (total - length bytes) (total - length rest)
+-- The lexeme between two suffixes of a file of `total` bytes.
+abbrev pub lexeme_between_rests : ℕ → List ℕ → Option Kind → List ℕ → List Lexeme
+lexeme_between_rests total bytes what rest = lexeme_between what (total - length bytes) (total - length rest)
 
--- how many of the two %% are still to come
-abbrev pub left_after : Option Kind → ℕ → ℕ
-left_after None left = suc left
-left_after (Some kinds.Percents) left = left
-left_after (Some kinds.Word) left = suc left
-left_after (Some kinds.Mark) left = suc left
-left_after (Some kinds.Keyword) left = suc left
-left_after (Some kinds.Quoted) left = suc left
-left_after (Some kinds.Header) left = suc left
-left_after (Some kinds.Action) left = suc left
-left_after (Some kinds.TypeText) left = suc left
-left_after (Some kinds.Attribute) left = suc left
+-- The number of `%%` that are still to come, of two.
+abbrev pub percents_left : Option Kind → ℕ → ℕ
+percents_left None left = suc left
+percents_left (Some kinds.Percents) left = left
+percents_left (Some kinds.Word) left = suc left
+percents_left (Some kinds.Mark) left = suc left
+percents_left (Some kinds.Keyword) left = suc left
+percents_left (Some kinds.Quoted) left = suc left
+percents_left (Some kinds.Header) left = suc left
+percents_left (Some kinds.Action) left = suc left
+percents_left (Some kinds.TypeText) left = suc left
+percents_left (Some kinds.Attribute) left = suc left
 
--- The lexemes of a file of total bytes from some bytes on, up to its end, its trailer or the place of the first fault,
--- where so many %% are still to come.
+-- The lexemes of some suffix of a file of `total` bytes, up to the end of the file, its trailer or the position of the
+-- first fault. The first number says how many `%%` are still to come; the trailer begins after the second.
 pub data LexesFrom (total : ℕ) : ℕ → List ℕ → List Lexeme → Option ℕ → Type 0 where
-  ended : {left : ℕ} {bytes : List ℕ} → front bytes ≡ Ended → LexesFrom total (suc left) bytes [] None
+  ended : {left : ℕ} {bytes : List ℕ} → lexeme_start bytes ≡ Ended → LexesFrom total (suc left) bytes [] None
   trailer : {bytes : List ℕ} → LexesFrom total 0 bytes [] None
   taken : {left : ℕ} {bytes rest : List ℕ} {what : Option Kind} {ls all : List Lexeme} {f : Option ℕ} →
-      Taken bytes what rest → LexesFrom total (left_after what left) rest ls f → all ≡ kept total bytes what rest ++ ls → LexesFrom total (suc left) bytes all f
-  fault : {left : ℕ} {bytes : List ℕ} → front bytes ≢ Ended → ((what : Option Kind) (rest : List ℕ) → Taken bytes what rest → ⊥) →
+      Scanned bytes what rest → LexesFrom total (percents_left what left) rest ls f → all ≡ lexeme_between_rests total bytes what rest ++ ls → LexesFrom total (suc left) bytes all f
+  fault : {left : ℕ} {bytes : List ℕ} → lexeme_start bytes ≢ Ended → ((what : Option Kind) (rest : List ℕ) → Scanned bytes what rest → ⊥) →
       LexesFrom total (suc left) bytes [] (Some (total - length bytes))
 
--- Lexes bytes lexemes place: these are the lexemes of a file, up to the place of its first lexical fault if it has one.
+-- The lexemes of a file, up to the position of the first lexical fault, if there is one.
 abbrev pub Lexes : List ℕ → List Lexeme → Option ℕ → Type 0
 Lexes bytes lexemes place = LexesFrom (length bytes) 2 bytes lexemes place
 
--- none is empty, and they stand one after the other between two places
-abbrev pub Rises : ℕ → ℕ → List Lexeme → Type 0
-Rises low high [] = low ≤ high
-Rises low high (l ∷ ls) = (low ≤ l.start) × (l.start < l.end) × Rises l.end high ls
+-- The lexemes are between two positions, none is empty, and each begins at or after the end of the one before.
+abbrev pub AreLexemesInOrder : ℕ → ℕ → List Lexeme → Type 0
+AreLexemesInOrder low high [] = low ≤ high
+AreLexemesInOrder low high (l ∷ ls) = (low ≤ l.start) × (l.start < l.end) × AreLexemesInOrder l.end high ls
 
--- it is not empty, and ends within so many bytes
-abbrev pub IsWithin : ℕ → Lexeme → Type 0
-IsWithin size l = (l.start < l.end) × (l.end ≤ size)
+-- The lexeme is not empty, and ends within `size` bytes.
+abbrev pub IsLexemeWithin : ℕ → Lexeme → Type 0
+IsLexemeWithin size l = (l.start < l.end) × (l.end ≤ size)
 
--- the line of the first fault
-abbrev pub Refuses : {X : Type 0} → List ℕ → Result X SyntaxFault → Type 0
-Refuses bytes (Ok x) = Unit {0}
-Refuses bytes (Err Memory) = Unit {0}
-Refuses bytes (Err (Syntax line)) = (ls : List Lexeme) × (place : ℕ) × Lexes bytes ls (Some place) × (line ≡ line_at bytes place)
+-- If the result is a syntax fault, its line is that of the first lexical fault.
+abbrev pub ReportsLexicalLine : {X : Type 0} → List ℕ → Result X SyntaxFault → Type 0
+ReportsLexicalLine bytes (Ok x) = Unit {0}
+ReportsLexicalLine bytes (Err Memory) = Unit {0}
+ReportsLexicalLine bytes (Err (Syntax line)) = (ls : List Lexeme) × (place : ℕ) × Lexes bytes ls (Some place) × (line ≡ line_at bytes place)

@@ -1,8 +1,8 @@
-pub mod Spellings
-pub mod Steps
+pub mod LexemeLengths
+pub mod CodeSteps
 pub mod Bodies
-pub mod Begins
+pub mod LexemeStarts
 pub mod Lexing
-pub mod Texts
+pub mod LexemeTexts
 pub mod InCode
 pub mod code

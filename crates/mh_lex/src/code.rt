@@ -1,50 +1,50 @@
-//! Code, comments and types, up to what closes them.
+//! Code, comments and types, up to their closing delimiters.
 ghost use Rattle.std.specs.Prelude.{◌≡◌, ◌-◌, ◌<◌, ◌≤◌, ℕ, length, drop, List, IfSome, IfNone, IsTrue};
 ghost use Rattle.std.specs.Option.{unwrap_or};
 ghost use Rattle.mh_lex_bytes.specs.Bytes.{byte_at, is_word_start};
-ghost use Rattle.mh_lex.specs.Spellings.{quoted_id, quoted_rest};
+ghost use Rattle.mh_lex.specs.LexemeLengths.{quoted_id, quoted_rest};
 ghost use Rattle.mh_lex.specs.Bodies.{Body};
-ghost use Rattle.mh_lex.specs.Steps.{begins_comment, passed, nests_in, single, item, plain, closer, step};
-ghost use Rattle.mh_lex.specs.code.Finding.{innermost_of, opened, Within};
+ghost use Rattle.mh_lex.specs.CodeSteps.{begins_comment, step_past, nests_in, step_over_byte, step_over_one, step_inside, closer_length, step};
+ghost use Rattle.mh_lex.specs.code.Scans.{innermost_of, step_over_opening, IsStepWithin};
 
 use crate::items::{
     literal_length, quoted_length, quoted_opening_length, string_length, word_length,
 };
 use mh_lex_bytes::{has_byte, starts_arrow, starts_word};
 
-/// What closes a stretch of code, a comment or a type.
+/// The delimiter that closes code, a comment or a type.
 #[derive(Clone, Copy, Drop)]
-pub enum Ends {
-    /// `*)`
+pub enum Delimiter {
+    /// `*)`.
     Comment,
-    /// `}`
+    /// `}`.
     Brace,
-    /// `]`
+    /// `]`.
     Bracket,
-    /// `%}`
+    /// `%}`.
     Header,
-    /// `>`
+    /// `>`.
     Angle,
-    /// `*/`
+    /// `*/`.
     Slash,
 }
 
-/// What stands at the front inside of code, with its length.
+/// One step of the scan of code: the piece with which the bytes begin, and its length.
 #[derive(Clone, Copy, Drop)]
-pub enum Step {
-    /// What closes this level of the code.
+pub enum CodeStep {
+    /// The closing delimiter of the innermost level.
     Closes(usize),
-    /// What is passed over whole.
+    /// Bytes that are passed over as a whole.
     Passes(usize),
-    /// One byte, behind which a level inside begins.
+    /// One byte that opens a nested level.
     Nests,
     /// The two bytes that open a comment.
     Remark,
-    /// Nothing to go on with: the bytes end here, or a string begins that is not closed.
+    /// There is no step: the bytes end, or a string begins that is not closed.
     Stuck,
 }
 
-/// Whether a comment begins here.
+/// Returns whether the bytes begin with a comment.
 pub(crate) fn starts_comment(rest: &[u8]) -> bool
     ensures value { result ≡ begins_comment rest.now }
     ensures within { IsTrue result → 2 ≤ length rest.now }
@@ -52,33 +52,33 @@ pub(crate) fn starts_comment(rest: &[u8]) -> bool
     has_byte(rest, 0, b'(') && has_byte(rest, 1, b'*')
 }
 
-/// Whether the byte that nests stands here.
-fn nests(ends: Ends, rest: &[u8]) -> bool
+/// Returns whether the bytes begin with the byte that opens a nested level.
+fn nests(ends: Delimiter, rest: &[u8]) -> bool
     ensures value { result ≡ nests_in ends rest.now }
     ensures within { IsTrue result → 1 ≤ length rest.now }
 {
     match ends {
-        Ends::Brace => has_byte(rest, 0, b'{'),
-        Ends::Bracket => has_byte(rest, 0, b'['),
-        Ends::Comment | Ends::Header | Ends::Angle | Ends::Slash => false,
+        Delimiter::Brace => has_byte(rest, 0, b'{'),
+        Delimiter::Bracket => has_byte(rest, 0, b'['),
+        Delimiter::Comment | Delimiter::Header | Delimiter::Angle | Delimiter::Slash => false,
     }
 }
 
-/// A single byte.
-fn single_step(ends: Ends, rest: &[u8]) -> Step
-    ensures value { result ≡ single ends rest.now }
-    ensures within { Within (length rest.now) result }
+/// The step over a single byte.
+fn single_step(ends: Delimiter, rest: &[u8]) -> CodeStep
+    ensures value { result ≡ step_over_byte ends rest.now }
+    ensures within { IsStepWithin (length rest.now) result }
 {
     if rest.is_empty() {
-        Step::Stuck
+        CodeStep::Stuck
     } else if nests(ends, rest) {
-        Step::Nests
+        CodeStep::Nests
     } else {
-        Step::Passes(1)
+        CodeStep::Passes(1)
     }
 }
 
-/// Whether a word begins here.
+/// Returns whether the bytes begin with a word.
 fn begins_word(rest: &[u8]) -> bool
     ensures value { result ≡ is_word_start (byte_at rest.now 0) }
 {
@@ -88,35 +88,36 @@ fn begins_word(rest: &[u8]) -> bool
     }
 }
 
-/// A quoted string behind its opening.
-fn quoted_step(opening: usize, rest: &[u8]) -> Step
+/// The step over a quoted string with this opening.
+fn quoted_step(opening: usize, rest: &[u8]) -> CodeStep
     requires { (2 ≤ opening) × (opening ≤ length rest.now) }
-    ensures value { result ≡ passed opening (quoted_rest (quoted_id opening rest.now) (drop opening rest.now)) }
-    ensures within { Within (length rest.now) result }
+    ensures value { result ≡ step_past opening (quoted_rest (quoted_id opening rest.now) (drop opening rest.now)) }
+    ensures within { IsStepWithin (length rest.now) result }
 {
     match quoted_length(&rest[1..opening - 1], &rest[opening..]) {
-        Some(length) => Step::Passes(length + opening),
-        None => Step::Stuck,
+        Some(length) => CodeStep::Passes(length + opening),
+        None => CodeStep::Stuck,
     }
 }
 
-/// The first that fits of a string, a character literal, a word, a quoted string and a byte.
-#[tactic(auto, unfolding(crate::specs::Steps::item))]
-fn item_at(ends: Ends, rest: &[u8]) -> Step
-    ensures value { result ≡ item ends rest.now }
-    ensures within { Within (length rest.now) result }
+/// The step over the first that the bytes begin with of a string, a character literal, a word, a quoted string and a
+/// single byte.
+#[tactic(auto, unfolding(crate::specs::CodeSteps::step_over_one))]
+fn item_at(ends: Delimiter, rest: &[u8]) -> CodeStep
+    ensures value { result ≡ step_over_one ends rest.now }
+    ensures within { IsStepWithin (length rest.now) result }
 {
     if has_byte(rest, 0, b'"') {
         return match string_length(&rest[1..]) {
-            Some(length) => Step::Passes(length + 1),
-            None => Step::Stuck,
+            Some(length) => CodeStep::Passes(length + 1),
+            None => CodeStep::Stuck,
         };
     }
     if let Some(literal) = literal_length(rest) {
-        return Step::Passes(literal);
+        return CodeStep::Passes(literal);
     }
     if begins_word(rest) {
-        return Step::Passes(word_length(rest));
+        return CodeStep::Passes(word_length(rest));
     }
     match quoted_opening_length(rest) {
         Some(opening) => quoted_step(opening, rest),
@@ -124,54 +125,56 @@ fn item_at(ends: Ends, rest: &[u8]) -> Step
     }
 }
 
-/// What stands at the front where nothing closes and no comment begins.
-fn plain_step(ends: Ends, rest: &[u8]) -> Step
-    ensures value { result ≡ plain ends rest.now }
-    ensures within { Within (length rest.now) result }
+/// The step if the code is not closed here and no comment begins.
+fn plain_step(ends: Delimiter, rest: &[u8]) -> CodeStep
+    ensures value { result ≡ step_inside ends rest.now }
+    ensures within { IsStepWithin (length rest.now) result }
 {
     match ends {
-        Ends::Comment | Ends::Brace | Ends::Bracket | Ends::Header => item_at(ends, rest),
-        Ends::Angle => if starts_arrow(rest) {
-            Step::Passes(2)
+        Delimiter::Comment | Delimiter::Brace | Delimiter::Bracket | Delimiter::Header => item_at(
+            ends, rest,
+        ),
+        Delimiter::Angle => if starts_arrow(rest) {
+            CodeStep::Passes(2)
         } else {
             single_step(ends, rest)
         },
-        Ends::Slash => single_step(ends, rest),
+        Delimiter::Slash => single_step(ends, rest),
     }
 }
 
-/// The length of what closes the code, None where it does not stand here.
-fn closing_length(ends: Ends, rest: &[u8]) -> Option<usize>
-    ensures value { unwrap_or result 0 ≡ closer ends rest.now }
+/// The length of the closing delimiter; `None` if the bytes do not begin with it.
+fn closing_length(ends: Delimiter, rest: &[u8]) -> Option<usize>
+    ensures value { unwrap_or result 0 ≡ closer_length ends rest.now }
     ensures within { IfSome result (λ n. (0 < n) × (n ≤ length rest.now)) }
 {
     match ends {
-        Ends::Comment => if has_byte(rest, 0, b'*') && has_byte(rest, 1, b')') {
+        Delimiter::Comment => if has_byte(rest, 0, b'*') && has_byte(rest, 1, b')') {
             Some(2)
         } else {
             None
         },
-        Ends::Brace => if has_byte(rest, 0, b'}') {
+        Delimiter::Brace => if has_byte(rest, 0, b'}') {
             Some(1)
         } else {
             None
         },
-        Ends::Bracket => if has_byte(rest, 0, b']') {
+        Delimiter::Bracket => if has_byte(rest, 0, b']') {
             Some(1)
         } else {
             None
         },
-        Ends::Header => if has_byte(rest, 0, b'%') && has_byte(rest, 1, b'}') {
+        Delimiter::Header => if has_byte(rest, 0, b'%') && has_byte(rest, 1, b'}') {
             Some(2)
         } else {
             None
         },
-        Ends::Angle => if has_byte(rest, 0, b'>') {
+        Delimiter::Angle => if has_byte(rest, 0, b'>') {
             Some(1)
         } else {
             None
         },
-        Ends::Slash => if has_byte(rest, 0, b'*') && has_byte(rest, 1, b'/') {
+        Delimiter::Slash => if has_byte(rest, 0, b'*') && has_byte(rest, 1, b'/') {
             Some(2)
         } else {
             None
@@ -179,48 +182,52 @@ fn closing_length(ends: Ends, rest: &[u8]) -> Option<usize>
     }
 }
 
-/// What stands at the front where nothing closes.
-fn open_step(ends: Ends, rest: &[u8]) -> Step
-    ensures value { result ≡ opened ends rest.now }
-    ensures within { Within (length rest.now) result }
+/// The step if the code is not closed here.
+fn open_step(ends: Delimiter, rest: &[u8]) -> CodeStep
+    ensures value { result ≡ step_over_opening ends rest.now }
+    ensures within { IsStepWithin (length rest.now) result }
 {
-    if !matches!(ends, Ends::Slash) && starts_comment(rest) {
-        Step::Remark
+    if !matches!(ends, Delimiter::Slash) && starts_comment(rest) {
+        CodeStep::Remark
     } else {
         plain_step(ends, rest)
     }
 }
 
-/// What stands at the front inside of code.
-#[tactic(auto, unfolding(crate::specs::Steps::step))]
-fn step_at(ends: Ends, rest: &[u8]) -> Step
+/// The step inside code, comments and types.
+#[tactic(auto, unfolding(crate::specs::CodeSteps::step))]
+fn step_at(ends: Delimiter, rest: &[u8]) -> CodeStep
     ensures value { result ≡ step ends rest.now }
-    ensures within { Within (length rest.now) result }
+    ensures within { IsStepWithin (length rest.now) result }
 {
     if let Some(closing) = closing_length(ends, rest) {
-        return Step::Closes(closing);
+        return CodeStep::Closes(closing);
     }
     open_step(ends, rest)
 }
 
-/// What stands at a place inside of code.
-fn step_from(ends: Ends, bytes: &[u8], at: usize) -> Step
+/// The step at a position.
+fn step_from(ends: Delimiter, bytes: &[u8], at: usize) -> CodeStep
     requires { at ≤ length bytes.now }
     ensures value { result ≡ step ends (drop at bytes.now) }
-    ensures within { Within (length bytes.now - at) result }
+    ensures within { IsStepWithin (length bytes.now - at) result }
 {
     step_at(ends, &bytes[at..])
 }
 
-/// What the innermost level is: comments are open inside of the code.
-fn innermost(code: Ends, remarks: usize) -> Ends
+/// The innermost level: a comment, if any is open inside the code.
+fn innermost(code: Delimiter, remarks: usize) -> Delimiter
     ensures { result ≡ innermost_of code remarks }
 {
-    if remarks == 0 { code } else { Ends::Comment }
+    if remarks == 0 {
+        code
+    } else {
+        Delimiter::Comment
+    }
 }
 
-/// How many bytes there are up to and with what closes the code, None where nothing does.
-pub(crate) fn code_length(code: Ends, rest: &[u8]) -> Option<usize>
+/// The number of bytes up to and including the closing delimiter of the code; `None` if it is not closed.
+pub(crate) fn code_length(code: Delimiter, rest: &[u8]) -> Option<usize>
     ensures some { IfSome result
         (λ n. (n ≤ length rest.now) × Body code rest.now (drop n rest.now)) }
     ensures none { IfNone result ((after : List ℕ) → Body code rest.now after → ⊥) }
@@ -230,7 +237,7 @@ pub(crate) fn code_length(code: Ends, rest: &[u8]) -> Option<usize>
     let mut remarks = 0usize;
     loop {
         match step_from(innermost(code, remarks), rest, at) {
-            Step::Closes(length) => {
+            CodeStep::Closes(length) => {
                 at += length;
                 if remarks > 0 {
                     remarks -= 1;
@@ -240,16 +247,16 @@ pub(crate) fn code_length(code: Ends, rest: &[u8]) -> Option<usize>
                     return Some(at);
                 }
             }
-            Step::Passes(length) => at += length,
-            Step::Nests => {
+            CodeStep::Passes(length) => at += length,
+            CodeStep::Nests => {
                 outer += 1;
                 at += 1;
             }
-            Step::Remark => {
+            CodeStep::Remark => {
                 remarks += 1;
                 at += 2;
             }
-            Step::Stuck => return None,
+            CodeStep::Stuck => return None,
         }
     }
 }

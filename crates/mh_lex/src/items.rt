@@ -1,8 +1,8 @@
-//! Words, strings, quoted strings and character literals.
+//! The lengths of words, strings, quoted strings and character literals.
 ghost use Rattle.std.specs.Prelude.{◌≡◌, ◌+◌, ◌<◌, ◌≤◌, ◌==◌, ◌&&◌, false, not, length, drop, IfSome, IsTrue};
 ghost use Rattle.std.specs.Option.{unwrap_or};
 ghost use Rattle.mh_lex_bytes.specs.Bytes.{byte_at, is_decimal, is_octal, is_hexadecimal, is_id_byte, is_escape};
-ghost use Rattle.mh_lex.specs.Spellings.{word_rest, string_rest, id_rest, quoted_opening, closes_quoted, quoted_rest, escaped, literal};
+ghost use Rattle.mh_lex.specs.LexemeLengths.{word_rest, string_rest, id_rest, quoted_opening, closes_quoted, quoted_rest, escaped, literal};
 
 use mh_lex_bytes::{continues_word, has_byte};
 
@@ -12,7 +12,7 @@ fn continues_id(byte: u8) -> bool
     byte.is_ascii_lowercase() || byte == b'_'
 }
 
-/// How many bytes of a word are left.
+/// The length of the longest prefix of word bytes.
 pub(crate) fn word_length(rest: &[u8]) -> usize
     ensures value { result ≡ word_rest rest.now }
     ensures within { result ≤ length rest.now }
@@ -27,15 +27,15 @@ pub(crate) fn word_length(rest: &[u8]) -> usize
     length
 }
 
-/// Whether this is the wanted byte, and no backslash before it escapes it.
+/// Returns whether this is the wanted byte, without a backslash that escapes it.
 fn is_unescaped(escaped: bool, byte: u8, wanted: u8) -> bool
     ensures { result ≡ (not escaped && byte == wanted) }
 {
     !escaped && byte == wanted
 }
 
-/// How many bytes there are up to and with a string's closing quote.
-#[tactic(auto, using(crate::proofs::Sums::plus_more))]
+/// The number of bytes up to and including a string's closing quote; `None` if there is none.
+#[tactic(auto, using(crate::proofs::OptionalLength::plus_more))]
 pub(crate) fn string_length(rest: &[u8]) -> Option<usize>
     ensures value { result ≡ string_rest false rest.now }
     ensures within { IfSome result (λ n. n ≤ length rest.now) }
@@ -50,7 +50,7 @@ pub(crate) fn string_length(rest: &[u8]) -> Option<usize>
     None
 }
 
-/// How many bytes of a quoted string's id are left.
+/// The length of the longest prefix of bytes of a quoted string's identifier.
 fn id_length(rest: &[u8]) -> usize
     ensures value { result ≡ id_rest rest.now }
     ensures within { result ≤ length rest.now }
@@ -65,8 +65,8 @@ fn id_length(rest: &[u8]) -> usize
     length
 }
 
-/// The length of a quoted string's opening, None where none stands here.
-#[tactic(auto, unfolding(crate::specs::Spellings::quoted_opening))]
+/// The length of a quoted string's opening; `None` if the bytes do not begin with one.
+#[tactic(auto, unfolding(crate::specs::LexemeLengths::quoted_opening))]
 pub(crate) fn quoted_opening_length(rest: &[u8]) -> Option<usize>
     ensures value { unwrap_or result 0 ≡ quoted_opening rest.now }
     ensures within { IfSome result (λ n. (2 ≤ n) × (n ≤ length rest.now)) }
@@ -82,8 +82,8 @@ pub(crate) fn quoted_opening_length(rest: &[u8]) -> Option<usize>
     }
 }
 
-/// Whether this id and a brace follow.
-#[tactic(auto, unfolding(crate::specs::Spellings::closes_quoted))]
+/// Returns whether the bytes begin with this identifier and a brace.
+#[tactic(auto, unfolding(crate::specs::LexemeLengths::closes_quoted))]
 fn closes_quoted_string(id: &[u8], rest: &[u8]) -> bool
     ensures value { result ≡ closes_quoted id.now rest.now }
     ensures within { IsTrue result → length id.now < length rest.now }
@@ -91,7 +91,7 @@ fn closes_quoted_string(id: &[u8], rest: &[u8]) -> bool
     rest.starts_with(id) && has_byte(rest, id.len(), b'}')
 }
 
-/// Whether a bar, this id and a brace stand at a place.
+/// Returns whether a bar, this identifier and a brace are at a position.
 fn closes_at(id: &[u8], rest: &[u8], place: usize) -> bool
     requires { place < length rest.now }
     ensures value { result ≡ (byte_at rest.now place == 124 && closes_quoted id.now (drop (place + 1) rest.now)) }
@@ -100,8 +100,8 @@ fn closes_at(id: &[u8], rest: &[u8], place: usize) -> bool
     rest[place] == b'|' && closes_quoted_string(id, &rest[place + 1..])
 }
 
-/// How many bytes there are up to and with what closes a quoted string of this id.
-#[tactic(auto, using(crate::proofs::Sums::plus_more))]
+/// The number of bytes up to and including the end of a quoted string with this identifier; `None` if it has no end.
+#[tactic(auto, using(crate::proofs::OptionalLength::plus_more))]
 pub(crate) fn quoted_length(id: &[u8], rest: &[u8]) -> Option<usize>
     ensures value { result ≡ quoted_rest id.now rest.now }
     ensures within { IfSome result (λ n. n ≤ length rest.now) }
@@ -141,7 +141,7 @@ fn has_hexadecimal(rest: &[u8], place: usize) -> bool
     }
 }
 
-/// Whether what may stand behind the backslash of a character stands at a place.
+/// Returns whether the byte at a position may follow the backslash of a character.
 fn has_escape(rest: &[u8], place: usize) -> bool
     ensures value { result ≡ is_escape (byte_at rest.now place) }
 {
@@ -160,8 +160,8 @@ fn has_escape(rest: &[u8], place: usize) -> bool
     }
 }
 
-/// The length of a character literal with a backslash, None where none stands here.
-#[tactic(auto, unfolding(crate::specs::Spellings::escaped))]
+/// The length of a character literal with a backslash; `None` if the bytes do not begin with one.
+#[tactic(auto, unfolding(crate::specs::LexemeLengths::escaped))]
 fn escaped_length(rest: &[u8]) -> Option<usize>
     ensures value { unwrap_or result 0 ≡ escaped rest.now }
     ensures within { IfSome result (λ n. (0 < n) × (n ≤ length rest.now)) }
@@ -192,8 +192,8 @@ fn escaped_length(rest: &[u8]) -> Option<usize>
     }
 }
 
-/// The length of a character literal, None where none stands here.
-#[tactic(auto, unfolding(crate::specs::Spellings::literal))]
+/// The length of a character literal; `None` if the bytes do not begin with one.
+#[tactic(auto, unfolding(crate::specs::LexemeLengths::literal))]
 pub(crate) fn literal_length(rest: &[u8]) -> Option<usize>
     ensures value { unwrap_or result 0 ≡ literal rest.now }
     ensures within { IfSome result (λ n. (0 < n) × (n ≤ length rest.now)) }

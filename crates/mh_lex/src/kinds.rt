@@ -1,35 +1,35 @@
-//! Lexemes and their kinds, why bytes are not read, and what the steps of lexing find.
+//! Lexemes and their kinds, syntax faults, and the results of the steps of lexing.
 ghost use Rattle.std.specs.Prelude.{◌≡◌};
 ghost use Rattle.mh_lex.specs.declared.kinds.SyntaxFault.TheVariants.{Memory};
 
-use crate::code::Ends;
+use crate::code::Delimiter;
 use std::alloc::AllocError;
 use thiserror::Error;
 
-/// A row of the table of lexemes.
+/// The kind of a lexeme.
 #[derive(Clone, Copy, Drop, PartialEq, Eq)]
 pub enum Kind {
-    /// An ASCII letter or `_`, then letters, digits, `_` and `'`.
+    /// A word: an ASCII letter or `_`, then letters, digits, `_` and `'`.
     Word,
-    /// One of `:` `|` `=` `,` `;` `(` `)` `?` `*` `+`.
+    /// A punctuation mark: one of `:` `|` `=` `,` `;` `(` `)` `?` `*` `+`.
     Mark,
     /// `%%`.
     Percents,
-    /// `%` and one of the words that it may stand before.
+    /// A keyword: `%` and one of the words that may follow it.
     Keyword,
-    /// A string between `"`, in which `\` takes the next byte with it.
+    /// A string between `"`, in which `\` escapes the next byte.
     Quoted,
-    /// `%{` to `%}`.
+    /// A header: from `%{` to `%}`.
     Header,
-    /// `{` to the `}` that closes it.
+    /// An action: from `{` to the `}` that closes it.
     Action,
-    /// `<` to the first `>` that is not the end of `->`.
+    /// A type: from `<` to the first `>` that is not the end of `->`.
     TypeText,
-    /// `[@` or `%[@` to the `]` that closes it.
+    /// An attribute: from `[@` or `%[@` to the `]` that closes it.
     Attribute,
 }
 
-/// A lexeme, and the places of its first byte and behind its last one.
+/// A lexeme: its kind, the position of its first byte, and the position after its last byte.
 #[derive(Clone, Copy, Drop, PartialEq, Eq)]
 pub struct Lexeme {
     pub kind: Kind,
@@ -37,13 +37,13 @@ pub struct Lexeme {
     pub end: usize,
 }
 
-/// Why bytes are not read.
+/// Why bytes could not be read.
 #[derive(Clone, Copy, Debug, Drop, PartialEq, Eq, Error)]
 pub enum SyntaxFault {
-    /// They have another form. The line counts from 1. Each call says which line it is.
+    /// The bytes have a syntax error. Lines are counted from 1; each call documents which line it reports.
     #[error("{line}: syntax error")]
     Syntax { line: u32 },
-    /// Memory ran out.
+    /// There was no memory.
     #[error("out of memory")]
     Memory,
 }
@@ -56,22 +56,23 @@ impl From<AllocError> for SyntaxFault {
     }
 }
 
-/// What stands at the front outside of code, with its length. What has no kind is dropped.
+/// The piece with which bytes outside of code begin, and its length. A start without a kind is a blank or a comment,
+/// which is dropped.
 #[derive(Clone, Copy, Drop)]
-pub(crate) enum Front {
+pub(crate) enum LexemeStart {
     /// No byte is left.
     Ended,
-    /// What is whole.
+    /// A whole lexeme, blank or line comment.
     Short(Option<Kind>, usize),
-    /// The opening of what has to be closed.
-    Long(Option<Kind>, Ends, usize),
-    /// Nothing begins so.
+    /// An opening of something that has to be closed.
+    Long(Option<Kind>, Delimiter, usize),
+    /// A lexical fault: nothing begins with these bytes.
     Fault,
 }
 
-/// What was taken, and where it ends.
+/// The result of a scan at a position: the kind of the piece found there, and the position after it.
 #[derive(Clone, Copy, Drop)]
-pub(crate) enum Taking {
+pub(crate) enum Scan {
     Ended,
     Piece(Option<Kind>, usize),
     Fault,

@@ -2,10 +2,10 @@
 #![tactic(auto)]
 
 mod code;
-mod fronts;
 mod items;
 mod kinds;
 mod laws;
+mod lexeme_starts;
 mod scanning;
 
 pub use kinds::{Kind, Lexeme, SyntaxFault};

@@ -1,19 +1,20 @@
-//! The lexemes of a file.
+//! The loop that finds the lexemes of a file.
 ghost use Rattle.std.specs.Prelude.{◌≡◌, ℕ, List, ◌-◌, ◌<◌, ◌≤◌, ◌^◌, length, drop, IfSome, IfNone, IfOk, OnOk, Option, None, ◌++◌};
 ghost use Rattle.std.specs.List.{All};
 ghost use Rattle.mh_lex.specs.declared.kinds.Lexeme.{Lexeme};
 ghost use Rattle.mh_lex.specs.Bodies.{Body};
-ghost use Rattle.mh_lex.specs.Lexing.{Lexes, Rises, IsWithin, left_after, piece, Refuses};
-ghost use Rattle.mh_lex.specs.code.Finding.{Finds};
+ghost use Rattle.mh_lex.specs.Lexing.{Lexes, AreLexemesInOrder, IsLexemeWithin, percents_left, lexeme_between, ReportsLexicalLine};
+ghost use Rattle.mh_lex.specs.code.Scans.{IsScan};
 
-use crate::code::{Ends, code_length};
-use crate::fronts::front_from;
-use crate::kinds::{Front, Kind, Lexeme, SyntaxFault, Taking};
+use crate::code::{Delimiter, code_length};
+use crate::kinds::{Kind, Lexeme, LexemeStart, Scan, SyntaxFault};
+use crate::lexeme_starts::front_from;
 use mh_lex_bytes::line_of;
 use std::alloc::{AllocError, Global};
 
-/// How many bytes there are from a place up to what closes the code.
-fn code_from(code: Ends, bytes: &[u8], at: usize) -> Option<usize>
+/// The number of bytes from a position up to and including the closing delimiter of the code; `None` if it is not
+/// closed.
+fn code_from(code: Delimiter, bytes: &[u8], at: usize) -> Option<usize>
     requires { at ≤ length bytes.now }
     ensures some { IfSome result
         (λ n. (n ≤ length bytes.now - at) × Body code (drop at bytes.now) (drop n (drop at bytes.now))) }
@@ -22,32 +23,32 @@ fn code_from(code: Ends, bytes: &[u8], at: usize) -> Option<usize>
     code_length(code, &bytes[at..])
 }
 
-/// What is taken at a place.
-fn taken_at(bytes: &[u8], at: usize) -> Taking
+/// Scans the lexeme, comment or blank at a position.
+fn taken_at(bytes: &[u8], at: usize) -> Scan
     requires { at ≤ length bytes.now }
-    ensures { Finds bytes.now at result }
+    ensures { IsScan bytes.now at result }
 {
     match front_from(bytes, at) {
-        Front::Ended => Taking::Ended,
-        Front::Short(what, length) => Taking::Piece(what, at + length),
-        Front::Long(what, code, opening) => {
+        LexemeStart::Ended => Scan::Ended,
+        LexemeStart::Short(what, length) => Scan::Piece(what, at + length),
+        LexemeStart::Long(what, code, opening) => {
             match code_from(code, bytes, at + opening) {
-                Some(length) => Taking::Piece(what, at + opening + length),
-                None => Taking::Fault,
+                Some(length) => Scan::Piece(what, at + opening + length),
+                None => Scan::Fault,
             }
         }
-        Front::Fault => Taking::Fault,
+        LexemeStart::Fault => Scan::Fault,
     }
 }
 
-/// Adds what has a kind.
+/// Adds a lexeme; a blank or comment, which has no kind, is dropped.
 fn add(
     lexemes: &mut Vec<Lexeme>,
     what: Option<Kind>,
     start: usize,
     end: usize,
 ) -> Result<(), AllocError>
-    ensures { OnOk result (lexemes.new.items ≡ lexemes.old.items ++ piece what start end) }
+    ensures { OnOk result (lexemes.new.items ≡ lexemes.old.items ++ lexeme_between what start end) }
 {
     if let Some(kind) = what {
         lexemes.push(Lexeme { kind, start, end })?;
@@ -55,30 +56,34 @@ fn add(
     Ok(())
 }
 
-/// The lexemes of a grammar file in order, each with its place; blanks, comments and what stands behind the second `%%`
-/// are dropped. Answers `Syntax` with the line on which the first begins that is no lexeme or comment or is not closed
-/// (this project's profile of the Menhir manual's lexical conventions), and `Memory` only where memory runs out.
+/// Returns the lexemes of a grammar file in order, each with its positions. Blanks, comments and all bytes after the
+/// second `%%` are dropped.
+///
+/// # Errors
+///
+/// `Syntax` with the line, from 1, on which the first text begins that is not a lexeme or comment, or is not closed
+/// (Menhir manual, lexical conventions; the choice is a rule of this project). `Memory` if memory ran out.
 pub fn lex(alloc: Global, bytes: &[u8]) -> Result<Vec<Lexeme>, SyntaxFault>
     requires { length bytes.now < 2 ^ 31 }
     ensures lexemes { IfOk result (λ v. Lexes bytes.now v.items None) }
-    ensures spans { IfOk result (λ v. Rises 0 (length bytes.now) v.items) }
-    ensures within { IfOk result (λ v. All (IsWithin (length bytes.now)) v.items) }
-    ensures fault { Refuses bytes.now result }
+    ensures spans { IfOk result (λ v. AreLexemesInOrder 0 (length bytes.now) v.items) }
+    ensures within { IfOk result (λ v. All (IsLexemeWithin (length bytes.now)) v.items) }
+    ensures fault { ReportsLexicalLine bytes.now result }
 {
     let mut lexemes = Vec::new(alloc);
     let mut at = 0usize;
     let mut left = 2usize;
     while left > 0 {
         match taken_at(bytes, at) {
-            Taking::Ended => return Ok(lexemes),
-            Taking::Piece(what, end) => {
+            Scan::Ended => return Ok(lexemes),
+            Scan::Piece(what, end) => {
                 let Ok(()) = add(&mut lexemes, what, at, end) else {
                     return Err(SyntaxFault::Memory);
                 };
                 left = still_left(what, left);
                 at = end;
             }
-            Taking::Fault => return Err(SyntaxFault::Syntax {
+            Scan::Fault => return Err(SyntaxFault::Syntax {
                 line: line_of(bytes, at),
             }),
         }
@@ -86,10 +91,10 @@ pub fn lex(alloc: Global, bytes: &[u8]) -> Result<Vec<Lexeme>, SyntaxFault>
     Ok(lexemes)
 }
 
-/// How many of the two `%%` are still to come.
+/// The number of `%%` that are still to come, of two.
 fn still_left(what: Option<Kind>, left: usize) -> usize
     requires { 0 < left }
-    ensures value { result ≡ left_after what (left - 1) }
+    ensures value { result ≡ percents_left what (left - 1) }
     ensures within { result ≤ left }
 {
     match what {

@@ -1,2 +1,2 @@
-pub mod Rows
-pub mod Tests
+pub mod KeywordRows
+pub mod ByteTests

@@ -1,7 +1,7 @@
--- The line of a place.
+-- The line of a position.
 use Rattle.std.specs.Prelude.{ℕ, ◌+◌, ◌==◌, List, take}
 use Rattle.std.specs.List.{count_by}
 
--- the line of a place, from 1 on
+-- The number, from 1, of the line of a position: one more than the number of line feeds before it.
 abbrev pub line_at : List ℕ → ℕ → ℕ
 line_at bytes place = 1 + count_by (λ b. b == 10) (take place bytes)

@@ -1,8 +1,8 @@
-//! The classes of bytes, and which byte is at a place.
+//! The classes of bytes, and tests of the byte at a position.
 ghost use Rattle.std.specs.Prelude.{◌≡◌, ◌<◌, ◌≤◌, length, IsTrue};
 ghost use Rattle.mh_lex_bytes.specs.Bytes.{has, begins_arrow, is_blank, is_word_start, is_word_byte};
 
-/// Whether this byte is at a place.
+/// Returns whether the byte at a position is this one.
 pub fn has_byte(rest: &[u8], place: usize, byte: u8) -> bool
     ensures value { result ≡ has rest.now place byte }
     ensures within { IsTrue result → place < length rest.now }
@@ -13,7 +13,7 @@ pub fn has_byte(rest: &[u8], place: usize, byte: u8) -> bool
     }
 }
 
-/// Whether an arrow begins here.
+/// Returns whether the bytes begin with an arrow, `->`.
 pub fn starts_arrow(rest: &[u8]) -> bool
     ensures value { result ≡ begins_arrow rest.now }
     ensures within { IsTrue result → 2 ≤ length rest.now }
@@ -21,21 +21,21 @@ pub fn starts_arrow(rest: &[u8]) -> bool
     has_byte(rest, 0, b'-') && has_byte(rest, 1, b'>')
 }
 
-/// Whether a byte is a space, a tab, a line feed, a carriage return or a form feed.
+/// Returns whether a byte is a space, a tab, a line feed, a carriage return or a form feed.
 pub fn is_blank_byte(byte: u8) -> bool
     ensures { result ≡ is_blank byte }
 {
     byte == b' ' || byte == b'\t' || byte == b'\n' || byte == b'\r' || byte == b'\x0c'
 }
 
-/// Whether a word may begin with this byte: a letter or `_`.
+/// Returns whether a word may begin with this byte: a letter or `_`.
 pub fn starts_word(byte: u8) -> bool
     ensures { result ≡ is_word_start byte }
 {
     byte.is_ascii_alphabetic() || byte == b'_'
 }
 
-/// Whether a word may go on with this byte: a letter, a digit, `_` or `'`.
+/// Returns whether this byte may follow in a word: a letter, a digit, `_` or `'`.
 pub fn continues_word(byte: u8) -> bool
     ensures { result ≡ is_word_byte byte }
 {

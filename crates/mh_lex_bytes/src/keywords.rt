@@ -1,8 +1,8 @@
-//! The words behind a percent sign, a row for each. Definitions read the same rows as the code.
+//! The words that may follow a percent sign, with a row for each. The definitions read the same rows as the code.
 ghost use Rattle.std.specs.Prelude.{◌≡◌};
-ghost use Rattle.mh_lex_bytes.specs.Keywords.{keywords as all_rows, keyword_among, keyword_named, plain_rows};
+ghost use Rattle.mh_lex_bytes.specs.Keywords.{keywords as all_rows, keyword_among, keyword_named, text_rows};
 
-/// What begins with a percent sign and a word.
+/// A keyword: a percent sign and a word.
 #[derive(Clone, Copy)]
 pub enum Keyword {
     Token,
@@ -19,72 +19,72 @@ pub enum Keyword {
     Prec,
 }
 
-/// A keyword and its word. The word is a `&str`, by a parameter: a constant of other rows is none that a definition can name.
-pub struct Row<T> {
+/// A keyword and its word. The word's type is a parameter so that definitions can name the constant `KEYWORDS`.
+pub struct KeywordRow<T> {
     pub word: T,
     pub keyword: Keyword,
 }
 
-const KEYWORDS: [Row<&str>; 12] = [
-    Row {
+const KEYWORDS: [KeywordRow<&str>; 12] = [
+    KeywordRow {
         word: "token",
         keyword: Keyword::Token,
     },
-    Row {
+    KeywordRow {
         word: "start",
         keyword: Keyword::Start,
     },
-    Row {
+    KeywordRow {
         word: "type",
         keyword: Keyword::Type,
     },
-    Row {
+    KeywordRow {
         word: "left",
         keyword: Keyword::Left,
     },
-    Row {
+    KeywordRow {
         word: "right",
         keyword: Keyword::Right,
     },
-    Row {
+    KeywordRow {
         word: "nonassoc",
         keyword: Keyword::Nonassoc,
     },
-    Row {
+    KeywordRow {
         word: "on_error_reduce",
         keyword: Keyword::OnErrorReduce,
     },
-    Row {
+    KeywordRow {
         word: "parameter",
         keyword: Keyword::Parameter,
     },
-    Row {
+    KeywordRow {
         word: "attribute",
         keyword: Keyword::Attribute,
     },
-    Row {
+    KeywordRow {
         word: "public",
         keyword: Keyword::Public,
     },
-    Row {
+    KeywordRow {
         word: "inline",
         keyword: Keyword::Inline,
     },
-    Row {
+    KeywordRow {
         word: "prec",
         keyword: Keyword::Prec,
     },
 ];
 
-fn keywords<'a>() -> &'a [Row<&'a str>]
-    ensures { plain_rows result.now (λ word. word.now) ≡ all_rows }
+fn keywords<'a>() -> &'a [KeywordRow<&'a str>]
+    ensures { text_rows result.now (λ word. word.now) ≡ all_rows }
 {
     KEYWORDS.as_slice()
 }
 
-/// The keyword of this word among some rows.
-fn find_keyword(rows: &[Row<&str>], word: &[u8]) -> Option<Keyword>
-    ensures { result ≡ keyword_among (plain_rows rows.now (λ text. text.now)) word.now }
+/// Finds the keyword of a word by some rows.
+fn find_keyword(rows: &[KeywordRow<&str>], word: &[u8]) -> Option<Keyword>
+    ensures { result ≡ keyword_among (text_rows rows.now (λ text. text.now)) word.now }
 {
     for row in rows {
         if word == row.word.as_bytes() {
@@ -94,7 +94,7 @@ fn find_keyword(rows: &[Row<&str>], word: &[u8]) -> Option<Keyword>
     None
 }
 
-/// The keyword of this word, where it may stand behind a percent sign.
+/// Returns the keyword of a word, if the word may follow a percent sign.
 pub fn keyword_of(word: &[u8]) -> Option<Keyword>
     ensures { result ≡ keyword_named word.now }
 {

@@ -1,9 +1,9 @@
-//! The line of a place.
+//! The line of a position.
 ghost use Rattle.std.specs.Prelude.{◌≡◌, ◌<◌, ◌≤◌, ◌^◌, ◌==◌, length};
 ghost use Rattle.std.specs.List.{count_by};
 ghost use Rattle.mh_lex_bytes.specs.Lines.{line_at};
 
-/// How many line feeds there are.
+/// Counts the line feeds.
 fn count_line_feeds(bytes: &[u8]) -> u32
     requires { length bytes.now < 2 ^ 31 }
     ensures value { result ≡ count_by (λ b. b == 10) bytes.now }
@@ -18,7 +18,7 @@ fn count_line_feeds(bytes: &[u8]) -> u32
     count
 }
 
-/// The line of a place, from 1 on: one more than the line feeds before it.
+/// Returns the number, from 1, of the line of a position: one more than the number of line feeds before it.
 pub fn line_of(bytes: &[u8], place: usize) -> u32
     requires within { place ≤ length bytes.now }
     requires short { length bytes.now < 2 ^ 31 }

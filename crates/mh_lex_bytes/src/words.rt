@@ -1,4 +1,4 @@
-//! Words, as in grammar files and in the lines of sentences.
+//! Words of grammar files and of sentence lines.
 ghost use Rattle.std.specs.Prelude.{◌≡◌};
 ghost use Rattle.std.specs.List.{list_all};
 ghost use Rattle.mh_lex_bytes.specs.Bytes.{is_word_byte};
@@ -12,7 +12,7 @@ fn all_continue(bytes: &[u8]) -> bool
     bytes.iter().all(|byte| continues_word(*byte))
 }
 
-/// Whether these bytes are a word: a letter or `_`, and then letters, digits, `_` and `'`.
+/// Returns whether the bytes are a word: a letter or `_`, followed by letters, digits, `_` and `'`.
 pub fn is_word(bytes: &[u8]) -> bool
     ensures { result ≡ is_word_text bytes.now }
 {

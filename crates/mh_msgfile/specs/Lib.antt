@@ -1,7 +1,7 @@
 pub mod Lines
-pub mod Starts
+pub mod StartNames
 pub mod Sentences
 pub mod Messages
-pub mod Printed
-pub mod Spaced
+pub mod FileTexts
+pub mod FreeSpacing
 pub mod code

@@ -1,16 +1,16 @@
-//! The numbers that the names of a grammar's starts and tokens stand for.
+//! The numbers of a grammar's starts and tokens by name.
 ghost use Rattle.std.specs.Prelude.{◌≡◌, ◌≤◌, [], length, map, IfOk, OnOk};
 ghost use Rattle.mh_grammar.specs.Plain.{plain_of, IsInRange};
 ghost use Rattle.mh_grammar.specs.declared.types.TheConstants.{MAX_NUMBERED};
-ghost use Rattle.mh_msgfile.specs.code.LineSteps.{AreNumbers, PutsName};
+ghost use Rattle.mh_msgfile.specs.code.LineSteps.{AreNumbers, InsertsName};
 ghost use Rattle.mh_msgfile.specs.Sentences.{start_names, only_one, vocabulary_of, vocabulary_in};
 
 use mh_grammar::{Grammar, Memory, Token, TokenInfo};
 use std::alloc::Global;
 use std::collections::HashMap;
 
-/// The numbers of a grammar's starts and tokens by their names, made once for all of its lines. A start has the name of its
-/// nonterminal, and its number is its place among the starts. Of two with one name the first counts.
+/// The numbers of a grammar's starts and tokens by name, made once for many lines. A start has the name of its
+/// nonterminal; its number is its index among the starts. If two have the same name, the first is used.
 #[derive(Drop)]
 pub struct Lexicon {
     starts: HashMap<Vec<u8>, u16>,
@@ -18,14 +18,14 @@ pub struct Lexicon {
     tokens: HashMap<Vec<u8>, Token>,
 }
 
-/// Puts in a name with its number, where it has none yet.
+/// Inserts a name with its number, if the name has no number yet.
 fn put_name(
     alloc: Global,
     numbers: &mut HashMap<Vec<u8>, u16>,
     name: &[u8],
     number: u16,
 ) -> Result<(), Memory>
-    ensures { OnOk result (PutsName name.now number numbers.old.entries numbers.new.entries) }
+    ensures { OnOk result (InsertsName name.now number numbers.old.entries numbers.new.entries) }
 {
     if numbers.get(name).is_some() {
         return Ok(());
@@ -35,7 +35,7 @@ fn put_name(
     Ok(())
 }
 
-/// Puts in the numbers of tokens. Of two with one name the first counts.
+/// Inserts the names of the tokens. If two have the same name, the first is used.
 fn number_tokens(
     alloc: Global,
     numbers: &mut HashMap<Vec<u8>, Token>,
@@ -51,7 +51,7 @@ fn number_tokens(
     Ok(())
 }
 
-/// Puts in the numbers of the starts. Of two with one name the first counts.
+/// Inserts the names of the starts. If two have the same name, the first is used.
 fn number_starts(
     alloc: Global,
     numbers: &mut HashMap<Vec<u8>, u16>,
@@ -68,7 +68,7 @@ fn number_starts(
     Ok(())
 }
 
-/// The number of a grammar's only start, where it has just one.
+/// The number of the only start, if the grammar has exactly one.
 fn only_start(grammar: &Grammar) -> Option<u16>
     ensures { result ≡ only_one (start_names grammar.now) }
 {
@@ -80,7 +80,7 @@ fn only_start(grammar: &Grammar) -> Option<u16>
 }
 
 impl Lexicon {
-    /// The numbers of this grammar's starts and tokens. `Memory` only where there was none.
+    /// Collects the names of a grammar's starts and tokens. Fails only if memory runs out.
     pub fn new(alloc: Global, grammar: &Grammar) -> Result<Lexicon, Memory>
         requires { IsInRange (plain_of grammar.now) }
         ensures { IfOk result (λ lexicon. vocabulary_in lexicon ≡ vocabulary_of grammar.now) }
@@ -99,7 +99,7 @@ impl Lexicon {
         }
     }
 
-    /// Puts in the names of this grammar's starts and tokens.
+    /// Inserts the names of the starts and the tokens.
     fn number(&mut self, alloc: Global, grammar: &Grammar) -> Result<(), Memory>
         requires range { IsInRange (plain_of grammar.now) }
         requires starts { self.old.starts.entries ≡ [] }
@@ -111,21 +111,21 @@ impl Lexicon {
         number_tokens(alloc, &mut self.tokens, grammar.tokens.as_slice())
     }
 
-    /// The number of the start of this name.
+    /// The number of the start with this name, from 0.
     pub fn start(&self, name: &[u8]) -> Option<u16>
         ensures { result ≡ (vocabulary_in self.now).start_named name.now }
     {
         self.starts.get(name).copied()
     }
 
-    /// The number of the only start.
+    /// The number of the only start, if the grammar has exactly one.
     pub fn only_start(&self) -> Option<u16>
         ensures { result ≡ (vocabulary_in self.now).only_start }
     {
         self.only_start
     }
 
-    /// The token of this name.
+    /// The token with this name.
     pub fn token(&self, name: &[u8]) -> Option<Token>
         ensures { result ≡ (vocabulary_in self.now).token_named name.now }
     {

@@ -1,4 +1,4 @@
-//! Sentence lines, as input lines and messages files have them, and messages files: read by the names of a grammar, and
+//! Sentence lines, as in the input and in messages files, and messages files: read with the names of a grammar, and
 //! written.
 #![tactic(auto)]
 

@@ -1,13 +1,13 @@
-//! Lines: where each ends, which are taken out, and which are blank.
+//! The lines of a file: their ends, the lines that are ignored, and the blank lines.
 ghost use Rattle.std.specs.Prelude.{◌≡◌, ◌≤◌, [], length, OnOk};
 ghost use Rattle.std.specs.List.{list_all};
-ghost use Rattle.mh_msgfile.specs.Lines.{AreLines, line_at as line_text, is_taken_out as has_number_sign, is_kept as is_kept_number, is_blank as is_separator, is_blank_line as is_blank_number};
+ghost use Rattle.mh_msgfile.specs.Lines.{AreLines, line_at as line_text, is_ignored_line as has_number_sign, is_kept as is_kept_number, is_blank as is_separator, is_blank_line as is_blank_number};
 
 use bstr::ByteSlice;
 use mh_grammar::{Memory, Name, Sequence, from_bytes};
 use std::alloc::Global;
 
-/// Puts in the lines of a file, without the LF or CR LF that ends them. Fails for want of memory alone.
+/// Appends the lines of a file, without the LF or CR LF that ends each. Fails only if memory runs out.
 pub(crate) fn put_lines(
     alloc: Global,
     lines: &mut Sequence<Name>,
@@ -23,7 +23,7 @@ pub(crate) fn put_lines(
     Ok(())
 }
 
-/// The line of a number; lines are counted from 1.
+/// The line of a number, from 1; empty if there is none.
 pub(crate) fn line_at(lines: &[Name], number: u32) -> &[u8]
     ensures { result.now ≡ line_text lines.now number }
 {
@@ -33,8 +33,8 @@ pub(crate) fn line_at(lines: &[Name], number: u32) -> &[u8]
     }
 }
 
-/// Whether the first byte is `#`.
-fn is_taken_out(line: &[u8]) -> bool
+/// True if the first byte is `#`; such a line is ignored.
+fn is_ignored_line(line: &[u8]) -> bool
     ensures { result ≡ has_number_sign line.now }
 {
     match line.first() {
@@ -43,28 +43,28 @@ fn is_taken_out(line: &[u8]) -> bool
     }
 }
 
-/// Whether the line of this number is not taken out.
+/// True if the line of this number is not ignored.
 pub(crate) fn is_kept(lines: &[Name], number: u32) -> bool
     ensures { result ≡ is_kept_number lines.now number }
 {
-    !is_taken_out(line_at(lines, number))
+    !is_ignored_line(line_at(lines, number))
 }
 
-/// Whether a byte is a space, a tab or a CR.
+/// True if the byte is a space, a tab or a CR.
 pub(crate) fn is_blank(byte: u8) -> bool
     ensures { result ≡ is_separator byte }
 {
     byte == b' ' || byte == b'\t' || byte == b'\r'
 }
 
-/// Whether nothing but blanks stands in a line.
+/// True if the line has no bytes but blanks.
 fn is_blank_text(line: &[u8]) -> bool
     ensures { result ≡ list_all is_separator line.now }
 {
     line.iter().all(|byte| is_blank(*byte))
 }
 
-/// Whether nothing but blanks stands in the line of this number.
+/// True if the line of this number has no bytes but blanks.
 pub(crate) fn is_blank_line(lines: &[Name], number: u32) -> bool
     ensures { result ≡ is_blank_number lines.now number }
 {

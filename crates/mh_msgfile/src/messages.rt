@@ -1,11 +1,11 @@
-//! Messages files: blocks of sentence lines, and behind each the block that is its message.
+//! Messages files: blocks of sentence lines, each followed by a block that is its message.
 ghost use Rattle.std.specs.Prelude.{◌≡◌, ◌<◌, ◌≤◌, ◌^◌, ◌∷◌, ◌++◌, [], length, filter, Err, IfOk, OnOk};
 ghost use Rattle.mh_grammar.specs.Plain.{plain_of, IsInRange};
 ghost use Rattle.mh_grammar.specs.declared.types.Grammar.{Grammar as Grammar'};
 ghost use Rattle.mh_msgfile.specs.code.LineSteps.{blank_count, piece_size};
-ghost use Rattle.mh_msgfile.specs.Sentences.{vocabulary_in, vocabulary_of, LineFound, FirstPiece, runs, ReadsSentence};
-ghost use Rattle.mh_msgfile.specs.code.FileSteps.{ReadsBlock, ReadsEntries, given, ReadsEntry, TellsLast, TellsLine};
-ghost use Rattle.mh_msgfile.specs.Messages.{is_kept as is_kept_number, kept_lines as kept, is_blank_line as is_blank_number, blocks, first_number, message_of as message_text, AreOf, ReadsMessages};
+ghost use Rattle.mh_msgfile.specs.Sentences.{vocabulary_in, vocabulary_of, LineResult, FirstPiece, runs, ReadsSentence};
+ghost use Rattle.mh_msgfile.specs.code.FileSteps.{ReadsBlock, ReadsEntries, with_value, ReadsEntry, IsFaultOfLastBlock, IsFaultOfLine};
+ghost use Rattle.mh_msgfile.specs.Messages.{is_kept as is_kept_number, kept_lines as kept, is_blank_line as is_blank_number, blocks, first_number, message_of as message_text, AreSentencesOf, ReadsMessages};
 
 use crate::lexicon::Lexicon;
 use crate::lines::{is_blank_line, is_kept, line_at, put_lines};
@@ -16,45 +16,45 @@ use std::alloc::{AllocError, AllocFailed, Global};
 /// A sentence of a messages file.
 #[derive(Drop)]
 pub struct MsgSentence {
-    /// The number of its line; lines are counted from 1.
+    /// The number of its line, from 1.
     pub line: u32,
-    /// The number of its start among the starts.
+    /// The number of its start, from 0.
     pub start: u16,
     pub tokens: Sequence<Token>,
 }
 
-/// Some sentences, and their message.
+/// An entry: sentences and their message.
 #[derive(Drop)]
 pub struct Entry {
     pub sentences: Sequence<MsgSentence>,
-    /// The bytes of the message: its lines, each with an LF behind it.
+    /// The bytes of the message: its lines, each followed by an LF.
     pub message: Sequence<u8>,
 }
 
-/// A messages file.
+/// The contents of a messages file.
 #[derive(Drop)]
 pub struct MsgFile {
-    /// All lines, without the LF or CR LF that ends them; also those that begin with `#`.
+    /// All lines, also those that begin with `#`, without the LF or CR LF that ends each.
     pub lines: Sequence<Name>,
     pub entries: Sequence<Entry>,
 }
 
-/// Why bytes are no messages file: the first fault in order of lines.
+/// The reason why bytes are no messages file: the first fault in order of lines. Lines are numbered from 1.
 #[derive(Drop)]
 pub enum MsgFault {
-    /// This line is no sentence line, or it begins a last block of sentences, which has no message.
+    /// This line is no sentence line, or it is the first line of a last block of sentences that has no message.
     Shape { line: u32 },
     /// No start symbol has the name before the colon.
     UnknownStart { line: u32, name: Name },
     /// The line names no start, and the grammar has none or several.
     MissingStart { line: u32 },
-    /// No token has this name, the first such of the line.
+    /// No token has this name, the first such name of the line.
     UnknownToken { line: u32, name: Name },
     /// Memory ran out.
     Memory,
 }
 
-/// Puts in the number of a line, if it is not taken out.
+/// Appends the number of a line, if the line is not ignored.
 fn put_kept(numbers: &mut Vec<u32>, lines: &[Name], number: u32) -> Result<(), Memory>
     ensures { OnOk result (numbers.new.items ≡ numbers.old.items ++ filter (is_kept_number lines.now) (number ∷ [])) }
 {
@@ -64,7 +64,7 @@ fn put_kept(numbers: &mut Vec<u32>, lines: &[Name], number: u32) -> Result<(), M
     Ok(())
 }
 
-/// The numbers of the lines that are not taken out.
+/// The numbers of the lines that are not ignored.
 fn kept_lines(alloc: Global, lines: &[Name]) -> Result<Vec<u32>, Memory>
     requires { length lines.now < 2 ^ 31 }
     ensures { IfOk result (λ numbers. numbers.items ≡ kept lines.now) }
@@ -76,7 +76,7 @@ fn kept_lines(alloc: Global, lines: &[Name]) -> Result<Vec<u32>, Memory>
     Ok(numbers)
 }
 
-/// How many lines in front are blank.
+/// The number of blank lines at the front.
 fn count_blank_lines(lines: &[Name], numbers: &[u32]) -> usize
     ensures value { result ≡ blank_count (is_blank_number lines.now) numbers.now }
     ensures within { result ≤ length numbers.now }
@@ -91,7 +91,7 @@ fn count_blank_lines(lines: &[Name], numbers: &[u32]) -> usize
     count
 }
 
-/// How many lines stand before the first blank one.
+/// The number of lines before the first blank line.
 fn size_of_block(lines: &[Name], numbers: &[u32]) -> usize
     ensures value { result ≡ piece_size (is_blank_number lines.now) numbers.now }
     ensures within { result ≤ length numbers.now }
@@ -106,7 +106,7 @@ fn size_of_block(lines: &[Name], numbers: &[u32]) -> usize
     count
 }
 
-/// The first block, with what stands behind it.
+/// The first block, with the lines after it.
 fn first_block<'a>(lines: &[Name], numbers: &'a [u32]) -> Option<(&'a [u32], &'a [u32])>
     ensures { FirstPiece (is_blank_number lines.now) numbers.now result }
 {
@@ -117,7 +117,7 @@ fn first_block<'a>(lines: &[Name], numbers: &'a [u32]) -> Option<(&'a [u32], &'a
     }
 }
 
-/// The message of a block.
+/// The message of a block: its lines, each followed by an LF.
 fn message_of(alloc: Global, lines: &[Name], block: &[u32]) -> Result<Sequence<u8>, Memory>
     ensures { IfOk result (λ message. message ≡ message_text lines.now block.now) }
 {
@@ -129,9 +129,9 @@ fn message_of(alloc: Global, lines: &[Name], block: &[u32]) -> Result<Sequence<u
     Ok(Sequence::from_vec(message))
 }
 
-/// The fault of a line that is no sentence.
+/// The fault of the file for a line that is no sentence.
 fn fault_of_line(line: u32, fault: SentenceFault) -> MsgFault
-    ensures { (found : LineFound) → ReadsSentence found (Err fault) → TellsLine line found result }
+    ensures { (found : LineResult) → ReadsSentence found (Err fault) → IsFaultOfLine line found result }
 {
     match fault {
         SentenceFault::Unreadable => MsgFault::Shape { line },
@@ -142,7 +142,7 @@ fn fault_of_line(line: u32, fault: SentenceFault) -> MsgFault
     }
 }
 
-/// Puts in the sentences of a block.
+/// Appends the sentences of a block.
 fn put_sentences(
     alloc: Global,
     lexicon: &Lexicon,
@@ -151,7 +151,7 @@ fn put_sentences(
     sentences: &mut Sequence<MsgSentence>,
 ) -> Result<(), MsgFault>
     requires { sentences.old ≡ [] }
-    ensures { ReadsBlock (vocabulary_in lexicon.now) lines.now block.now (given result sentences.new) }
+    ensures { ReadsBlock (vocabulary_in lexicon.now) lines.now block.now (with_value result sentences.new) }
 {
     for line in block {
         match lexicon.read(alloc, line_at(lines, *line)) {
@@ -171,7 +171,7 @@ fn put_sentences(
     Ok(())
 }
 
-/// The number of a block's first line.
+/// The number of the first line of a block.
 fn first_line(block: &[u32]) -> u32
     ensures { result ≡ first_number block.now }
 {
@@ -181,7 +181,7 @@ fn first_line(block: &[u32]) -> u32
     }
 }
 
-/// The entry of a block of sentences and of the block that is their message.
+/// Reads the entry of a block of sentences and the block that is their message.
 fn read_entry(
     alloc: Global,
     lexicon: &Lexicon,
@@ -201,10 +201,11 @@ fn read_entry(
     }
 }
 
-/// The fault of a last block of sentences, which has no message: that of its first line that is no sentence, or else its own.
-#[tactic(auto, using(crate::proofs::Turns::last_shape))]
+/// The fault of a last block of sentences that has no message: the fault of its first line that is no sentence, else
+/// the fault that the message is missing.
+#[tactic(auto, using(crate::proofs::ReadsEntries::last_shape))]
 fn fault_of_last(alloc: Global, lexicon: &Lexicon, lines: &[Name], block: &[u32]) -> MsgFault
-    ensures { TellsLast (vocabulary_in lexicon.now) lines.now block.now result }
+    ensures { IsFaultOfLastBlock (vocabulary_in lexicon.now) lines.now block.now result }
 {
     let mut sentences = Sequence::new(alloc);
     if let Err(fault) = put_sentences(alloc, lexicon, lines, block, &mut sentences) {
@@ -215,7 +216,7 @@ fn fault_of_last(alloc: Global, lexicon: &Lexicon, lines: &[Name], block: &[u32]
     }
 }
 
-/// Puts in the entries of the blocks of these lines.
+/// Appends the entries of the blocks of these lines.
 fn put_blocks(
     alloc: Global,
     lexicon: &Lexicon,
@@ -224,7 +225,7 @@ fn put_blocks(
     entries: &mut Sequence<Entry>,
 ) -> Result<(), MsgFault>
     requires { entries.old ≡ [] }
-    ensures { ReadsEntries (vocabulary_in lexicon.now) lines.now (runs (is_blank_number lines.now) numbers.now) (given result entries.new) }
+    ensures { ReadsEntries (vocabulary_in lexicon.now) lines.now (runs (is_blank_number lines.now) numbers.now) (with_value result entries.new) }
 {
     let mut rest = numbers;
     while let Some((block, behind)) = first_block(lines, rest) {
@@ -244,7 +245,7 @@ fn put_blocks(
     Ok(())
 }
 
-/// Puts in the entries of these lines.
+/// Appends the entries of a file with these lines.
 fn put_entries(
     alloc: Global,
     lexicon: &Lexicon,
@@ -253,7 +254,7 @@ fn put_entries(
 ) -> Result<(), MsgFault>
     requires few { length lines.now < 2 ^ 31 }
     requires none { entries.old ≡ [] }
-    ensures { ReadsEntries (vocabulary_in lexicon.now) lines.now (blocks lines.now) (given result entries.new) }
+    ensures { ReadsEntries (vocabulary_in lexicon.now) lines.now (blocks lines.now) (with_value result entries.new) }
 {
     match kept_lines(alloc, lines) {
         Ok(kept) => put_blocks(alloc, lexicon, lines, kept.as_slice(), entries),
@@ -261,7 +262,7 @@ fn put_entries(
     }
 }
 
-/// The messages file that the bytes spell, by the names of a grammar.
+/// Reads the messages file that the bytes spell, with the names of a lexicon.
 fn read_file(alloc: Global, lexicon: &Lexicon, bytes: &[u8]) -> Result<MsgFile, MsgFault>
     requires { length bytes.now < 2 ^ 31 }
     ensures { (g : Grammar') → vocabulary_in lexicon.now ≡ vocabulary_of g → ReadsMessages g bytes.now result }
@@ -278,20 +279,21 @@ fn read_file(alloc: Global, lexicon: &Lexicon, bytes: &[u8]) -> Result<MsgFile, 
     }
 }
 
-/// The messages file that the bytes spell. Lines that begin with `#` are taken out; runs of lines that are not blank then
-/// take turns as sentence lines, read as `read_sentence` has them, and as the message of those sentences. The first fault in
-/// order of lines is answered, and last that the number of blocks is odd. `Memory` only where there was none.
+/// Reads the messages file that the bytes spell. Lines that begin with `#` are ignored. The remaining blocks, which
+/// blank lines separate, are alternately sentence lines, read as by `read_sentence`, and the message of these
+/// sentences. Returns the first fault in order of lines; that a last block has no message comes after the faults of its
+/// lines. Fails with `Memory` only if memory runs out.
 pub fn read_messages(alloc: Global, bytes: &[u8], grammar: &Grammar) -> Result<MsgFile, MsgFault>
     requires range { IsInRange (plain_of grammar.now) }
     requires size { length bytes.now < 2 ^ 31 }
     ensures file { ReadsMessages grammar.now bytes.now result }
-    ensures known { IfOk result (AreOf (length grammar.now.starts) (length grammar.now.tokens)) }
+    ensures known { IfOk result (AreSentencesOf (length grammar.now.starts) (length grammar.now.tokens)) }
 {
     let Ok(lexicon) = Lexicon::new(alloc, grammar) else {
         return Err(MsgFault::Memory);
     };
     let file = read_file(alloc, &lexicon, bytes);
-    // Let go of in one place, since it has many fields.
+    // The lexicon is dropped only here, because the proof that drops its many fields takes long.
     drop(lexicon);
     file
 }

@@ -1,11 +1,11 @@
-//! The pieces of a line: what stands between blanks.
+//! The pieces of a line: the texts between blanks.
 ghost use Rattle.std.specs.Prelude.{◌≡◌, ◌≤◌, length};
 ghost use Rattle.mh_msgfile.specs.code.LineSteps.{blank_count, piece_size};
 ghost use Rattle.mh_msgfile.specs.Sentences.{is_blank as is_blank_byte, FirstPiece};
 
 use crate::lines::is_blank;
 
-/// How many blanks stand in front.
+/// The number of blanks at the front.
 fn count_blanks(bytes: &[u8]) -> usize
     ensures value { result ≡ blank_count is_blank_byte bytes.now }
     ensures within { result ≤ length bytes.now }
@@ -20,7 +20,7 @@ fn count_blanks(bytes: &[u8]) -> usize
     count
 }
 
-/// How many bytes stand before the first blank.
+/// The number of bytes before the first blank.
 fn size_of_piece(bytes: &[u8]) -> usize
     ensures value { result ≡ piece_size is_blank_byte bytes.now }
     ensures within { result ≤ length bytes.now }
@@ -35,7 +35,8 @@ fn size_of_piece(bytes: &[u8]) -> usize
     count
 }
 
-/// The first piece between blanks (spaces, tabs and CR), with what stands behind it.
+/// Returns the first piece between blanks (spaces, tabs and CR), with the bytes after it; nothing if there are only
+/// blanks.
 pub fn first_piece(bytes: &[u8]) -> Option<(&[u8], &[u8])>
     ensures { FirstPiece is_blank_byte bytes.now result }
 {

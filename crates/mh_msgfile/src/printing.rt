@@ -1,6 +1,6 @@
 //! The texts of sentences and of messages files.
 ghost use Rattle.std.specs.Prelude.{◌≡◌, ◌++◌, IfOk, OnOk};
-ghost use Rattle.mh_msgfile.specs.Printed.{names_after, sentence_text, sentence_line, sentence_lines, entry_text, file_text, echo_text};
+ghost use Rattle.mh_msgfile.specs.FileTexts.{names_after, sentence_text, sentence_line, sentence_lines, entry_text, file_text, echo_text};
 
 use crate::messages::{Entry, MsgFile, MsgSentence};
 use mh_grammar::{Grammar, Memory, Token, start_name, token_name};
@@ -16,8 +16,8 @@ fn write_names(text: &mut Vec<u8>, grammar: &Grammar, tokens: &[Token]) -> Resul
     Ok(())
 }
 
-/// Writes the canonical line of a sentence, without an LF, behind what a text holds: the start's name, a colon, and each token's
-/// name after one space. Fails for want of memory alone.
+/// Appends the canonical line of a sentence to a text, without an LF: the name of the start, a colon, and the name of
+/// each token after one space. Fails only if memory runs out.
 pub fn write_sentence(
     text: &mut Vec<u8>,
     grammar: &Grammar,
@@ -62,8 +62,8 @@ fn write_entry(text: &mut Vec<u8>, grammar: &Grammar, entry: &Entry) -> Result<(
     Ok(())
 }
 
-/// The text of a messages file: of each entry its sentences, an empty line, the message, and an empty line. Fails for
-/// want of memory alone.
+/// Returns the text of a messages file: for each entry its sentences, an empty line, its message, and an empty line.
+/// Fails only if memory runs out.
 pub fn print_messages(alloc: Global, grammar: &Grammar, file: &MsgFile) -> Result<Vec<u8>, Memory>
     ensures { IfOk result (λ text. text.items ≡ file_text grammar.now file.now) }
 {
@@ -74,7 +74,7 @@ pub fn print_messages(alloc: Global, grammar: &Grammar, file: &MsgFile) -> Resul
     Ok(text)
 }
 
-/// The sentences of a messages file alone, one a line, in order. Fails for want of memory alone.
+/// Returns the sentences of a messages file, one a line, in order and without messages. Fails only if memory runs out.
 pub fn echo(alloc: Global, grammar: &Grammar, file: &MsgFile) -> Result<Vec<u8>, Memory>
     ensures { IfOk result (λ text. text.items ≡ echo_text grammar.now file.now) }
 {

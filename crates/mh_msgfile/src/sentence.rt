@@ -1,7 +1,8 @@
-//! Sentence lines: a start, which may be left out where there is one, and names of tokens.
+//! Sentence lines: the name of a start and a colon, which may be omitted if the grammar has only one start, and names
+//! of tokens.
 ghost use Rattle.std.specs.Prelude.{◌≡◌, ◌≤◌, [], length, IfOk, OnOk};
 ghost use Rattle.mh_grammar.specs.Plain.{plain_of, IsInRange};
-ghost use Rattle.mh_msgfile.specs.code.LineSteps.{IsSole, FindsStart, name_of, AreTokens, IsUnknownToken, PutsSentence};
+ghost use Rattle.mh_msgfile.specs.code.LineSteps.{IsOnlyWord, FindsStart, name_of, AreTokens, IsUnknownToken, AppendsSentence};
 ghost use Rattle.mh_msgfile.specs.Sentences.{colon_place, start_by, vocabulary_of, vocabulary_in, sentence_in, sentence_from, ReadsSentence};
 ghost use Rattle.mh_msgfile.specs.declared.sentence.SentenceFault.TheVariants.{Memory as Memory'};
 
@@ -11,16 +12,16 @@ use mh_grammar::{Grammar, Memory, Name, Sentence, Sequence, Token, from_bytes};
 use mh_lex_bytes::is_word;
 use std::alloc::{AllocError, AllocFailed, Global};
 
-/// Why a line is no sentence.
+/// The reason why a line is no sentence.
 #[derive(Drop)]
 pub enum SentenceFault {
-    /// It has another form.
+    /// The line does not have the form of a sentence line.
     Unreadable,
-    /// No start symbol has the name before its colon.
+    /// No start symbol has the name before the colon.
     UnknownStart { name: Name },
-    /// It names no start, and the grammar has none or several.
+    /// The line names no start, and the grammar has none or several.
     MissingStart,
-    /// No token has this name, the first such of the line.
+    /// No token has this name, the first such name of the line.
     UnknownToken { name: Name },
     /// Memory ran out.
     Memory,
@@ -34,7 +35,7 @@ impl From<Memory> for SentenceFault {
     }
 }
 
-/// How many bytes stand before the first colon.
+/// The number of bytes before the first colon.
 fn place_of_colon(bytes: &[u8]) -> usize
     ensures value { result ≡ colon_place bytes.now }
     ensures within { result ≤ length bytes.now }
@@ -49,9 +50,9 @@ fn place_of_colon(bytes: &[u8]) -> usize
     count
 }
 
-/// The name that stands alone, with blanks round it.
+/// The only piece of a text, if there is exactly one and it is a word.
 fn sole_name(bytes: &[u8]) -> Option<&[u8]>
-    ensures { IsSole bytes.now result }
+    ensures { IsOnlyWord bytes.now result }
 {
     match first_piece(bytes) {
         None => None,
@@ -62,15 +63,15 @@ fn sole_name(bytes: &[u8]) -> Option<&[u8]>
     }
 }
 
-/// The start of a line.
+/// The name of a line's start.
 #[derive(Clone, Copy)]
 enum StartName<'a> {
     Named(&'a [u8]),
     LeftOut,
 }
 
-/// Puts in the tokens that the pieces of a line name, in one pass. Answers the first piece that is a name of none, and fails where
-/// not all are names.
+/// Appends the tokens of the pieces of a line, in one pass. Returns the first piece that is no token's name, and fails
+/// if some piece is no word.
 fn put_tokens<'a>(
     tokens: &mut Vec<Token>,
     lexicon: &Lexicon,
@@ -99,7 +100,7 @@ fn put_tokens<'a>(
     Ok(unknown)
 }
 
-/// The number of this start.
+/// The number of the named start, or of the only start.
 fn find_start(alloc: Global, lexicon: &Lexicon, start: StartName<'_>) -> Result<u16, SentenceFault>
     ensures { FindsStart (start_by (vocabulary_in lexicon.now) (name_of start.entry)) result }
 {
@@ -118,7 +119,7 @@ fn find_start(alloc: Global, lexicon: &Lexicon, start: StartName<'_>) -> Result<
     }
 }
 
-/// That no token has this name.
+/// The fault that no token has this name.
 fn unknown_token(alloc: Global, name: &[u8]) -> SentenceFault
     ensures { IsUnknownToken name.now result }
 {
@@ -128,7 +129,7 @@ fn unknown_token(alloc: Global, name: &[u8]) -> SentenceFault
     }
 }
 
-/// Puts in the tokens of these names, and answers the number of this start.
+/// Appends the tokens of these names, and returns the number of the start.
 fn put_sentence(
     alloc: Global,
     lexicon: &Lexicon,
@@ -137,7 +138,7 @@ fn put_sentence(
     tokens: &mut Vec<Token>,
 ) -> Result<u16, SentenceFault>
     requires { tokens.old.items ≡ [] }
-    ensures sentence { PutsSentence (sentence_from (vocabulary_in lexicon.now) (name_of start.entry) names.now) tokens.new.items result }
+    ensures sentence { AppendsSentence (sentence_from (vocabulary_in lexicon.now) (name_of start.entry) names.now) tokens.new.items result }
     ensures few { OnOk result (length tokens.new.items ≤ length names.now) }
 {
     match put_tokens(tokens, lexicon, names) {
@@ -152,7 +153,7 @@ fn put_sentence(
     }
 }
 
-/// The sentence of these names of tokens, by this start.
+/// The sentence of this start and these names of tokens.
 fn sentence_of(
     alloc: Global,
     lexicon: &Lexicon,
@@ -173,7 +174,7 @@ fn sentence_of(
 }
 
 impl Lexicon {
-    /// The sentence of a line, as `read_sentence` has it.
+    /// Reads the sentence of a line, as `read_sentence` does.
     pub fn read(&self, alloc: Global, line: &[u8]) -> Result<Sentence, SentenceFault>
         ensures sentence { ReadsSentence (sentence_in (vocabulary_in self.now) line.now) result }
         ensures few { IfOk result (λ sentence. length sentence.tokens ≤ length line.now) }
@@ -190,10 +191,11 @@ impl Lexicon {
     }
 }
 
-/// The sentence of a line: names of tokens, with blanks between and round them, behind a start and a colon. The start
-/// may be left out with the colon where there is just one. `Unreadable` comes for another form, then `UnknownStart` or
-/// `MissingStart`, then `UnknownToken` for the first name that is no token's. `Memory` only where there was none.
-/// For many lines of one grammar, `Lexicon::read` makes the numbers of its names only once.
+/// Reads the sentence of a line: the name of a start, a colon, and names of tokens, with blanks between and around
+/// them. The name of the start and the colon may be omitted if the grammar has only one start. Fails with `Unreadable`
+/// for any other form, then with `UnknownStart` or `MissingStart`, then with `UnknownToken` for the first name that no
+/// token has, and with `Memory` only if memory runs out. To read many lines of one grammar, make a `Lexicon` once and
+/// call `Lexicon::read`.
 pub fn read_sentence(
     alloc: Global,
     grammar: &Grammar,

@@ -1,4 +1,4 @@
--- What clap found, as the rows that definitions read.
+-- Lemmas on clap's result, as the rows that the definitions read.
 use Rattle.std.proofs.Common.{◌≡◌, ◌∙◌, Option, Some, None, false, refl, sym, ap, true≢false}
 use Rattle.std.specs.Prelude.{is_some, option_and_then}
 use Rattle.std.specs.Option.{option_map_or}
@@ -10,7 +10,7 @@ use Rattle.clap.specs.declared.parser.matches.MatchedArg.{MatchedArg}
 use Rattle.clap.specs.declared.parser.matches.ValueSource.{ValueSource}
 use Rattle.clap.proofs.TakesLemmas.{present_row}
 
--- where a value's source is known
+-- The source of the value is known.
 pub given_from : (f : Found) (name : Text) (source : ValueSource) → option_and_then (λ (a : MatchedArg). a.source) (matched_of f name) ≡ Some source
     → explicit_source (Some source) ≡ is_given name (rows_of f)
 given_from f name source same = go (matched_of f name) same ∙ present_row f name
@@ -20,7 +20,7 @@ given_from f name source same = go (matched_of f name) same ∙ present_row f na
     go None e = absurd (true≢false (sym (ap is_some e)))
     go (Some a) e = ap explicit_source (sym e)
 
--- where it is not
+-- The source of the value is not known.
 pub given_else : (f : Found) (name : Text) → option_and_then (λ (a : MatchedArg). a.source) (matched_of f name) ≡ None
     → is_some (matched_of f name) ≡ is_given name (rows_of f)
 given_else f name same = go (matched_of f name) same ∙ present_row f name

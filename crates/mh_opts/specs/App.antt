@@ -1,5 +1,5 @@
--- The command whose words are read, as clap sees it: the options of the code's rows, and the grammar files. Source: clap's
--- documentation of its arguments; this project's profile.
+-- The definition of the command line as clap sees it: the options of the code's table, and the grammar files (clap's
+-- documentation of arguments). The options are this project's own.
 use Rattle.std.specs.Prelude.{Some, List, [], ◌∷◌, codes, map, true}
 use Rattle.clap.specs.Words.{App, Rule, Text, new_app, new_rule, with_rule}
 use Rattle.clap.specs.Simple.{on_top}
@@ -7,7 +7,7 @@ use Rattle.clap.specs.declared.builder.action.ArgAction.TheVariants.{Append}
 use Rattle.mh_opts.specs.declared.jobs.Opt.{Opt}
 use Rattle.mh_opts.specs.declared.jobs.TheConstants.{GRAMMARS, OPTIONS}
 
--- a row with its name as text
+-- An option with its name as text.
 abbrev pub plain : {N : Type 0} → Opt N → (N → Text) → Opt Text
 plain option text = record { name = text option.name; action = option.action; mode = option.mode }
 
@@ -20,11 +20,11 @@ options = plain_rows OPTIONS (λ name. name.now)
 abbrev pub option_rule : Opt Text → Rule
 option_rule option = record (new_rule option.name) { long = Some option.name; action = Some option.action }
 
--- the words that are no options: clap keeps all of them, in their order, under one name
+-- The argument of all words that are not options: clap keeps them in order, under one name.
 abbrev pub grammars_rule : Rule
 grammars_rule = record (new_rule GRAMMARS.now) { action = Some Append }
 
--- the program's name is no word
+-- The first word is an argument already, not the name of the program.
 abbrev pub bare_app : App
 bare_app = on_top (λ s. record s { no_binary_name = true }) (new_app (codes "menhir"))
 

@@ -1,6 +1,6 @@
-pub mod Twice
+pub mod RepeatedOption
 pub mod App
 pub mod Numbers
 pub mod Orders
-pub mod Reading
+pub mod PosixReading
 pub mod code

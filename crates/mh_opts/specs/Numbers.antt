@@ -1,17 +1,17 @@
--- Numbers among the words: one to four decimal digits. Source: this project's profile.
+-- The definition of numbers among the words: one to four decimal digits. The rule is this project's own.
 use Rattle.std.specs.Prelude.{ℕ, ◌+◌, ◌-◌, ◌*◌, ◌&&◌, Bool, not, nat_le, List, [], ◌∷◌, length, Option, None, Some, if◌then◌else◌}
 use Rattle.std.specs.Char.{is_ascii_digit}
 use Rattle.std.specs.List.{list_all}
 use Rattle.clap.specs.Walk.{is_empty}
 use Rattle.clap.specs.Words.{Text}
 
--- digits behind a number
-abbrev pub value_behind : ℕ → Text → ℕ
-value_behind n [] = n
-value_behind n (digit ∷ digits) = value_behind (10 * n + (digit - 48)) digits
+-- The value of a number and the digits that follow it.
+abbrev pub value_after : ℕ → Text → ℕ
+value_after n [] = n
+value_after n (digit ∷ digits) = value_after (10 * n + (digit - 48)) digits
 
 abbrev pub value : Text → ℕ
-value digits = value_behind 0 digits
+value digits = value_after 0 digits
 
 abbrev pub is_short : Text → Bool
 is_short text = not (is_empty text) && nat_le (length text) 4

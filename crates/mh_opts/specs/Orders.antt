@@ -1,11 +1,11 @@
--- What the words of the command line ask for, by the code's rows of options. Source: this project's profile; which words a
--- command takes, and what they match, is clap's own definition.
+-- The definition of the order that the words of the command line spell, by the code's table of options. The rules are
+-- this project's own; clap's definition says which words a command accepts and how they match.
 use Rattle.std.specs.Prelude.{◌≡◌, ℕ, ◌++◌, is_none, Bool, true, false, not, ◌&&◌, ◌||◌, List, [], ◌∷◌, Option, Some, None, Result, Ok, Err, codes, map, unwrap_or, if◌then◌else◌}
 use Rattle.clap.specs.Words.{Row, Text, all_of, first_of, fault_of, matches_of}
 use Rattle.clap.specs.Walk.{is_empty}
 use Rattle.clap.specs.Takes.{is_given}
-use Rattle.mh_opts.specs.declared.jobs.Mode.{Mode}
-use Rattle.mh_opts.specs.declared.jobs.Mode.TheVariants as mode
+use Rattle.mh_opts.specs.declared.jobs.JobKind.{JobKind}
+use Rattle.mh_opts.specs.declared.jobs.JobKind.TheVariants as mode
 use Rattle.mh_opts.specs.declared.jobs.Need.{Need}
 use Rattle.mh_opts.specs.declared.jobs.Opt.{Opt}
 use Rattle.mh_opts.specs.declared.jobs.TheConstants.{CANONICAL, COMPARE_ERRORS, COMPARE_ERRORS_2, COMPILE_ERRORS, ECHO_ERRORS, GRAMMARS, INTERPRET_SHOW_CST, MESSAGES, NEEDS, NO_STDLIB, SAMPLE, STRICT, TABLES, UPDATE_ERRORS}
@@ -16,42 +16,42 @@ use Rattle.mh_opts.specs.declared.order.UsageFault.{UsageFault}
 use Rattle.mh_opts.specs.declared.order.UsageFault.TheVariants.{Parse, Number, NoMode, TwoModes, Misplaced, NoGrammar, Memory}
 use Rattle.mh_opts.specs.App.{menhir_app, options}
 use Rattle.mh_opts.specs.Numbers.{number_in}
-use Rattle.mh_opts.specs.Twice.{is_reserved, renamed}
+use Rattle.mh_opts.specs.RepeatedOption.{is_reserved, renamed}
 
--- the mode of an option that stands among the words
-abbrev pub mode_at : List Row → Opt Text → Option Mode
+-- The mode of an option, if the option is among the words.
+abbrev pub mode_at : List Row → Opt Text → Option JobKind
 mode_at rows option = if is_given option.name rows then option.mode else None
 
--- the things that are there
-abbrev pub given : {X : Type 0} → List (Option X) → List X
-given [] = []
-given (None ∷ xs) = given xs
-given (Some x ∷ xs) = x ∷ given xs
+-- The values that are present.
+abbrev pub present : {X : Type 0} → List (Option X) → List X
+present [] = []
+present (None ∷ xs) = present xs
+present (Some x ∷ xs) = x ∷ present xs
 
--- there has to be one mode
-abbrev pub only : List Mode → Result Mode UsageFault
+-- The single mode, or the fault that there is none or more than one.
+abbrev pub only : List JobKind → Result JobKind UsageFault
 only [] = Err NoMode
 only (mode ∷ []) = Ok mode
 only (mode ∷ other ∷ modes) = Err TwoModes
 
--- the one mode of these options that stands among the words
-abbrev pub mode_in : List Row → List (Opt Text) → Result Mode UsageFault
-mode_in rows options = only (given (map (mode_at rows) options))
+-- The single mode among these options.
+abbrev pub mode_in : List Row → List (Opt Text) → Result JobKind UsageFault
+mode_in rows options = only (present (map (mode_at rows) options))
 
--- the file that stands behind an option
+-- The file after an option, or the empty text.
 abbrev pub file_of : List Row → Text → Text
 file_of rows option = unwrap_or (first_of option rows) []
 
--- the number that stands behind the option of samples
+-- The number after `--sample`, if there is one.
 abbrev pub number_of : List Row → Option ℕ
 number_of rows = number_in (file_of rows SAMPLE.now)
 
--- that option stands there without a number
+-- The option `--sample` is there without a number.
 abbrev pub lacks_number : List Row → Bool
 lacks_number rows = is_given SAMPLE.now rows && is_none (number_of rows)
 
--- a row for each mode: the job that it asks for
-abbrev pub job_for : List Row → Mode → Job
+-- The job of a mode, with its files or its number.
+abbrev pub job_for : List Row → JobKind → Job
 job_for rows mode.Interpret = job.Interpret
 job_for rows mode.Session = job.Session
 job_for rows mode.ShowAutomaton = job.ShowAutomaton
@@ -64,11 +64,11 @@ job_for rows mode.UpdateErrors = job.UpdateErrors (file_of rows UPDATE_ERRORS.no
 job_for rows mode.EchoErrors = job.EchoErrors (file_of rows ECHO_ERRORS.now)
 job_for rows mode.CompareErrors = job.CompareErrors (file_of rows COMPARE_ERRORS.now) (file_of rows COMPARE_ERRORS_2.now)
 
--- an option as it is written
+-- An option with its two hyphens.
 abbrev pub written : Text → Text
 written option = codes "--" ++ option
 
--- a need with its names as texts
+-- A need with its names as texts.
 abbrev pub plain_need : {N : Type 0} → Need N → (N → Text) → Need Text
 plain_need need text = record { option = text need.option; needs = text need.needs }
 
@@ -78,20 +78,20 @@ plain_needs rows text = map (λ need. plain_need need text) rows
 unfoldable pub needs : List (Need Text)
 needs = plain_needs NEEDS (λ name. name.now)
 
--- an option stands without the one that it needs
+-- The option is given without the option that it needs.
 abbrev pub lacks : List Row → Need Text → Bool
 lacks rows need = is_given need.option rows && not (is_given need.needs rows)
 
--- the first option that stands without the one that it needs
+-- The first option that is given without the option that it needs.
 abbrev pub misplaced_in : List Row → List (Need Text) → Option Text
 misplaced_in rows [] = None
 misplaced_in rows (need ∷ more) = if lacks rows need then Some need.option else misplaced_in rows more
 
--- the words that are grammar files, in order
+-- The grammar files, in the order of their words.
 abbrev pub grammars_of : List Row → List Text
 grammars_of rows = unwrap_or (all_of GRAMMARS.now rows) []
 
-abbrev pub order_for : List Row → Mode → Order
+abbrev pub order_for : List Row → JobKind → Order
 order_for rows mode = record {
   job = job_for rows mode;
   grammars = grammars_of rows;
@@ -103,43 +103,44 @@ order_for rows mode = record {
   tables = first_of TABLES.now rows;
 }
 
-abbrev pub is_sample : Mode → Bool
+abbrev pub is_sample : JobKind → Bool
 is_sample mode.Sample = true
 is_sample mode = false
 
--- A table file has no meaning beside a canonical table, which is to be built, and beside a sample.
-abbrev pub clashes : List Row → Mode → Bool
+-- A table file has no meaning with a canonical table, because that is built, nor with a sample.
+abbrev pub clashes : List Row → JobKind → Bool
 clashes rows mode = is_given TABLES.now rows && (is_given CANONICAL.now rows || is_sample mode)
 
--- A sample has its own grammar; each other mode needs a grammar file.
-abbrev pub order_with : List Row → Mode → Option Text → Result Order UsageFault
+-- A sample has its own grammar; every other mode needs a grammar file.
+abbrev pub order_with : List Row → JobKind → Option Text → Result Order UsageFault
 order_with rows mode (Some option) = Err (Misplaced (written option))
 order_with rows mode None =
     if clashes rows mode then Err (Misplaced (written TABLES.now)) else (if is_sample mode && not (is_empty (grammars_of rows)) then Err (Misplaced (written SAMPLE.now)) else (if not (is_sample mode) && is_empty (grammars_of rows) then Err NoGrammar else Ok (order_for rows mode)))
 
-abbrev pub order_by : List Row → Result Mode UsageFault → Result Order UsageFault
+abbrev pub order_by : List Row → Result JobKind UsageFault → Result Order UsageFault
 order_by rows (Err fault) = Err fault
 order_by rows (Ok mode) = order_with rows mode (misplaced_in rows needs)
 
--- what the matches ask for, or the first fault: no number, no mode, two modes, a misplaced option, no grammar
+-- The order that the matches spell, or the first fault: no number, no mode, two modes, a misplaced option, or no
+-- grammar.
 abbrev pub order_in : List Row → Result Order UsageFault
 order_in rows = if lacks_number rows then Err Number else order_by rows (mode_in rows options)
 
--- the order that words spell as clap reads them; words that the command does not take are Parse
+-- The order that renamed words spell. Words that clap does not accept are the fault `Parse`.
 abbrev pub order_renamed : List Text → Result Order UsageFault
 order_renamed words = if is_empty (fault_of menhir_app words) then order_in (matches_of menhir_app words) else Err Parse
 
--- the order that the words spell, or the first usage fault
+-- The order that the words spell, or the first usage fault.
 abbrev pub order_of : List Text → Result Order UsageFault
 order_of words = if is_reserved words then Err Parse else order_renamed (renamed words)
 
--- the answer is this one, unless memory ran out
-abbrev pub Answers : {X : Type 0} → Result X UsageFault → Result X UsageFault → Type 0
-Answers wanted (Err Memory) = Unit {0}
-Answers wanted (Err Parse) = wanted ≡ Err Parse
-Answers wanted (Err Number) = wanted ≡ Err Number
-Answers wanted (Err NoMode) = wanted ≡ Err NoMode
-Answers wanted (Err TwoModes) = wanted ≡ Err TwoModes
-Answers wanted (Err (Misplaced option)) = wanted ≡ Err (Misplaced option)
-Answers wanted (Err NoGrammar) = wanted ≡ Err NoGrammar
-Answers wanted (Ok x) = wanted ≡ Ok x
+-- The result is the wanted one, unless memory ran out.
+abbrev pub EqualsUnlessMemory : {X : Type 0} → Result X UsageFault → Result X UsageFault → Type 0
+EqualsUnlessMemory wanted (Err Memory) = Unit {0}
+EqualsUnlessMemory wanted (Err Parse) = wanted ≡ Err Parse
+EqualsUnlessMemory wanted (Err Number) = wanted ≡ Err Number
+EqualsUnlessMemory wanted (Err NoMode) = wanted ≡ Err NoMode
+EqualsUnlessMemory wanted (Err TwoModes) = wanted ≡ Err TwoModes
+EqualsUnlessMemory wanted (Err (Misplaced option)) = wanted ≡ Err (Misplaced option)
+EqualsUnlessMemory wanted (Err NoGrammar) = wanted ≡ Err NoGrammar
+EqualsUnlessMemory wanted (Ok x) = wanted ≡ Ok x

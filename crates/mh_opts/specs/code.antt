@@ -1,2 +1,2 @@
-pub mod Modes
-pub mod Asking
+pub mod FoundModes
+pub mod AllModes

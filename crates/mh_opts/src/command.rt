@@ -1,4 +1,4 @@
-//! The command whose words are read, as clap sees it.
+//! The command line as clap sees it.
 ghost use Rattle.std.specs.Prelude.{◌≡◌, IfOk, false};
 ghost use Rattle.clap.specs.Words.{app_of, rule_of, with_rule};
 ghost use Rattle.mh_opts.specs.App.{bare_app, grammars_rule, menhir_app, option_rule, plain, plain_rows, with_options};
@@ -16,8 +16,8 @@ fn argument<'a>(alloc: Global, option: &Opt<&'a str>) -> Arg<'a>
     Arg::new(alloc, name).long(name).action(option.action)
 }
 
-/// The command with these options more. Each argument is made by a function of its own, which holds no command: the steps that hold
-/// one are the dear ones to prove.
+/// Adds the options to the command. Each argument is made by a function of its own that holds no command, because steps
+/// that hold a command are slow to prove.
 fn with_all<'a>(
     alloc: Global,
     mut command: Command<'a>,
@@ -31,7 +31,7 @@ fn with_all<'a>(
     Ok(command)
 }
 
-/// The argument of the words that are no options: all of them are kept, in their order.
+/// The argument of the words that are not options: clap keeps all of them, in order.
 fn grammars<'a>(alloc: Global) -> Arg<'a>
     ensures rule { rule_of result ≡ grammars_rule }
     ensures local { result.global ≡ false }
@@ -48,7 +48,7 @@ fn bare_command<'a>(alloc: Global) -> Result<Command<'a>, AllocError>
         .arg(grammars(alloc))
 }
 
-/// The command. Fails for want of memory alone.
+/// The command with its options and grammar files. Fails only if memory runs out.
 pub fn menhir_command<'a>(alloc: Global) -> Result<Command<'a>, AllocError>
     ensures { IfOk result (λ c. app_of c ≡ menhir_app) }
 {

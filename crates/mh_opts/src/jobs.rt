@@ -1,18 +1,19 @@
-//! What the program may do, and the options that ask for it, a row for each. Definitions read the same rows as the code.
+//! The jobs of the program, and the table of the options that ask for them. Definitions read the same table as the
+//! code.
 ghost use Rattle.std.specs.Prelude.{◌≡◌, IfOk};
 ghost use Rattle.clap.specs.Words.{found_of, rows_of};
 ghost use Rattle.mh_opts.specs.App as app;
 ghost use Rattle.mh_opts.specs.App.{plain_rows};
-ghost use Rattle.mh_opts.specs.declared.jobs.Mode.TheVariants as mode;
+ghost use Rattle.mh_opts.specs.declared.jobs.JobKind.TheVariants as mode;
 ghost use Rattle.mh_opts.specs.Orders as orders;
 ghost use Rattle.mh_opts.specs.Orders.{job_for, plain_needs};
 
-use crate::found::{both, file_of, sample_number};
+use crate::clap_result::{both, file_of, sample_number};
 use clap::{ArgAction, ArgMatches};
 use mh_grammar::{Memory, Name};
 use std::alloc::Global;
 
-/// The words that are no options, by the name under which clap keeps them.
+/// The name under which clap keeps the words that are not options.
 pub(crate) const GRAMMARS: &str = "grammars";
 
 pub(crate) const INTERPRET: &str = "interpret";
@@ -29,7 +30,7 @@ pub(crate) const COMPILE_ERRORS: &str = "compile-errors";
 
 pub(crate) const COMPARE_ERRORS: &str = "compare-errors";
 
-/// What the second use of `--compare-errors` is called when clap reads it.
+/// The name of the second use of `--compare-errors` when clap reads the words.
 pub(crate) const COMPARE_ERRORS_2: &str = "compare-errors-2";
 
 pub(crate) const ECHO_ERRORS: &str = "echo-errors";
@@ -42,36 +43,36 @@ pub(crate) const MESSAGES: &str = "messages";
 
 pub(crate) const TABLES: &str = "tables";
 
-/// What is to be done.
+/// The job of the program.
 #[derive(Drop)]
 pub enum Job {
     /// `--interpret`: a verdict for each line of the input.
     Interpret,
-    /// `--interpret-error`: the entry of the sentence on the first line of the input.
+    /// `--interpret-error`: the entry of the list of errors for the sentence on the first line of the input.
     InterpretError,
-    /// `--session`: the reply to a command on named branches for each line of the input.
+    /// `--session`: for each line of the input, the reply to a command on named branches.
     Session,
     /// `--show-automaton`: the automaton as text.
     ShowAutomaton,
-    /// `--write-tables`: the table as a file of its own.
+    /// `--write-tables`: the table file.
     WriteTables,
     /// `--list-errors`: an entry for each state in which some sentence fails.
     ListErrors,
-    /// `--compile-errors FILE`: the messages of a file, by state.
+    /// `--compile-errors FILE`: the messages of a messages file, by state.
     CompileErrors { file: Name },
-    /// `--compare-errors FILE`, twice: which states only the first of two files names.
+    /// `--compare-errors FILE`, twice: the states that the first messages file names and the second does not.
     CompareErrors { first: Name, second: Name },
     /// `--echo-errors FILE`: the sentences of a messages file, one a line.
     EchoErrors { file: Name },
     /// `--update-errors FILE`: a messages file with its comment lines made anew.
     UpdateErrors { file: Name },
-    /// `--sample N`: the counts of a generated grammar.
+    /// `--sample N`: the counts of a sample, that is of a generated grammar.
     Sample { number: u32 },
 }
 
-/// What is to be done, without the values that stand behind its words: a constant holds nothing that owns memory.
+/// A job without its files and its number. The table of options holds modes, because a constant cannot own memory.
 #[derive(Clone, Copy)]
-pub enum Mode {
+pub enum JobKind {
     Interpret,
     InterpretError,
     Session,
@@ -85,7 +86,7 @@ pub enum Mode {
     Sample,
 }
 
-/// The job that compares two files.
+/// The job that compares two messages files.
 fn compared(alloc: Global, matches: &ArgMatches<'_>) -> Result<Job, Memory>
     ensures { IfOk result (λ job. job ≡ job_for (rows_of (found_of matches.now)) mode.CompareErrors) }
 {
@@ -96,44 +97,45 @@ fn compared(alloc: Global, matches: &ArgMatches<'_>) -> Result<Job, Memory>
     Ok(Job::CompareErrors { first, second })
 }
 
-/// The job of a mode, with what stands behind its words.
-pub(crate) fn job_of(alloc: Global, matches: &ArgMatches<'_>, mode: Mode) -> Result<Job, Memory>
+/// The job of a mode, with its files or its number from the words.
+pub(crate) fn job_of(alloc: Global, matches: &ArgMatches<'_>, mode: JobKind) -> Result<Job, Memory>
     ensures { IfOk result (λ job. job ≡ job_for (rows_of (found_of matches.now)) mode) }
 {
     match mode {
-        Mode::Interpret => Ok(Job::Interpret),
-        Mode::InterpretError => Ok(Job::InterpretError),
-        Mode::Session => Ok(Job::Session),
-        Mode::ShowAutomaton => Ok(Job::ShowAutomaton),
-        Mode::WriteTables => Ok(Job::WriteTables),
-        Mode::ListErrors => Ok(Job::ListErrors),
-        Mode::CompileErrors => Ok(Job::CompileErrors {
+        JobKind::Interpret => Ok(Job::Interpret),
+        JobKind::InterpretError => Ok(Job::InterpretError),
+        JobKind::Session => Ok(Job::Session),
+        JobKind::ShowAutomaton => Ok(Job::ShowAutomaton),
+        JobKind::WriteTables => Ok(Job::WriteTables),
+        JobKind::ListErrors => Ok(Job::ListErrors),
+        JobKind::CompileErrors => Ok(Job::CompileErrors {
             file: file_of(alloc, matches, COMPILE_ERRORS)?,
         }),
-        Mode::CompareErrors => compared(alloc, matches),
-        Mode::EchoErrors => Ok(Job::EchoErrors {
+        JobKind::CompareErrors => compared(alloc, matches),
+        JobKind::EchoErrors => Ok(Job::EchoErrors {
             file: file_of(alloc, matches, ECHO_ERRORS)?,
         }),
-        Mode::UpdateErrors => Ok(Job::UpdateErrors {
+        JobKind::UpdateErrors => Ok(Job::UpdateErrors {
             file: file_of(alloc, matches, UPDATE_ERRORS)?,
         }),
-        Mode::Sample => Ok(Job::Sample {
+        JobKind::Sample => Ok(Job::Sample {
             number: sample_number(matches),
         }),
     }
 }
 
-/// An option. Its name is a `&str`, by a parameter: a constant of other rows is none that a definition can name.
+/// An option. The type of its name is a parameter, because definitions can name a constant of rows only with the type
+/// `&str` as an argument.
 pub struct Opt<T> {
-    /// The name behind the two hyphens.
+    /// The name, without the two hyphens.
     pub name: T,
-    /// `SetTrue` where no value stands behind it, `Set` where one does.
+    /// `SetTrue` for an option without a value, `Set` for an option with one.
     pub action: ArgAction,
-    /// What it says is to be done.
-    pub mode: Option<Mode>,
+    /// The mode that the option selects, if it selects one.
+    pub mode: Option<JobKind>,
 }
 
-/// An option that has no meaning without another.
+/// An option that has no meaning without another: `option` needs `needs`.
 pub struct Need<T> {
     pub option: T,
     pub needs: T,
@@ -143,42 +145,42 @@ const OPTIONS: [Opt<&str>; 18] = [
     Opt {
         name: INTERPRET,
         action: ArgAction::SetTrue,
-        mode: Some(Mode::Interpret),
+        mode: Some(JobKind::Interpret),
     },
     Opt {
         name: "interpret-error",
         action: ArgAction::SetTrue,
-        mode: Some(Mode::InterpretError),
+        mode: Some(JobKind::InterpretError),
     },
     Opt {
         name: "session",
         action: ArgAction::SetTrue,
-        mode: Some(Mode::Session),
+        mode: Some(JobKind::Session),
     },
     Opt {
         name: "show-automaton",
         action: ArgAction::SetTrue,
-        mode: Some(Mode::ShowAutomaton),
+        mode: Some(JobKind::ShowAutomaton),
     },
     Opt {
         name: "write-tables",
         action: ArgAction::SetTrue,
-        mode: Some(Mode::WriteTables),
+        mode: Some(JobKind::WriteTables),
     },
     Opt {
         name: "list-errors",
         action: ArgAction::SetTrue,
-        mode: Some(Mode::ListErrors),
+        mode: Some(JobKind::ListErrors),
     },
     Opt {
         name: COMPILE_ERRORS,
         action: ArgAction::Set,
-        mode: Some(Mode::CompileErrors),
+        mode: Some(JobKind::CompileErrors),
     },
     Opt {
         name: COMPARE_ERRORS,
         action: ArgAction::Set,
-        mode: Some(Mode::CompareErrors),
+        mode: Some(JobKind::CompareErrors),
     },
     Opt {
         name: COMPARE_ERRORS_2,
@@ -188,17 +190,17 @@ const OPTIONS: [Opt<&str>; 18] = [
     Opt {
         name: ECHO_ERRORS,
         action: ArgAction::Set,
-        mode: Some(Mode::EchoErrors),
+        mode: Some(JobKind::EchoErrors),
     },
     Opt {
         name: UPDATE_ERRORS,
         action: ArgAction::Set,
-        mode: Some(Mode::UpdateErrors),
+        mode: Some(JobKind::UpdateErrors),
     },
     Opt {
         name: SAMPLE,
         action: ArgAction::Set,
-        mode: Some(Mode::Sample),
+        mode: Some(JobKind::Sample),
     },
     Opt {
         name: MESSAGES,
@@ -232,7 +234,7 @@ const OPTIONS: [Opt<&str>; 18] = [
     },
 ];
 
-/// The first that stands without what it needs is the one that is told.
+/// The needs, in the order in which they are tested: the first option without the one that it needs is reported.
 const NEEDS: [Need<&str>; 3] = [
     Need {
         option: INTERPRET_SHOW_CST,
@@ -248,14 +250,14 @@ const NEEDS: [Need<&str>; 3] = [
     },
 ];
 
-/// The options.
+/// The table of options.
 pub(crate) fn options<'a>() -> &'a [Opt<&'a str>]
     ensures { plain_rows result.now (λ name. name.now) ≡ app.options }
 {
     OPTIONS.as_slice()
 }
 
-/// The needs.
+/// The table of needs.
 pub(crate) fn needs<'a>() -> &'a [Need<&'a str>]
     ensures { plain_needs result.now (λ name. name.now) ≡ orders.needs }
 {

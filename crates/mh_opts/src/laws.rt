@@ -1,14 +1,15 @@
-//! What the words say to a reader who knows nothing of clap: laws of the definitions, each the contract of an empty function.
+//! Laws of the command line for a reader who knows nothing of clap, as calls without effect whose contracts other
+//! crates can use.
 ghost use Rattle.std.specs.Prelude.{◌≡◌, ◌<◌, Err, Ok, map, string_bytes, true};
 ghost use Rattle.mh_opts.specs.declared.order.UsageFault.TheVariants.{Parse};
 ghost use Rattle.mh_opts.specs.App.{options};
 ghost use Rattle.mh_opts.specs.Orders.{order_of};
-ghost use Rattle.mh_opts.specs.Reading.{at_most, files_in, is_listed, times};
+ghost use Rattle.mh_opts.specs.PosixReading.{at_most, files_in, is_listed, occurrences};
 
 use crate::order::Order;
 
-/// The grammar files of an order are the words that are no options and no values of options, `-` alone among them, and each
-/// word behind `--`, in their order.
+/// The grammar files of an order are the words that are neither options nor values of options, among them `-` alone,
+/// and all words after `--`, in this order.
 pub fn files_are_words(words: &[String], order: &Order)
     requires { order_of (map string_bytes words.now) ≡ Ok order.now }
     ensures { order.now.grammars ≡ files_in (map string_bytes words.now) }
@@ -17,10 +18,11 @@ pub fn files_are_words(words: &[String], order: &Order)
     let _order = order;
 }
 
-/// An option stands at most once before `--`, but `--compare-errors` twice; words that hold it more often are no order.
+/// Before `--`, an option may occur once, and `--compare-errors` twice. Words that contain an option more often are not
+/// an order.
 pub fn too_often_is_no_order(words: &[String], option: &str)
     requires listed { is_listed option.now options ≡ true }
-    requires often { at_most option.now < times option.now (map string_bytes words.now) }
+    requires often { at_most option.now < occurrences option.now (map string_bytes words.now) }
     ensures { order_of (map string_bytes words.now) ≡ Err Parse }
 {
     let _words = words;

@@ -1,14 +1,14 @@
-//! The words of the command line: the options and jobs, and the order that some words spell.
+//! The command line: its options and jobs, and the order that the words spell.
 #![tactic(auto)]
 
+mod clap_result;
 mod command;
-mod found;
 mod jobs;
 mod laws;
 mod modes;
 mod numbers;
 mod order;
-mod twice;
+mod repeated_option;
 mod words;
 
 pub use jobs::Job;

@@ -1,27 +1,27 @@
-//! How many modes the words hold.
+//! Counts the modes among the words.
 ghost use Rattle.std.specs.Prelude.{◌≡◌};
-ghost use Rattle.mh_opts.specs.code.Modes as modes;
+ghost use Rattle.mh_opts.specs.code.FoundModes as modes;
 
 /// The modes among some words: none, one, or several.
-pub enum Asked<M> {
+pub enum FoundModes<M> {
     Nothing,
     One(M),
     Several,
 }
 
-/// With one mode more.
-fn with_one<M: Copy>(asked: Asked<M>, mode: M) -> Asked<M>
+/// Counts one more mode.
+fn with_one<M: Copy>(asked: FoundModes<M>, mode: M) -> FoundModes<M>
     ensures { result ≡ modes.with_one asked mode }
 {
     match asked {
-        Asked::Nothing => Asked::One(mode),
-        Asked::One(_) => Asked::Several,
-        Asked::Several => Asked::Several,
+        FoundModes::Nothing => FoundModes::One(mode),
+        FoundModes::One(_) => FoundModes::Several,
+        FoundModes::Several => FoundModes::Several,
     }
 }
 
-/// With the mode of one word more, where it has one.
-pub(crate) fn with_next<M: Copy>(asked: Asked<M>, mode: Option<M>) -> Asked<M>
+/// Counts the mode of one more word, if the word has one.
+pub(crate) fn with_next<M: Copy>(asked: FoundModes<M>, mode: Option<M>) -> FoundModes<M>
     ensures { result ≡ modes.with_next asked mode }
 {
     match mode {

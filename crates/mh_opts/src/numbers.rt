@@ -4,21 +4,21 @@ ghost use Rattle.std.specs.Char.{is_ascii_digit};
 ghost use Rattle.std.specs.List.{list_all};
 ghost use Rattle.mh_opts.specs.Numbers as numbers;
 
-/// Whether a text has decimal digits alone.
+/// Returns true if the text has only decimal digits.
 fn has_digits_alone(text: &[u8]) -> bool
     ensures { result ≡ list_all is_ascii_digit text.now }
 {
     text.iter().all(|byte| byte.is_ascii_digit())
 }
 
-/// Whether a text has one to four bytes.
+/// Returns true if the text has one to four bytes.
 fn is_short(text: &[u8]) -> bool
     ensures { result ≡ numbers.is_short text.now }
 {
     !text.is_empty() && text.len() <= 4
 }
 
-/// The number of one to four digits.
+/// The value of one to four digits.
 fn value(digits: &str) -> Option<u32>
     requires some { 0 < length digits.now }
     requires few { length digits.now ≤ 4 }
@@ -31,7 +31,7 @@ fn value(digits: &str) -> Option<u32>
     }
 }
 
-/// The number that one to four decimal digits spell.
+/// The number, if the text consists of one to four decimal digits.
 pub(crate) fn number_in(text: &str) -> Option<u32>
     ensures { result ≡ numbers.number_in text.now }
 {

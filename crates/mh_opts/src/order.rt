@@ -1,4 +1,4 @@
-//! What the words of the command line ask for.
+//! The order that the words of the command line spell, and the usage faults.
 ghost use Rattle.std.specs.Prelude.{◌≡◌};
 ghost use Rattle.mh_opts.specs.declared.order.UsageFault.TheVariants as faults;
 
@@ -7,45 +7,45 @@ use mh_grammar::{Memory, Name, Sequence};
 use std::alloc::AllocError;
 use thiserror::Error;
 
-/// A job, and what else the words say.
+/// An order: a job and its options.
 #[derive(Drop)]
 pub struct Order {
     pub job: Job,
-    /// The grammar files in the order of their words.
+    /// The names of the grammar files, in the order of their words.
     pub grammars: Sequence<Name>,
-    /// `--canonical`: the automaton is the canonical one, and not the merged one.
+    /// `--canonical`: true for the canonical automaton, false for the merged one.
     pub canonical: bool,
-    /// `--strict`: a conflict is a refusal.
+    /// `--strict`: true if a conflict is an error.
     pub strict: bool,
-    /// Whether the prelude may be used; `--no-stdlib` forbids it.
+    /// True if the prelude may be used. `--no-stdlib` makes it false.
     pub stdlib: bool,
-    /// `--interpret-show-cst`: trees of what is accepted.
+    /// `--interpret-show-cst`: true if the trees of accepted sentences are printed.
     pub show_cst: bool,
-    /// `--messages FILE`: the messages of what is refused.
+    /// `--messages FILE`: the messages file for refused sentences, if given.
     pub messages: Option<Name>,
-    /// `--tables FILE`: the table that is worked with, in place of one that is built.
+    /// `--tables FILE`: the table file to use in place of a built table, if given.
     pub tables: Option<Name>,
 }
 
-/// Why words are no order: the first of these faults, in the order of the variants.
+/// Why the words are not an order. The faults are tested in the order of the variants, and the first is reported.
 #[derive(Debug, Drop, Error)]
 pub enum UsageFault {
-    /// The command does not take the words.
+    /// Clap does not accept the words.
     #[error("bad words")]
     Parse,
-    /// The value of `--sample` is no number of one to four digits.
+    /// The value of `--sample` is not one to four decimal digits.
     #[error("bad number")]
     Number,
-    /// No word says what is to be done.
+    /// No option selects a mode.
     #[error("no mode")]
     NoMode,
-    /// Two words say what is to be done.
+    /// Two or more options select a mode.
     #[error("two modes")]
     TwoModes,
-    /// This option, with its two hyphens, has no meaning with the job.
+    /// The option, with its two hyphens, has no meaning in this mode.
     #[error("misplaced option")]
     Misplaced { option: Name },
-    /// There is no grammar file.
+    /// No grammar file is given, and the mode needs one.
     #[error("no grammar")]
     NoGrammar,
     /// Memory ran out.

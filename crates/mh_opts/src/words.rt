@@ -1,29 +1,29 @@
-//! The order that words spell.
+//! Reads the order that the words spell.
 ghost use Rattle.std.specs.Prelude.{◌≡◌, IfOk, Ok, not, option_map, map, string_bytes};
 ghost use Rattle.clap.specs.Walk.{is_empty};
 ghost use Rattle.clap.specs.Words.{first_of, found_of, rows_of};
 ghost use Rattle.mh_opts.specs.Orders as orders;
-ghost use Rattle.mh_opts.specs.code.Asking.{asked_in, only_of};
-ghost use Rattle.mh_opts.specs.Orders.{Answers, grammars_of, lacks, misplaced_in, mode_at, mode_in, needs, order_in, order_of, order_renamed, plain_need, written};
+ghost use Rattle.mh_opts.specs.code.AllModes.{asked_in, only_of};
+ghost use Rattle.mh_opts.specs.Orders.{EqualsUnlessMemory, grammars_of, lacks, misplaced_in, mode_at, mode_in, needs, order_in, order_of, order_renamed, plain_need, written};
 ghost use Rattle.mh_opts.specs.App.{options, plain};
 ghost use Rattle.mh_opts.specs.declared.jobs.TheConstants as constants;
 
+use crate::clap_result::{both, is_given, number_of, value_of};
 use crate::command::menhir_command;
-use crate::found::{both, is_given, number_of, value_of};
 use crate::jobs::{
-    CANONICAL, GRAMMARS, INTERPRET_SHOW_CST, MESSAGES, Mode, NO_STDLIB, Need, Opt, SAMPLE, STRICT,
-    TABLES, job_of, needs, options,
+    CANONICAL, GRAMMARS, INTERPRET_SHOW_CST, JobKind, MESSAGES, NO_STDLIB, Need, Opt, SAMPLE,
+    STRICT, TABLES, job_of, needs, options,
 };
-use crate::modes::{Asked, with_next};
+use crate::modes::{FoundModes, with_next};
 use crate::order::{Order, UsageFault};
-use crate::twice::{is_reserved, renamed};
+use crate::repeated_option::{is_reserved, renamed};
 use clap::ArgMatches;
 use clap::error::ErrorKind;
 use mh_grammar::{Memory, Name, Sequence, from_bytes};
 use std::alloc::Global;
 
-/// The mode of an option, where the words hold it.
-fn mode_of(matches: &ArgMatches<'_>, option: &Opt<&str>) -> Option<Mode>
+/// The mode of an option, if the words contain the option.
+fn mode_of(matches: &ArgMatches<'_>, option: &Opt<&str>) -> Option<JobKind>
     ensures { result ≡ mode_at (rows_of (found_of matches.now)) (plain option.now (λ name. name.now)) }
 {
     if is_given(matches, option.name) {
@@ -33,44 +33,44 @@ fn mode_of(matches: &ArgMatches<'_>, option: &Opt<&str>) -> Option<Mode>
     }
 }
 
-/// The modes that the words hold.
-fn modes_of(matches: &ArgMatches<'_>) -> Asked<Mode>
+/// The modes among the words.
+fn modes_of(matches: &ArgMatches<'_>) -> FoundModes<JobKind>
     ensures { result ≡ asked_in (rows_of (found_of matches.now)) options }
 {
     let options = options();
-    let mut asked = Asked::Nothing;
+    let mut asked = FoundModes::Nothing;
     for option in options {
         asked = with_next(asked, mode_of(matches, option));
     }
     asked
 }
 
-/// The only one of these modes.
-fn only(asked: Asked<Mode>) -> Result<Mode, UsageFault>
+/// The single mode, or the fault that there is none or more than one.
+fn only(asked: FoundModes<JobKind>) -> Result<JobKind, UsageFault>
     ensures { result ≡ only_of asked }
 {
     match asked {
-        Asked::Nothing => Err(UsageFault::NoMode),
-        Asked::One(mode) => Ok(mode),
-        Asked::Several => Err(UsageFault::TwoModes),
+        FoundModes::Nothing => Err(UsageFault::NoMode),
+        FoundModes::One(mode) => Ok(mode),
+        FoundModes::Several => Err(UsageFault::TwoModes),
     }
 }
 
-/// The only mode.
-fn only_mode(matches: &ArgMatches<'_>) -> Result<Mode, UsageFault>
-    ensures { Answers (mode_in (rows_of (found_of matches.now)) options) result }
+/// The single mode among the words.
+fn only_mode(matches: &ArgMatches<'_>) -> Result<JobKind, UsageFault>
+    ensures { EqualsUnlessMemory (mode_in (rows_of (found_of matches.now)) options) result }
 {
     only(modes_of(matches))
 }
 
-/// Whether an option stands without what it needs.
+/// Returns true if the option is given without the option that it needs.
 fn is_lacking(matches: &ArgMatches<'_>, need: &Need<&str>) -> bool
     ensures { result ≡ lacks (rows_of (found_of matches.now)) (plain_need need.now (λ name. name.now)) }
 {
     is_given(matches, need.option) && !is_given(matches, need.needs)
 }
 
-/// The first option that stands without what it needs.
+/// The first option that is given without the option that it needs.
 fn misplaced<'a>(matches: &ArgMatches<'_>) -> Option<&'a str>
     ensures { option_map (λ option. option.now) result ≡ misplaced_in (rows_of (found_of matches.now)) needs }
 {
@@ -93,7 +93,7 @@ fn names_of(alloc: Global, words: &[&str]) -> Result<Sequence<Name>, Memory>
     Ok(names)
 }
 
-/// Whether a grammar file is among the words.
+/// Returns true if a grammar file is among the words.
 fn has_grammar(matches: &ArgMatches<'_>) -> bool
     ensures { result ≡ not (is_empty (grammars_of (rows_of (found_of matches.now)))) }
 {
@@ -103,7 +103,7 @@ fn has_grammar(matches: &ArgMatches<'_>) -> bool
     }
 }
 
-/// The grammar files in the order of their words.
+/// The grammar files, in the order of their words.
 fn grammars(alloc: Global, matches: &ArgMatches<'_>) -> Result<Sequence<Name>, Memory>
     ensures { IfOk result (λ names. names ≡ grammars_of (rows_of (found_of matches.now))) }
 {
@@ -113,7 +113,7 @@ fn grammars(alloc: Global, matches: &ArgMatches<'_>) -> Result<Sequence<Name>, M
     }
 }
 
-/// An option as it is written.
+/// The option with its two hyphens.
 fn written_name(alloc: Global, option: &str) -> Result<Name, Memory>
     ensures { IfOk result (λ name. name ≡ written option.now) }
 {
@@ -121,7 +121,7 @@ fn written_name(alloc: Global, option: &str) -> Result<Name, Memory>
     from_bytes(alloc, text.as_bytes())
 }
 
-/// The files that are named beside the job: of messages, and of tables.
+/// The messages file and the table file, if they are given.
 fn files_beside(
     alloc: Global,
     matches: &ArgMatches<'_>,
@@ -135,8 +135,8 @@ fn files_beside(
     )
 }
 
-/// The order for a mode, with what else the words say.
-fn order_for(alloc: Global, matches: &ArgMatches<'_>, mode: Mode) -> Result<Order, Memory>
+/// The order of a mode, with all other options.
+fn order_for(alloc: Global, matches: &ArgMatches<'_>, mode: JobKind) -> Result<Order, Memory>
     ensures { IfOk result (λ order. order ≡ orders.order_for (rows_of (found_of matches.now)) mode) }
 {
     let (job, (grammars, (messages, tables))) = both(
@@ -155,30 +155,31 @@ fn order_for(alloc: Global, matches: &ArgMatches<'_>, mode: Mode) -> Result<Orde
     })
 }
 
-/// Whether the option of samples stands without a number.
+/// Returns true if `--sample` is there without a number.
 fn lacks_number(matches: &ArgMatches<'_>) -> bool
     ensures { result ≡ orders.lacks_number (rows_of (found_of matches.now)) }
 {
     is_given(matches, SAMPLE) && number_of(matches).is_none()
 }
 
-/// Whether a mode has its own grammar.
-fn is_sample(mode: Mode) -> bool
+/// Returns true if the mode has its own grammar.
+fn is_sample(mode: JobKind) -> bool
     ensures { result ≡ orders.is_sample mode }
 {
-    matches!(mode, Mode::Sample)
+    matches!(mode, JobKind::Sample)
 }
 
-/// Whether a table file is named where its table would not be used: beside a canonical table, which is to be built, or a sample.
-fn clashes(matches: &ArgMatches<'_>, mode: Mode) -> bool
+/// Returns true if a table file is given that would not be used: with a canonical table, because that is built, or with
+/// a sample.
+fn clashes(matches: &ArgMatches<'_>, mode: JobKind) -> bool
     ensures { result ≡ orders.clashes (rows_of (found_of matches.now)) mode }
 {
     is_given(matches, TABLES) && (is_given(matches, CANONICAL) || is_sample(mode))
 }
 
-/// The order for a mode, where each option has a meaning and there is a grammar.
-fn order_with(alloc: Global, matches: &ArgMatches<'_>, mode: Mode) -> Result<Order, UsageFault>
-    ensures { let rows = rows_of (found_of matches.now) in Answers (orders.order_with rows mode (misplaced_in rows needs)) result }
+/// The order of a mode, or the first fault: a misplaced option, or no grammar.
+fn order_with(alloc: Global, matches: &ArgMatches<'_>, mode: JobKind) -> Result<Order, UsageFault>
+    ensures { let rows = rows_of (found_of matches.now) in EqualsUnlessMemory (orders.order_with rows mode (misplaced_in rows needs)) result }
 {
     if let Some(option) = misplaced(matches) {
         return Err(UsageFault::Misplaced {
@@ -201,9 +202,9 @@ fn order_with(alloc: Global, matches: &ArgMatches<'_>, mode: Mode) -> Result<Ord
     Ok(order_for(alloc, matches, mode)?)
 }
 
-/// The order that matches ask for.
+/// The order that the matches spell, or the first fault after `Parse`.
 fn matched_order(alloc: Global, matches: &ArgMatches<'_>) -> Result<Order, UsageFault>
-    ensures { Answers (order_in (rows_of (found_of matches.now))) result }
+    ensures { EqualsUnlessMemory (order_in (rows_of (found_of matches.now))) result }
 {
     if lacks_number(matches) {
         return Err(UsageFault::Number);
@@ -214,11 +215,12 @@ fn matched_order(alloc: Global, matches: &ArgMatches<'_>) -> Result<Order, Usage
     }
 }
 
-/// The order that the words spell. Answers `Parse` exactly where clap's definition of what the command takes does not take
-/// them, so also for `--help`; else the first of `Number`, `NoMode`, `TwoModes`, `Misplaced` with the option, and `NoGrammar`, each
-/// exactly where it holds; and `Memory` only where memory runs out.
+/// Returns the order that the words spell. Fails with `Parse` exactly if clap does not accept the words (also for
+/// `--help`) or a word has the reserved name of the second `--compare-errors`; else with the first of `Number`,
+/// `NoMode`, `TwoModes`, `Misplaced` with the option, and `NoGrammar`, each exactly if it holds; and with `Memory` only
+/// if memory runs out.
 pub fn read_words(alloc: Global, words: &[String]) -> Result<Order, UsageFault>
-    ensures { Answers (order_of (map string_bytes words.now)) result }
+    ensures { EqualsUnlessMemory (order_of (map string_bytes words.now)) result }
 {
     if is_reserved(words) {
         return Err(UsageFault::Parse);
@@ -227,9 +229,9 @@ pub fn read_words(alloc: Global, words: &[String]) -> Result<Order, UsageFault>
     read_renamed(alloc, renamed.as_slice())
 }
 
-/// The order that words spell as clap reads them.
+/// Reads the order from words that were renamed.
 fn read_renamed(alloc: Global, words: &[String]) -> Result<Order, UsageFault>
-    ensures { Answers (order_renamed (map string_bytes words.now)) result }
+    ensures { EqualsUnlessMemory (order_renamed (map string_bytes words.now)) result }
 {
     let command = menhir_command(alloc)?;
     match command.try_get_matches_from(words) {

@@ -1,4 +1,4 @@
-pub mod Pieces
-pub mod LinesFound
-pub mod LinesRead
-pub mod Passes
+pub mod Consumes
+pub mod FindsLine
+pub mod ReadsLine
+pub mod PassesOn

@@ -1,4 +1,4 @@
-//! A shelf, a source and a sink in memory, with a list of the calls, numbered from 1, that fail.
+//! A shelf, a source and a sink in memory, each with a list of the calls that fail, numbered from 1.
 mod mem_shelf;
 mod mem_sink;
 mod mem_source;

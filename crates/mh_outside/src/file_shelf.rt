@@ -1,7 +1,7 @@
 //! The shelf of the real files.
 ghost use Rattle.std.specs.Prelude.{◌≡◌, ◌<◌, length, None, IfOk, vec_len, ⊤};
-ghost use Rattle.mh_outside.specs.Faults.{ShelfCounts};
-ghost use Rattle.mh_outside.specs.Shelf.{Reads};
+ghost use Rattle.mh_outside.specs.Faults.{CountsShelfFault};
+ghost use Rattle.mh_outside.specs.Shelf.{ReadsFile};
 ghost use Rattle.mh_outside.specs.code.Written.{ReadsUpTo};
 
 use crate::shelf::{Shelf, ShelfFault};
@@ -10,10 +10,10 @@ use std::fs;
 use std::io::Read;
 use std::rt::Files;
 
-/// How many bytes one read of a file asks for.
+/// The number of bytes that one read of a file asks for.
 const BLOCK: usize = 64 * 1024;
 
-/// Files by their paths, which are UTF-8. It tells none of them.
+/// The real files, by their paths, which are UTF-8. Contracts do not know their content.
 #[derive(Drop)]
 pub struct FileShelf<'a, R: Files> {
     rt: &'a R,
@@ -21,7 +21,7 @@ pub struct FileShelf<'a, R: Files> {
 }
 
 impl<'a, R: Files> FileShelf<'a, R> {
-    /// The files that the runtime reaches.
+    /// A shelf of the files that the runtime reaches.
     pub fn new(rt: &'a R) -> Self
         ensures { result.faults ≡ 0 }
     {
@@ -29,15 +29,15 @@ impl<'a, R: Files> FileShelf<'a, R> {
     }
 }
 
-/// Memory for one read.
+/// Allocates the block for reads of a file.
 fn make_block(alloc: Global, size: usize) -> Result<Vec<u8>, AllocError>
     ensures { IfOk result (λ block. vec_len block ≡ size) }
 {
     vec![in alloc; 0u8; size]
 }
 
-/// All bytes that the file has left, read into `block` in turn. Unlike `read_to_end` it tells want of memory from a
-/// fault of the device.
+/// Returns all bytes that the file has left; they are read through `block`. Unlike `read_to_end` the call distinguishes
+/// lack of memory from a fault of the device.
 fn read_up_to<F: Read>(
     alloc: Global,
     file: &mut F,
@@ -62,14 +62,14 @@ fn read_up_to<F: Read>(
     }
 }
 
-/// The bytes of the file at the path, or the fault.
+/// Returns the bytes of the file at the path.
 fn read_path<R: Files>(
     rt: &R,
     alloc: Global,
     name: &[u8],
     limit: usize,
 ) -> Result<Vec<u8>, ShelfFault>
-    ensures { Reads None name.now limit result }
+    ensures { ReadsFile None name.now limit result }
 {
     let Ok(path) = str::from_utf8(name) else {
         return Err(ShelfFault::Failed);
@@ -86,7 +86,7 @@ impl<R: Files> Shelf for FileShelf<'_, R> {
 
     ghost faults = { λ s. s.faults };
 
-    // every file may be asked for
+    // Every file may be asked for.
     ghost MayAsk = { λ s name. ⊤ };
 
     fn read_file(

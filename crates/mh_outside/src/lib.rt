@@ -1,5 +1,6 @@
-//! The outside world: a shelf of files, a source of input and a sink of output, each with a count of its faults. The fakes in
-//! memory give their content to a contract; the real files and streams give none, and count each error.
+//! The outside world: a shelf of files, a source of input and a sink of output, each with a count of its faults. The
+//! devices in memory have contents that contracts know; the contents of real files and streams are unknown, and each of
+//! their faults is counted.
 #![tactic(auto)]
 
 mod fakes;

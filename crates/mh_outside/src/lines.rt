@@ -3,8 +3,8 @@ ghost use Rattle.std.specs.Prelude.{◌≡◌, ◌<◌, ◌^◌, List, ℕ, Opti
 ghost use Rattle.mh_outside.specs.declared.lines.LineFault.TheVariants.{Failed as Failed'};
 ghost use Rattle.mh_outside.specs.code.Bytes.{ReadsByte};
 ghost use Rattle.mh_outside.specs.code.Bytes.{AddsByte};
-ghost use Rattle.mh_outside.specs.Lines.{ReadsLine, FindsLine, LineCounts};
-ghost use Rattle.mh_outside.specs.Faults.{Counts};
+ghost use Rattle.mh_outside.specs.Lines.{ReadsLine, FindsLine, CountsLineFault};
+ghost use Rattle.mh_outside.specs.Faults.{CountsFault};
 
 use crate::source::{Failed, Source};
 use std::alloc::Global;
@@ -14,9 +14,9 @@ use std::alloc::Global;
 pub enum LineFault {
     /// The source failed.
     Failed,
-    /// More bytes than the limit were got without an LF.
+    /// More bytes than the limit were read without an LF.
     TooBig,
-    /// The line could not grow.
+    /// There was no memory for the line.
     Memory,
 }
 
@@ -30,10 +30,10 @@ impl From<Failed> for LineFault {
 
 const LF: u8 = b'\n';
 
-/// The next byte, or nothing at the end.
+/// Reads the next byte; `None` at the end of the input.
 fn read_byte<S: Source>(source: &mut S) -> Result<Option<u8>, Failed>
     ensures bytes { ReadsByte (S.left source.old) (S.left source.new) result }
-    ensures counts { Counts (S.faults source.old) (S.faults source.new) result }
+    ensures counts { CountsFault (S.faults source.old) (S.faults source.new) result }
 {
     let mut buf = [0u8; 1];
     match source.read(&mut buf)? {
@@ -42,7 +42,7 @@ fn read_byte<S: Source>(source: &mut S) -> Result<Option<u8>, Failed>
     }
 }
 
-/// The line at the end of the input, where a byte is in it.
+/// The line at the end of the input; `None` if it has no byte.
 fn last_line(line: Vec<u8>) -> Option<Vec<u8>>
     ensures { MatchOption result (length line.items ≡ 0) (λ last. (last.items ≡ line.items) × (0 < length last.items)) }
 {
@@ -52,7 +52,7 @@ fn last_line(line: Vec<u8>) -> Option<Vec<u8>>
     Some(line)
 }
 
-/// Adds a byte to a line of at most so many bytes.
+/// Adds a byte to a line of at most `limit` bytes.
 fn add_byte(line: &mut Vec<u8>, byte: u8, limit: usize) -> Result<(), LineFault>
     ensures { AddsByte limit line.old.items line.new.items byte result }
 {
@@ -65,14 +65,14 @@ fn add_byte(line: &mut Vec<u8>, byte: u8, limit: usize) -> Result<(), LineFault>
     Ok(())
 }
 
-/// What `read_line` does, said by the bytes that it takes.
+/// Reads a line, with a contract on the bytes that are taken; `read_line` adds the contract on the line that is found.
 fn take_line<S: Source>(
     alloc: Global,
     source: &mut S,
     limit: usize,
 ) -> Result<Option<Vec<u8>>, LineFault>
     ensures bytes { ReadsLine limit (S.left source.old) (S.left source.new) result }
-    ensures counts { LineCounts (S.faults source.old) (S.faults source.new) result }
+    ensures counts { CountsLineFault (S.faults source.old) (S.faults source.new) result }
 {
     let mut line = Vec::new(alloc);
     loop {
@@ -87,13 +87,14 @@ fn take_line<S: Source>(
     }
 }
 
-/// The bytes before the next LF, which is taken and is not in the line; the last line needs none. `None` at the end of
-/// the input, where no byte was left. It asks the source for one byte at a time, so nothing behind the line is taken.
+/// Reads the next line of at most `limit` bytes. The LF at its end is taken but is not part of the result; the last
+/// line may lack it. Returns `None` at the end of the input. The source is asked for one byte at a time, so that
+/// nothing after the line is taken.
 ///
 /// # Errors
 ///
-/// `TooBig` exactly where `limit + 1` bytes without LF were got, `Failed` where the source failed, and `Memory` where
-/// the line could not grow. The bytes that were got are then lost.
+/// `TooBig` exactly if `limit + 1` bytes without LF were read, `Failed` if the source failed, and `Memory` if there was
+/// no memory for the line. The bytes read are then lost.
 pub fn read_line<S: Source>(
     alloc: Global,
     source: &mut S,
@@ -101,7 +102,7 @@ pub fn read_line<S: Source>(
 ) -> Result<Option<Vec<u8>>, LineFault>
     ensures bytes { ReadsLine limit (S.left source.old) (S.left source.new) result }
     ensures found { FindsLine limit (S.left source.old) (S.left source.new) result }
-    ensures counts { LineCounts (S.faults source.old) (S.faults source.new) result }
+    ensures counts { CountsLineFault (S.faults source.old) (S.faults source.new) result }
 {
     take_line(alloc, source, limit)
 }

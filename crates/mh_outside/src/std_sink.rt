@@ -2,14 +2,14 @@
 ghost use Rattle.std.specs.Prelude.{◌≡◌, ◌<◌, length, None, IfOk};
 ghost use Rattle.std.specs.Io.{WritesAtMost};
 ghost use Rattle.std.specs.Io.KnownBytes.{WriteAppends};
-ghost use Rattle.mh_outside.specs.Faults.{Counts};
+ghost use Rattle.mh_outside.specs.Faults.{CountsFault};
 ghost use Rattle.mh_outside.specs.code.Written.{PassesOn};
 
 use crate::sink::Sink;
 use crate::source::Failed;
 use std::io::Write;
 
-/// Any writer, flushed at each write. A flush that fails, and a writer that takes no byte, are faults.
+/// A sink over any writer, which is flushed after each write. A flush that fails and a write of no byte are faults.
 #[derive(Drop)]
 pub struct StdSink<W> {
     inner: W,
@@ -28,7 +28,7 @@ impl<W: Write> StdSink<W> {
     }
 }
 
-/// Writes and flushes; `Failed` also where the writer took no byte.
+/// Writes and flushes. It also fails if the writer took no byte.
 fn write_flushed<W: Write>(inner: &mut W, piece: &[u8]) -> Result<usize, Failed>
     ensures some { IfOk result (λ n. 0 < n) }
     ensures bound { WritesAtMost result piece.now }
@@ -55,8 +55,8 @@ impl<W: Write> Sink for StdSink<W> {
         ensures some { IfOk result (λ n. 0 < n) }
         ensures bound { WritesAtMost result piece.now }
         ensures bytes { WriteAppends None None result piece.now }
-        ensures counts { Counts (sink_faults self.old) (sink_faults self.new) result }
-        // the writer gets the bytes
+        ensures counts { CountsFault (sink_faults self.old) (sink_faults self.new) result }
+        // The bytes reach the writer.
         ensures passed { PassesOn (W.contents (sink_inner self.old)) (W.contents (sink_inner self.new)) piece.now result }
     {
         let result = write_flushed(&mut self.inner, piece);

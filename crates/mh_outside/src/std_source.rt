@@ -2,16 +2,16 @@
 ghost use Rattle.std.specs.Prelude.{◌≡◌, ◌<◌, length, None, IfOk};
 ghost use Rattle.std.specs.Io.{ReadsAtMost};
 ghost use Rattle.std.specs.Io.KnownBytes.{ReadConsumes};
-ghost use Rattle.mh_outside.specs.Faults.{Counts};
+ghost use Rattle.mh_outside.specs.Faults.{CountsFault};
 
 use crate::source::{Failed, Source};
 use std::alloc::{AllocError, Global};
 use std::io::{BufReader, Read};
 
-/// How many bytes one read of the reader asks for.
+/// The number of bytes that one read of the reader asks for.
 const BLOCK: usize = 64 * 1024;
 
-/// Any reader, read a block at a time, so that one byte at a time may be asked for.
+/// A source over any reader, which is read a block at a time, so that reading single bytes is cheap.
 #[derive(Drop)]
 pub struct StdSource<R> {
     inner: BufReader<R>,
@@ -21,7 +21,7 @@ pub struct StdSource<R> {
 impl<R: Read + Drop> StdSource<R> {
     ghost use Rattle.mh_outside.specs.Adapters.{IsFresh};
 
-    /// Takes the memory of the block; no read takes any.
+    /// Allocates the block; no read allocates memory.
     pub fn new(alloc: Global, inner: R) -> Result<Self, AllocError>
         ensures { IfOk result (λ s. IsFresh s inner) }
     {
@@ -33,7 +33,7 @@ impl<R: Read + Drop> StdSource<R> {
 }
 
 impl<R: Read> Source for StdSource<R> {
-    ghost use Rattle.mh_outside.specs.Adapters.{source_left, source_faults};
+    ghost use Rattle.mh_outside.specs.Adapters.{std_source_left, source_faults};
 
     ghost left = { λ _. None };
 
@@ -43,9 +43,9 @@ impl<R: Read> Source for StdSource<R> {
         requires { 0 < length buf.old }
         ensures bound { ReadsAtMost result buf.new }
         ensures bytes { ReadConsumes None None result buf.new }
-        ensures counts { Counts (source_faults self.old) (source_faults self.new) result }
-        // what the reader gives is passed on
-        ensures passed { ReadConsumes (source_left R.remaining self.old) (source_left R.remaining self.new) result buf.new }
+        ensures counts { CountsFault (source_faults self.old) (source_faults self.new) result }
+        // The bytes come from the reader.
+        ensures passed { ReadConsumes (std_source_left R.remaining self.old) (std_source_left R.remaining self.new) result buf.new }
     {
         match self.inner.read(buf) {
             Ok(count) => Ok(count),

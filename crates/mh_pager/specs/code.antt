@@ -1,3 +1,3 @@
-pub mod Indexed
-pub mod Stepping
+pub mod CoreIndex
+pub mod MergeStep
 pub mod Worklist

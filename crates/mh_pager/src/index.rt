@@ -1,8 +1,8 @@
-//! The states of each core: those of other cores can neither keep nor take a move.
+//! An index of the states by core. Only states with the core of a move can be its target.
 ghost use Rattle.std.specs.Prelude.{◌≡◌, ◌≤◌, List, [], IfOk, OnOk};
-ghost use Rattle.mh_items_kernels.specs.Shapes.{Kernel as KernelOf};
-ghost use Rattle.mh_pager_steps.specs.code.Cores.{bare, core_of};
-ghost use Rattle.mh_pager.specs.code.Indexed.{ArePlaced, IsGroup, IsIndexed};
+ghost use Rattle.mh_items_kernels.specs.KernelTypes.{Kernel as KernelOf};
+ghost use Rattle.mh_pager_steps.specs.code.Cores.{core_item, core_of};
+ghost use Rattle.mh_pager.specs.code.CoreIndex.{AreGroupsOfCores, HasGroupNumber, IsCoreIndex};
 
 use mh_grammar::{Memory, Sequence};
 use mh_items_kernels::{ItemWith, Kernel, KernelItem};
@@ -10,36 +10,38 @@ use mh_sets::TokenSet;
 use std::alloc::Global;
 use std::collections::HashMap;
 
-/// The states of each core that was met, rising, by the places that the cores were given. A core is a kernel without
-/// looks, so it has width 0.
+/// The states of each core, rising, in groups that are numbered in the order of their creation. A core is a kernel
+/// without looks, so it is a kernel of width 0.
 #[derive(Drop)]
-pub struct Index {
+pub struct CoreIndex {
+    /// The group number of each core.
     pub(crate) places: HashMap<Kernel<0>, usize>,
+    /// The states of each group, rising.
     pub(crate) states: Vec<Sequence<u32>>,
 }
 
-impl Index {
-    /// No core was met yet. It takes no memory.
-    pub(crate) fn new(alloc: Global) -> Index
+impl CoreIndex {
+    /// Returns an empty index. It takes no memory.
+    pub(crate) fn new(alloc: Global) -> CoreIndex
         ensures places { result.places.entries ≡ [] }
         ensures states { result.states.items ≡ [] }
     {
-        Index {
+        CoreIndex {
             places: HashMap::new(alloc),
             states: Vec::new(alloc),
         }
     }
 
-    /// The place of a kernel's core. A new core is put after the others, and no state has it yet.
+    /// Returns the group number of a kernel's core. A new core gets a new, empty group.
     pub(crate) fn place<const W: usize>(
         &mut self,
         alloc: Global,
         kernel: &Kernel<W>,
     ) -> Result<usize, Memory>
         requires small { W ≤ 8 }
-        requires placed { ArePlaced self.old.places.entries self.old.states.items }
-        ensures group { IfOk result (IsGroup self.new.places.entries self.new.states.items (core_of kernel.now)) }
-        ensures indexed { OnOk result ((kernels : List KernelOf) → IsIndexed kernels self.old.places.entries self.old.states.items → IsIndexed kernels self.new.places.entries self.new.states.items) }
+        requires placed { AreGroupsOfCores self.old.places.entries self.old.states.items }
+        ensures group { IfOk result (HasGroupNumber self.new.places.entries self.new.states.items (core_of kernel.now)) }
+        ensures indexed { OnOk result ((kernels : List KernelOf) → IsCoreIndex kernels self.old.places.entries self.old.states.items → IsCoreIndex kernels self.new.places.entries self.new.states.items) }
     {
         let core = without_looks(alloc, kernel)?;
         if let Some(at) = self.places.get(&core).copied() {
@@ -69,7 +71,7 @@ fn without_looks<const W: usize>(alloc: Global, kernel: &Kernel<W>) -> Result<Ke
 
 fn bare_item<const W: usize>(item: &KernelItem<W>) -> KernelItem<0>
     requires { W ≤ 8 }
-    ensures { result ≡ bare item.now }
+    ensures { result ≡ core_item item.now }
 {
     ItemWith {
         production: item.production,

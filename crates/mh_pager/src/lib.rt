@@ -1,9 +1,9 @@
-//! Pager's merged automaton: the worklist holds its states while it grows, and where a move is put; then the states
-//! that the starts reach are numbered.
+//! Builds Pager's merged automaton (Pager 1977): a worklist of states grows until each state has its edges, and then
+//! the states that the starts reach are renumbered.
 #![tactic(auto)]
 
+mod construction;
 mod index;
-mod listed;
 mod merging;
 mod numbering;
 mod starts;

@@ -1,16 +1,17 @@
-//! The merged automaton: the states of the last list that the starts reach, numbered anew.
-ghost use Rattle.std.specs.Prelude.{◌≡◌, ◌↔◌, ◌≤◌, ◌*◌, [], length, Err, IfOk, OnOk};
-ghost use Rattle.mh_grammar.specs.Plain.{plain_of, IsInRange};
-ghost use Rattle.mh_items_kernels.specs.Shapes.{Automaton as AutomatonOf};
+//! The merged automaton: the states of the finished list that the starts reach, renumbered.
+ghost use Rattle.std.specs.Prelude.{◌≡◌, ◌↔◌, ◌≤◌, [], length, Err, IfOk, OnOk};
+ghost use Rattle.mh_grammar.specs.Plain.{plain_of};
+ghost use Rattle.mh_items_kernels.specs.KernelTypes.{Automaton as AutomatonOf};
 ghost use Rattle.mh_items_kernels.specs.Automaton.{IsAutomaton};
 ghost use Rattle.mh_canon_states.specs.Canonical.{IsCanonical};
-ghost use Rattle.mh_items_kernels.specs.Conflicts.{IsConflicting, IsFaulty};
-ghost use Rattle.mh_pager_steps.specs.Paths.{CoversPaths};
-ghost use Rattle.mh_pager.specs.code.Worklist.{work_of, IsKept};
-ghost use Rattle.mh_pager_steps.specs.code.Lists.{IsList};
-ghost use Rattle.mh_pager_steps.specs.Steps.{IsMerged, IsSwollen};
+ghost use Rattle.mh_items_kernels.specs.Conflicts.{AutomatonHasConflict, AutomatonHasAnyConflict};
+ghost use Rattle.mh_pager_steps.specs.CoversPaths.{CoversPaths};
+ghost use Rattle.mh_pager.specs.code.Worklist.{merge_state_of, IsConsistentWorklist};
+ghost use Rattle.mh_pager_steps.specs.code.ReachedByMerging.{IsReachedByMerging};
+ghost use Rattle.mh_pager_steps.specs.MergeSteps.{IsMerged, MergingExceeds};
+ghost use Rattle.mh_items.specs.Fitting.{FitsSets};
 
-use crate::listed::list_all;
+use crate::construction::list_all;
 use crate::numbering::{pick, reach};
 use crate::starts::kept_first;
 use crate::worklist::Worklist;
@@ -19,42 +20,39 @@ use mh_grammar::{Grammar, Memory, Sequence};
 use mh_items_kernels::{Automaton, StatesFault};
 use std::alloc::Global;
 
-/// Pager's merged automaton of a grammar (Pager 1977). `TooManyStates` comes exactly where the list of its steps comes
-/// to hold more than `MAX_STATES` states; `Memory` may come at any grammar.
+/// Returns Pager's merged automaton of a grammar (Pager 1977). It fails with `TooManyStates` exactly if the list of
+/// states holds more than `MAX_STATES` states at some time during the construction, and with `Memory` if there is no
+/// memory.
 pub fn merged<const W: usize>(alloc: Global, grammar: &Grammar) -> Result<Automaton<W>, StatesFault>
-    requires small { W ≤ 8 }
-    requires width { length grammar.now.tokens ≤ 64 * W }
-    requires range { IsInRange (plain_of grammar.now) }
+    requires fits { FitsSets W grammar.now }
     ensures ok { IfOk result (IsMerged (plain_of grammar.now)) }
     ensures few { IfOk result (λ a. length a.kernels ≤ MAX_STATES) }
-    ensures exact { IfOk result (λ _. IsSwollen (plain_of grammar.now) MAX_STATES → ⊥) }
-    ensures over { result ≡ Err StatesFault.TooManyStates → IsSwollen (plain_of grammar.now) MAX_STATES }
+    ensures exact { IfOk result (λ _. MergingExceeds (plain_of grammar.now) MAX_STATES → ⊥) }
+    ensures over { result ≡ Err StatesFault.TooManyStates → MergingExceeds (plain_of grammar.now) MAX_STATES }
     ensures automaton { IfOk result (IsAutomaton (plain_of grammar.now)) }
-    // Each path of the canonical automaton is one of it, whose states contain its looks.
+    // Each path of the canonical automaton is a path of this automaton, to a state that contains its looks.
     ensures paths { IfOk result (CoversPaths (plain_of grammar.now)) }
-    // Merging adds no conflict.
-    ensures clashes { IfOk result (λ a. (c : AutomatonOf) → IsCanonical (plain_of grammar.now) c → IsConflicting (plain_of grammar.now) a ↔ IsConflicting (plain_of grammar.now) c) }
-    ensures faults { IfOk result (λ a. (c : AutomatonOf) → IsCanonical (plain_of grammar.now) c → IsFaulty (plain_of grammar.now) a ↔ IsFaulty (plain_of grammar.now) c) }
+    // The merged automaton has a conflict exactly if the canonical automaton has one.
+    ensures clashes { IfOk result (λ a. (c : AutomatonOf) → IsCanonical (plain_of grammar.now) c → AutomatonHasConflict (plain_of grammar.now) a ↔ AutomatonHasConflict (plain_of grammar.now) c) }
+    ensures faults { IfOk result (λ a. (c : AutomatonOf) → IsCanonical (plain_of grammar.now) c → AutomatonHasAnyConflict (plain_of grammar.now) a ↔ AutomatonHasAnyConflict (plain_of grammar.now) c) }
 {
     let mut worklist = Worklist::new(alloc);
     merged_over(alloc, grammar, &mut worklist)
 }
 
-/// The same over a list that has no states yet.
+/// Builds the merged automaton with a worklist that has no states yet.
 fn merged_over<const W: usize>(
     alloc: Global,
     grammar: &Grammar,
     worklist: &mut Worklist<W>,
 ) -> Result<Automaton<W>, StatesFault>
-    requires small { W ≤ 8 }
-    requires width { length grammar.now.tokens ≤ 64 * W }
-    requires range { IsInRange (plain_of grammar.now) }
-    requires empty { work_of worklist.old ≡ record { kernels = []; rows = []; queue = [] } }
-    requires kept { IsKept worklist.old }
+    requires fits { FitsSets W grammar.now }
+    requires empty { merge_state_of worklist.old ≡ record { kernels = []; rows = []; queue = [] } }
+    requires kept { IsConsistentWorklist worklist.old }
     ensures ok { IfOk result (IsMerged (plain_of grammar.now)) }
     ensures few { IfOk result (λ a. length a.kernels ≤ MAX_STATES) }
-    ensures exact { IfOk result (λ _. IsSwollen (plain_of grammar.now) MAX_STATES → ⊥) }
-    ensures over { result ≡ Err StatesFault.TooManyStates → IsSwollen (plain_of grammar.now) MAX_STATES }
+    ensures exact { IfOk result (λ _. MergingExceeds (plain_of grammar.now) MAX_STATES → ⊥) }
+    ensures over { result ≡ Err StatesFault.TooManyStates → MergingExceeds (plain_of grammar.now) MAX_STATES }
 {
     match list_all(alloc, grammar, worklist) {
         Ok(()) => Ok(numbered(alloc, grammar, worklist)?),
@@ -62,15 +60,14 @@ fn merged_over<const W: usize>(
     }
 }
 
-/// The states of a list that the starts reach.
+/// The automaton of the states of a finished list that the starts reach.
 fn numbered<const W: usize>(
     alloc: Global,
     grammar: &Grammar,
     worklist: &Worklist<W>,
 ) -> Result<Automaton<W>, Memory>
-    requires small { W ≤ 8 }
-    requires range { IsInRange (plain_of grammar.now) }
-    requires list { IsList (plain_of grammar.now) (work_of worklist.now) }
+    requires fits { FitsSets W grammar.now }
+    requires list { IsReachedByMerging (plain_of grammar.now) (merge_state_of worklist.now) }
     requires done { worklist.now.queue.states.items ≡ [] }
     requires few { length worklist.now.kernels.items ≤ MAX_STATES }
     ensures ok { IfOk result (IsMerged (plain_of grammar.now)) }
@@ -84,16 +81,15 @@ fn numbered<const W: usize>(
     Ok(automaton)
 }
 
-/// Fills an automaton without states with them.
+/// Fills an empty automaton with the states that the starts reach.
 fn fill<const W: usize>(
     alloc: Global,
     grammar: &Grammar,
     worklist: &Worklist<W>,
     automaton: &mut Automaton<W>,
 ) -> Result<(), Memory>
-    requires small { W ≤ 8 }
-    requires range { IsInRange (plain_of grammar.now) }
-    requires list { IsList (plain_of grammar.now) (work_of worklist.now) }
+    requires fits { FitsSets W grammar.now }
+    requires list { IsReachedByMerging (plain_of grammar.now) (merge_state_of worklist.now) }
     requires done { worklist.now.queue.states.items ≡ [] }
     requires few { length worklist.now.kernels.items ≤ MAX_STATES }
     requires no_kernels { automaton.old.kernels ≡ [] }

@@ -1,8 +1,8 @@
-//! The states that the starts reach, numbered breadth first.
+//! The states that the starts reach, renumbered breadth-first.
 ghost use Rattle.std.specs.Prelude.{◌≡◌, ◌<◌, ◌≤◌, [], ℕ, Some, length, slice_get, IfOk, OnOk};
 ghost use Rattle.std.specs.List.{All, AllZip, range_with_len};
-ghost use Rattle.mh_pager_steps.specs.code.Numbered.{AreFew, IsRenamed, AreReached, AreClosed};
-ghost use Rattle.mh_pager_steps.specs.Steps.{start_numbers};
+ghost use Rattle.mh_pager_steps.specs.code.Renumbering.{AreWithinLimit, IsRenumbered, AreReachedStates, AreTargetsInRange};
+ghost use Rattle.mh_pager_steps.specs.MergeSteps.{start_numbers};
 
 use crate::starts::place_state;
 use crate::unions::copied;
@@ -12,8 +12,8 @@ use mh_grammar::{Edge, Memory, Sequence};
 use mh_items_kernels::Kernel;
 use std::alloc::Global;
 
-/// Adds the states that the starts lead to, by their old numbers in the order of the new ones, and the edges of each in
-/// turn.
+/// Adds the states that the starts reach, by their old numbers in the order of the new ones, and the renumbered edges
+/// of each state.
 pub(crate) fn reach(
     alloc: Global,
     starts: usize,
@@ -23,12 +23,12 @@ pub(crate) fn reach(
 ) -> Result<(), Memory>
     requires starts { starts ≤ length rows.now }
     requires few { length rows.now ≤ MAX_STATES }
-    requires closed { AreClosed rows.now }
+    requires closed { AreTargetsInRange rows.now }
     requires first { states.old.keys ≡ range_with_len 0 starts }
     requires none { edges.old ≡ [] }
-    ensures { OnOk result (AreReached starts rows.now states.new.keys edges.new) }
+    ensures { OnOk result (AreReachedStates starts rows.now states.new.keys edges.new) }
 {
-    // The clauses alone speak of it.
+    // Only the contract uses the number of starts.
     let _starts = starts;
     'states: while edges.len() < states.len() {
         let state = states.as_slice()[edges.len()];
@@ -38,14 +38,14 @@ pub(crate) fn reach(
     Ok(())
 }
 
-/// A row with its targets named anew; a target that has no number yet is put after the states.
+/// Returns a row with renumbered targets; a target without a new number is appended to the states.
 fn renamed(
     alloc: Global,
     row: &[Edge],
     states: &mut IndexSet<u32>,
 ) -> Result<Sequence<Edge>, Memory>
-    requires { AreFew states.old.keys row.now }
-    ensures { IfOk result (λ new. IsRenamed row.now new states.old.keys states.new.keys) }
+    requires { AreWithinLimit states.old.keys row.now }
+    ensures { IfOk result (λ new. IsRenumbered row.now new states.old.keys states.new.keys) }
 {
     let mut new = Sequence::new(alloc);
     for edge in row {
@@ -59,7 +59,7 @@ fn renamed(
     Ok(new)
 }
 
-/// Adds the kernels of states.
+/// Appends copies of the kernels of the given states.
 pub(crate) fn pick<const W: usize>(
     alloc: Global,
     kernels: &[Kernel<W>],

@@ -1,4 +1,4 @@
-//! The states that are kept, each of them once: those of the starts, and then what is put after them.
+//! The states that the automaton keeps: first the start states, then others in the order in which they are added.
 ghost use Rattle.std.specs.Prelude.{◌≡◌, ◌≤◌, IfOk};
 ghost use Rattle.std.specs.List.{range_with_len};
 ghost use Rattle.mh_grammar.specs.Placed.{Placed};
@@ -8,7 +8,7 @@ use mh_canon_states::MAX_STATES;
 use mh_grammar::Memory;
 use std::alloc::{AllocFailed, Global};
 
-/// The states of the starts.
+/// The numbers of the start states.
 pub(crate) fn kept_first(alloc: Global, starts: usize) -> Result<IndexSet<u32>, Memory>
     requires { starts ≤ MAX_STATES }
     ensures { IfOk result (λ s. s.keys ≡ range_with_len 0 starts) }
@@ -20,7 +20,7 @@ pub(crate) fn kept_first(alloc: Global, starts: usize) -> Result<IndexSet<u32>, 
     Ok(states)
 }
 
-/// The place of a state; a new one is put after the others.
+/// Returns the index of a state among those that are kept; a new state is appended.
 pub(crate) fn place_state(states: &mut IndexSet<u32>, state: u32) -> Result<usize, AllocFailed<u32>>
     ensures { IfOk result (Placed states.old.keys states.new.keys state) }
 {

@@ -1,14 +1,14 @@
-//! Two kernels of one core as one.
+//! The join of two kernels with one core.
 ghost use Rattle.std.specs.Prelude.{◌≡◌, ◌<◌, ◌≤◌, length, IfOk};
 ghost use Rattle.mh_grammar.specs.Plain.{PlainGrammar, plain_of};
 ghost use Rattle.mh_items_kernels.specs.Kernels.{Holds, IsItemList};
-ghost use Rattle.mh_pager_steps.specs.Weak.{OneCore, IsJoin};
+ghost use Rattle.mh_pager_steps.specs.WeakCompatibility.{HaveSameCore, IsJoin};
 
 use mh_grammar::{Grammar, Memory, Sequence};
 use mh_items_kernels::{Kernel, copied_item, joined_item};
 use std::alloc::Global;
 
-/// The kernel that has the looks of two kernels of one core.
+/// The kernel with the looks of two kernels with one core.
 pub(crate) fn joined<const W: usize>(
     alloc: Global,
     grammar: &Grammar,
@@ -18,11 +18,11 @@ pub(crate) fn joined<const W: usize>(
     requires few { W ≤ 8 }
     requires left { IsItemList (plain_of grammar.now) left.now }
     requires right { IsItemList (plain_of grammar.now) right.now }
-    requires core { OneCore (Holds left.now) (Holds right.now) }
+    requires core { HaveSameCore (Holds left.now) (Holds right.now) }
     ensures kernel { IfOk result (IsItemList (plain_of grammar.now)) }
     ensures exact { IfOk result (λ j. IsJoin (Holds left.now) (Holds right.now) (Holds j)) }
 {
-    // The clauses alone speak of it.
+    // Only the contract uses the grammar.
     let _grammar = grammar;
     let ours = left.items.as_slice();
     let theirs = right.items.as_slice();
@@ -35,7 +35,7 @@ pub(crate) fn joined<const W: usize>(
     })
 }
 
-/// A copy of a kernel. Fails for want of memory alone.
+/// Returns a copy of a kernel. It fails only if there is no memory.
 pub(crate) fn copied<const W: usize>(alloc: Global, kernel: &Kernel<W>) -> Result<Kernel<W>, Memory>
     requires { W ≤ 8 }
     ensures { IfOk result (λ k. k ≡ kernel.now) }

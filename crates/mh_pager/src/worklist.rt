@@ -1,76 +1,78 @@
-//! The states while the steps are made, and where a move is put.
+//! The states during the construction, and the placing of a move.
 ghost use Rattle.std.specs.Prelude.{◌≡◌, ◌<◌, ◌≤◌, ◌^◌, ◌++◌, ◌∷◌, [], ℕ, length, set, Err, IfOk, OnOk, IsTrue, MatchOption, ◌↔◌};
-ghost use Rattle.mh_grammar.specs.Plain.{plain_of, IsInRange};
+ghost use Rattle.mh_grammar.specs.Plain.{plain_of};
 ghost use Rattle.mh_items_kernels.specs.Kernels.{IsItemList};
-ghost use Rattle.mh_items_kernels.specs.Shapes.{Kernel as KernelOf};
-ghost use Rattle.mh_pager.specs.code.Worklist.{work_of, IsKept, IsGroupIn, TakesIn, AppendsIn, OneCoreAt};
-ghost use Rattle.mh_pager_steps.specs.code.Fits.{HasFit};
-ghost use Rattle.mh_pager_steps.specs.First.{IsFirst, HasNone};
-ghost use Rattle.mh_pager_steps.specs.code.Lists.{IsReady};
-ghost use Rattle.mh_pager_steps.specs.Steps.{Work, Keeps, Puts};
+ghost use Rattle.mh_items_kernels.specs.KernelTypes.{Kernel as KernelOf};
+ghost use Rattle.mh_pager.specs.code.Worklist.{merge_state_of, IsConsistentWorklist, HasGroupNumberIn, JoinsMoveAt, AppendsMove, HasSameCoreAt};
+ghost use Rattle.mh_pager_steps.specs.code.StateTests.{HasCoreAndPasses};
+ghost use Rattle.mh_pager_steps.specs.FirstState.{IsFirst, HasNoneWith};
+ghost use Rattle.mh_pager_steps.specs.code.ReachedByMerging.{IsWellFormed};
+ghost use Rattle.mh_pager_steps.specs.MergeSteps.{MergeState, ContainsMove, PlacesMove};
+ghost use Rattle.mh_items.specs.Fitting.{FitsSets};
 
-use crate::index::Index;
+use crate::index::CoreIndex;
 use crate::unions::joined;
 use mh_canon_states::{MAX_STATES, number};
 use mh_grammar::{Edge, Grammar, Memory, Sequence};
 use mh_items_kernels::{Kernel, StatesFault};
-use mh_pager_steps::{Fit, Queue, first_fitting};
+use mh_pager_steps::{Queue, StateTest, first_fitting};
 use std::alloc::Global;
 
-/// The states that there are while the steps are made, and those that wait for theirs.
+/// The states during the construction, with the queue of those that need edges.
 #[derive(Drop)]
 pub struct Worklist<const W: usize> {
-    /// The states by their kernels.
+    /// The kernels of the states.
     pub kernels: Vec<Kernel<W>>,
-    /// The edges that each state was given last.
+    /// The edges that each state got last; empty before its first step.
     pub rows: Vec<Sequence<Edge>>,
-    /// The states that wait.
+    /// The states that need edges.
     pub queue: Queue,
-    pub(crate) index: Index,
+    /// The states by core.
+    pub(crate) index: CoreIndex,
 }
 
 impl<const W: usize> Worklist<W> {
-    /// No state yet. It takes no memory.
+    /// Returns a worklist without states. It takes no memory.
     pub fn new(alloc: Global) -> Worklist<W>
         requires { W ≤ 8 }
-        ensures work { work_of result ≡ record { kernels = []; rows = []; queue = [] } }
-        ensures kept { IsKept result }
+        ensures work { merge_state_of result ≡ record { kernels = []; rows = []; queue = [] } }
+        ensures kept { IsConsistentWorklist result }
     {
         Worklist {
             kernels: Vec::new(alloc),
             rows: Vec::new(alloc),
             queue: Queue::new(alloc),
-            index: Index::new(alloc),
+            index: CoreIndex::new(alloc),
         }
     }
 
-    /// Puts a move somewhere, and says where: to the first state that keeps it, else to the first that takes it, else
-    /// at the end. `TooManyStates` comes exactly where that would be one state more than `MAX_STATES`.
+    /// Places a move and returns the number of its target: the first state that contains it, else the first state that
+    /// is weakly compatible with it, else a new state (Pager 1977). It fails with `TooManyStates` exactly if the new
+    /// state exceeds `MAX_STATES`.
     pub fn put(
         &mut self,
         alloc: Global,
         grammar: &Grammar,
         kernel: Kernel<W>,
     ) -> Result<u32, StatesFault>
-        requires small { W ≤ 8 }
-        requires range { IsInRange (plain_of grammar.now) }
+        requires fits { FitsSets W grammar.now }
         requires kernel { IsItemList (plain_of grammar.now) kernel }
-        requires ready { IsReady (plain_of grammar.now) (work_of self.old) }
+        requires ready { IsWellFormed (plain_of grammar.now) (merge_state_of self.old) }
         requires few { length self.old.kernels.items ≤ MAX_STATES }
-        requires kept { IsKept self.old }
-        ensures ok { IfOk result (λ n. Puts (plain_of grammar.now) kernel.entry (work_of self.old) (work_of self.new) n) }
+        requires kept { IsConsistentWorklist self.old }
+        ensures ok { IfOk result (λ n. PlacesMove (plain_of grammar.now) kernel.entry (merge_state_of self.old) (merge_state_of self.new) n) }
         ensures few { OnOk result (length self.new.kernels.items ≤ MAX_STATES) }
-        ensures kept { OnOk result (IsKept self.new) }
-        ensures over { result ≡ Err StatesFault.TooManyStates → (n : ℕ) × (new : Work) × Puts (plain_of grammar.now) kernel.entry (work_of self.old) new n × (MAX_STATES < length new.kernels) }
+        ensures kept { OnOk result (IsConsistentWorklist self.new) }
+        ensures over { result ≡ Err StatesFault.TooManyStates → (n : ℕ) × (new : MergeState) × PlacesMove (plain_of grammar.now) kernel.entry (merge_state_of self.old) new n × (MAX_STATES < length new.kernels) }
     {
         let core = self.index.place(alloc, &kernel)?;
-        match self.fitting(grammar, core, &kernel, Fit::Keeps) {
+        match self.fitting(grammar, core, &kernel, StateTest::Covering) {
             Some(n) => Ok(n),
             None => self.put_unkept(alloc, grammar, core, kernel),
         }
     }
 
-    /// Puts a move that no state keeps.
+    /// Places a move that no state contains.
     fn put_unkept(
         &mut self,
         alloc: Global,
@@ -78,20 +80,19 @@ impl<const W: usize> Worklist<W> {
         core: usize,
         kernel: Kernel<W>,
     ) -> Result<u32, StatesFault>
-        requires small { W ≤ 8 }
-        requires range { IsInRange (plain_of grammar.now) }
+        requires fits { FitsSets W grammar.now }
         requires kernel { IsItemList (plain_of grammar.now) kernel }
-        requires ready { IsReady (plain_of grammar.now) (work_of self.old) }
+        requires ready { IsWellFormed (plain_of grammar.now) (merge_state_of self.old) }
         requires few { length self.old.kernels.items ≤ MAX_STATES }
-        requires kept { IsKept self.old }
-        requires group { IsGroupIn self.old kernel core }
-        requires unkept { HasNone (Keeps kernel) self.old.kernels.items }
-        ensures ok { IfOk result (λ n. Puts (plain_of grammar.now) kernel.entry (work_of self.old) (work_of self.new) n) }
+        requires kept { IsConsistentWorklist self.old }
+        requires group { HasGroupNumberIn self.old kernel core }
+        requires unkept { HasNoneWith (ContainsMove kernel) self.old.kernels.items }
+        ensures ok { IfOk result (λ n. PlacesMove (plain_of grammar.now) kernel.entry (merge_state_of self.old) (merge_state_of self.new) n) }
         ensures few { OnOk result (length self.new.kernels.items ≤ MAX_STATES) }
-        ensures kept { OnOk result (IsKept self.new) }
-        ensures over { result ≡ Err StatesFault.TooManyStates → (n : ℕ) × (new : Work) × Puts (plain_of grammar.now) kernel.entry (work_of self.old) new n × (MAX_STATES < length new.kernels) }
+        ensures kept { OnOk result (IsConsistentWorklist self.new) }
+        ensures over { result ≡ Err StatesFault.TooManyStates → (n : ℕ) × (new : MergeState) × PlacesMove (plain_of grammar.now) kernel.entry (merge_state_of self.old) new n × (MAX_STATES < length new.kernels) }
     {
-        match self.fitting(grammar, core, &kernel, Fit::Takes) {
+        match self.fitting(grammar, core, &kernel, StateTest::Compatible) {
             Some(n) => {
                 self.take(alloc, grammar, n, &kernel)?;
                 Ok(n)
@@ -100,14 +101,20 @@ impl<const W: usize> Worklist<W> {
         }
     }
 
-    /// The first state that fits a move, whose core is at a place of the index.
-    fn fitting(&self, grammar: &Grammar, core: usize, kernel: &Kernel<W>, fit: Fit) -> Option<u32>
+    /// Returns the first state that passes the test for a move whose core has the given group number.
+    fn fitting(
+        &self,
+        grammar: &Grammar,
+        core: usize,
+        kernel: &Kernel<W>,
+        fit: StateTest,
+    ) -> Option<u32>
         requires small { W ≤ 8 }
         requires kernel { IsItemList (plain_of grammar.now) kernel.now }
-        requires ready { IsReady (plain_of grammar.now) (work_of self.now) }
-        requires kept { IsKept self.now }
-        requires group { IsGroupIn self.now kernel.now core }
-        ensures { MatchOption result (HasNone (HasFit fit kernel.now) self.now.kernels.items) (λ n. (k : KernelOf) × IsFirst (HasFit fit kernel.now) self.now.kernels.items n k) }
+        requires ready { IsWellFormed (plain_of grammar.now) (merge_state_of self.now) }
+        requires kept { IsConsistentWorklist self.now }
+        requires group { HasGroupNumberIn self.now kernel.now core }
+        ensures { MatchOption result (HasNoneWith (HasCoreAndPasses fit kernel.now) self.now.kernels.items) (λ n. (k : KernelOf) × IsFirst (HasCoreAndPasses fit kernel.now) self.now.kernels.items n k) }
     {
         first_fitting(
             grammar,
@@ -118,7 +125,7 @@ impl<const W: usize> Worklist<W> {
         )
     }
 
-    /// Joins a move into a state, which is queued.
+    /// Joins a move into a state, and queues the state.
     fn take(
         &mut self,
         alloc: Global,
@@ -126,15 +133,14 @@ impl<const W: usize> Worklist<W> {
         state: u32,
         kernel: &Kernel<W>,
     ) -> Result<(), Memory>
-        requires small { W ≤ 8 }
-        requires range { IsInRange (plain_of grammar.now) }
+        requires fits { FitsSets W grammar.now }
         requires kernel { IsItemList (plain_of grammar.now) kernel.now }
-        requires ready { IsReady (plain_of grammar.now) (work_of self.old) }
+        requires ready { IsWellFormed (plain_of grammar.now) (merge_state_of self.old) }
         requires within { state < length self.old.kernels.items }
-        requires core { OneCoreAt kernel.now self.old.kernels.items state }
-        requires kept { IsKept self.old }
-        ensures work { OnOk result (TakesIn (plain_of grammar.now) kernel.now (work_of self.old) (work_of self.new) state) }
-        ensures kept { OnOk result (IsKept self.new) }
+        requires core { HasSameCoreAt kernel.now self.old.kernels.items state }
+        requires kept { IsConsistentWorklist self.old }
+        ensures work { OnOk result (JoinsMoveAt (plain_of grammar.now) kernel.now (merge_state_of self.old) (merge_state_of self.new) state) }
+        ensures kept { OnOk result (IsConsistentWorklist self.new) }
     {
         let joined = joined(alloc, grammar, &self.kernels[state as usize], kernel)?;
         self.queue.add_again(state)?;
@@ -142,15 +148,15 @@ impl<const W: usize> Worklist<W> {
         Ok(())
     }
 
-    /// Appends a move as a new state, which is queued.
+    /// Appends a move as a new state, and queues it.
     fn append(&mut self, alloc: Global, core: usize, kernel: Kernel<W>) -> Result<u32, StatesFault>
         requires small { W ≤ 8 }
         requires few { length self.old.kernels.items ≤ MAX_STATES }
-        requires kept { IsKept self.old }
-        requires group { IsGroupIn self.old kernel core }
-        ensures ok { IfOk result (λ n. AppendsIn kernel.entry (work_of self.old) (work_of self.new) n) }
+        requires kept { IsConsistentWorklist self.old }
+        requires group { HasGroupNumberIn self.old kernel core }
+        ensures ok { IfOk result (λ n. AppendsMove kernel.entry (merge_state_of self.old) (merge_state_of self.new) n) }
         ensures few { OnOk result (length self.new.kernels.items ≤ MAX_STATES) }
-        ensures kept { OnOk result (IsKept self.new) }
+        ensures kept { OnOk result (IsConsistentWorklist self.new) }
         ensures over { result ≡ Err StatesFault.TooManyStates → length self.old.kernels.items ≡ MAX_STATES }
     {
         match number(self.kernels.len()) {
@@ -162,18 +168,18 @@ impl<const W: usize> Worklist<W> {
         }
     }
 
-    /// Puts a kernel at the end as a new state, which is queued and has no edges yet.
+    /// Appends a kernel as a new state without edges, and queues it.
     fn push(&mut self, alloc: Global, core: usize, kernel: Kernel<W>) -> Result<(), Memory>
         requires small { W ≤ 8 }
         requires few { length self.old.kernels.items < 2 ^ 32 }
-        requires kept { IsKept self.old }
-        requires group { IsGroupIn self.old kernel core }
-        ensures ok { OnOk result (AppendsIn kernel.entry (work_of self.old) (work_of self.new) (length self.old.kernels.items)) }
-        ensures kept { OnOk result (IsKept self.new) }
+        requires kept { IsConsistentWorklist self.old }
+        requires group { HasGroupNumberIn self.old kernel core }
+        ensures ok { OnOk result (AppendsMove kernel.entry (merge_state_of self.old) (merge_state_of self.new) (length self.old.kernels.items)) }
+        ensures kept { OnOk result (IsConsistentWorklist self.new) }
     {
         let count = self.kernels.len();
         let state = count as u32;
-        // First, so that no later way out has a kernel to let go of.
+        // The kernel is pushed first, so that no later error exit has to drop it.
         self.kernels.push(kernel)?;
         self.index.states[core].push(state)?;
         self.queue.add()?;
@@ -181,14 +187,13 @@ impl<const W: usize> Worklist<W> {
         Ok(())
     }
 
-    /// Puts a start kernel at the end as a new state, which is queued and has no edges yet. Fails for want of memory
-    /// alone.
+    /// Appends a start kernel as a new state without edges, and queues it. It fails only if there is no memory.
     pub fn push_start(&mut self, alloc: Global, kernel: Kernel<W>) -> Result<(), Memory>
         requires small { W ≤ 8 }
         requires few { length self.old.kernels.items < 2 ^ 32 }
-        requires kept { IsKept self.old }
-        ensures ok { OnOk result (AppendsIn kernel.entry (work_of self.old) (work_of self.new) (length self.old.kernels.items)) }
-        ensures kept { OnOk result (IsKept self.new) }
+        requires kept { IsConsistentWorklist self.old }
+        ensures ok { OnOk result (AppendsMove kernel.entry (merge_state_of self.old) (merge_state_of self.new) (length self.old.kernels.items)) }
+        ensures kept { OnOk result (IsConsistentWorklist self.new) }
     {
         let core = self.index.place(alloc, &kernel)?;
         self.push(alloc, core, kernel)

@@ -1,5 +1,5 @@
-pub mod First
-pub mod Paths
-pub mod Steps
-pub mod Weak
+pub mod FirstState
+pub mod CoversPaths
+pub mod MergeSteps
+pub mod WeakCompatibility
 pub mod code

@@ -1,6 +1,6 @@
 pub mod Cores
-pub mod Fits
-pub mod Flagged
-pub mod Kernels
-pub mod Lists
-pub mod Numbered
+pub mod StateTests
+pub mod QueueFlags
+pub mod ItemLists
+pub mod ReachedByMerging
+pub mod Renumbering

@@ -1,14 +1,14 @@
-//! Pager's condition on two kernels of one core.
+//! Pager's condition on two kernels with one core (Pager 1977).
 ghost use Rattle.std.specs.Prelude.{◌≡◌, ◌<◌, ◌≤◌, ◌↔◌, length, IsTrue};
-ghost use Rattle.mh_pager_steps.specs.code.Kernels.{AreWithin, Fit, FitAt, FitBefore, AllFit, Common, Within};
+ghost use Rattle.mh_pager_steps.specs.code.ItemLists.{AreItemLooksWithin, MeetsCondition, MeetsConditionAt, MeetsConditionBefore, MeetsConditionEverywhere, ShareLook, AreLooksWithin};
 
 use mh_items_kernels::KernelItem;
 
-/// Whether the looks of the first list are in the second, place by place.
+/// True if, at each index, the looks of the left list are in the right list.
 pub(crate) fn are_within<const W: usize>(left: &[KernelItem<W>], right: &[KernelItem<W>]) -> bool
     requires few { W ≤ 8 }
     requires core { length left.now ≡ length right.now }
-    ensures { IsTrue result ↔ AreWithin left.now right.now }
+    ensures { IsTrue result ↔ AreItemLooksWithin left.now right.now }
 {
     for i in 0..left.len() {
         if !item_within(&left[i], &right[i]) {
@@ -18,14 +18,14 @@ pub(crate) fn are_within<const W: usize>(left: &[KernelItem<W>], right: &[Kernel
     true
 }
 
-/// Whether two kernels of one core meet Pager's condition.
+/// True if two kernels with one core are weakly compatible.
 pub(crate) fn are_compatible<const W: usize>(
     left: &[KernelItem<W>],
     right: &[KernelItem<W>],
 ) -> bool
     requires few { W ≤ 8 }
     requires core { length left.now ≡ length right.now }
-    ensures { IsTrue result ↔ AllFit left.now right.now }
+    ensures { IsTrue result ↔ MeetsConditionEverywhere left.now right.now }
 {
     for j in 0..left.len() {
         if !fit_before(left, right, j) {
@@ -39,7 +39,7 @@ fn fit_before<const W: usize>(left: &[KernelItem<W>], right: &[KernelItem<W>], j
     requires few { W ≤ 8 }
     requires core { length left.now ≡ length right.now }
     requires within { j < length left.now }
-    ensures { IsTrue result ↔ FitBefore left.now right.now j }
+    ensures { IsTrue result ↔ MeetsConditionBefore left.now right.now j }
 {
     for i in 0..j {
         if !fit_at(left, right, i, j) {
@@ -49,7 +49,7 @@ fn fit_before<const W: usize>(left: &[KernelItem<W>], right: &[KernelItem<W>], j
     true
 }
 
-/// The condition at two places.
+/// Pager's condition at two indices.
 fn fit_at<const W: usize>(
     left: &[KernelItem<W>],
     right: &[KernelItem<W>],
@@ -60,7 +60,7 @@ fn fit_at<const W: usize>(
     requires core { length left.now ≡ length right.now }
     requires first { i < length left.now }
     requires second { j < length left.now }
-    ensures { IsTrue result ↔ FitAt left.now right.now i j }
+    ensures { IsTrue result ↔ MeetsConditionAt left.now right.now i j }
 {
     fit(&left[i], &right[i], &left[j], &right[j])
 }
@@ -72,7 +72,7 @@ fn fit<const W: usize>(
     d: &KernelItem<W>,
 ) -> bool
     requires few { W ≤ 8 }
-    ensures { IsTrue result ↔ Fit a.now.looks b.now.looks c.now.looks d.now.looks }
+    ensures { IsTrue result ↔ MeetsCondition a.now.looks b.now.looks c.now.looks d.now.looks }
 {
     if item_meets(a, c) {
         return true;
@@ -88,14 +88,14 @@ fn fit<const W: usize>(
 
 fn item_meets<const W: usize>(x: &KernelItem<W>, y: &KernelItem<W>) -> bool
     requires few { W ≤ 8 }
-    ensures { IsTrue result ↔ Common x.now.looks y.now.looks }
+    ensures { IsTrue result ↔ ShareLook x.now.looks y.now.looks }
 {
     x.looks.meets(&y.looks)
 }
 
 fn item_within<const W: usize>(x: &KernelItem<W>, y: &KernelItem<W>) -> bool
     requires few { W ≤ 8 }
-    ensures { IsTrue result ↔ Within x.now.looks y.now.looks }
+    ensures { IsTrue result ↔ AreLooksWithin x.now.looks y.now.looks }
 {
     x.looks.is_subset(&y.looks)
 }

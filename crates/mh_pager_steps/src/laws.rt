@@ -1,14 +1,14 @@
-//! What holds of every automaton of a grammar, and of every merged one.
+//! Laws of every automaton of a grammar, and of every merged automaton.
 ghost use Rattle.std.specs.Prelude.{◌≡◌};
 ghost use Rattle.mh_grammar.specs.Plain.{plain_of};
 ghost use Rattle.mh_items_kernels.specs.Automaton.{IsAutomaton};
-ghost use Rattle.mh_pager_steps.specs.Paths.{CoversPaths};
-ghost use Rattle.mh_pager_steps.specs.Steps.{IsMerged};
+ghost use Rattle.mh_pager_steps.specs.CoversPaths.{CoversPaths};
+ghost use Rattle.mh_pager_steps.specs.MergeSteps.{IsMerged};
 
 use mh_grammar::Grammar;
 use mh_items_kernels::Automaton;
 
-/// Each path of the canonical collection is one of any automaton of the grammar, and the state at its end contains the
+/// Law: each path of the canonical collection is a path of any automaton of the grammar, to a state that contains the
 /// collection's items.
 pub fn covers_canonical_paths<const W: usize>(grammar: &Grammar, automaton: &Automaton<W>)
     requires { IsAutomaton (plain_of grammar.now) automaton.now }
@@ -18,8 +18,8 @@ pub fn covers_canonical_paths<const W: usize>(grammar: &Grammar, automaton: &Aut
     let _automaton = automaton;
 }
 
-/// Two merged automata of one grammar are one, with the same numbers and the same order of edges, whatever the widths of
-/// their sets.
+/// Law: two merged automata of one grammar are equal, with the same numbers and the same order of edges, whatever the
+/// widths of their lookahead sets.
 pub fn is_one_merged<const V: usize, const W: usize>(
     grammar: &Grammar,
     left: &Automaton<V>,

@@ -1,5 +1,5 @@
-//! When an automaton is merged as Pager merges (Pager 1977): definitions, laws, and what decides a step: Pager's
-//! condition, the first state that fits a move, and the states that wait for their edges.
+//! Pager's merged automaton (Pager 1977): its definition, its laws, and the parts of a step: Pager's condition, the
+//! search for the target of a move, and the queue of states.
 #![tactic(auto)]
 
 mod compatible;
@@ -7,6 +7,6 @@ mod finding;
 mod laws;
 mod queue;
 
-pub use finding::{Fit, first_fitting, weakly_compatible};
+pub use finding::{StateTest, first_fitting, weakly_compatible};
 pub use laws::{covers_canonical_paths, is_one_merged};
 pub use queue::Queue;

@@ -1,22 +1,22 @@
-//! The states that wait for their edges.
+//! The queue of states that need edges.
 ghost use Rattle.std.specs.Prelude.{◌≡◌, ◌<◌, ◌+◌, ◌^◌, ◌++◌, ◌∷◌, [], length, OnOk, MatchOption};
-ghost use Rattle.mh_pager_steps.specs.Steps.{Queues};
-ghost use Rattle.mh_pager_steps.specs.code.Flagged.{AreFlagged};
+ghost use Rattle.mh_pager_steps.specs.MergeSteps.{Enqueues};
+ghost use Rattle.mh_pager_steps.specs.code.QueueFlags.{AreFlagged};
 
 use std::alloc::{AllocError, AllocFailed, Global};
 use std::collections::VecDeque;
 
-/// The states that wait, the oldest first, and for each state whether it does.
+/// The states that need edges, the oldest first, with a flag for each state.
 #[derive(Drop)]
 pub struct Queue {
-    /// The states that wait, the oldest first.
+    /// The numbers of the queued states, the oldest first.
     pub states: VecDeque<u32>,
-    /// For each state whether it waits.
+    /// For each state, true if it is queued.
     pub waits: Vec<bool>,
 }
 
 impl Queue {
-    /// There is no state yet. It takes no memory.
+    /// Returns a queue for no states. It takes no memory.
     pub fn new(alloc: Global) -> Queue
         ensures states { result.states.items ≡ [] }
         ensures waits { result.waits.items ≡ [] }
@@ -27,7 +27,7 @@ impl Queue {
         }
     }
 
-    /// Takes the state that waits longest.
+    /// Removes the oldest state from the queue and returns it.
     pub fn take_oldest(&mut self) -> Option<u32>
         requires { AreFlagged self.old.states.items self.old.waits.items }
         ensures oldest { MatchOption result ((self.old.states.items ≡ []) × (self.new.states.items ≡ [])) (λ n. self.old.states.items ≡ n ∷ self.new.states.items) }
@@ -43,7 +43,7 @@ impl Queue {
         }
     }
 
-    /// Queues a new state, whose number is the next one. Fails for want of memory alone.
+    /// Queues a new state, with the next number. It fails only if there is no memory.
     pub fn add(&mut self) -> Result<(), AllocError>
         requires flagged { AreFlagged self.old.states.items self.old.waits.items }
         requires few { length self.old.waits.items < 2 ^ 32 }
@@ -56,11 +56,11 @@ impl Queue {
         Ok(())
     }
 
-    /// Queues a state, unless it waits already. Fails for want of memory alone.
+    /// Queues a state unless it is queued already. It fails only if there is no memory.
     pub fn add_again(&mut self, state: u32) -> Result<(), AllocFailed<u32>>
         requires flagged { AreFlagged self.old.states.items self.old.waits.items }
         requires known { state < length self.old.waits.items }
-        ensures states { OnOk result (Queues self.old.states.items state self.new.states.items) }
+        ensures states { OnOk result (Enqueues self.old.states.items state self.new.states.items) }
         ensures flagged { OnOk result (AreFlagged self.new.states.items self.new.waits.items) }
         ensures len { OnOk result (length self.new.waits.items ≡ length self.old.waits.items) }
     {

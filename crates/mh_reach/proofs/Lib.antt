@@ -1,4 +1,4 @@
-mod Choosing
-mod Costing
-mod First
-mod Spelled
+mod BetterCandidate
+mod BestCandidate
+mod FailsFirst
+mod WritesWord

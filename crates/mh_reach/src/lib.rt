@@ -1,12 +1,38 @@
-//! The least sentence that fails in each state, by what both searches found: the best way to fail there, and its sentence.
+//! The least sentence that fails in each state (Pottier 2016).
 //!
-//! Both searches of a table in a row: in which states sentences fail, each with its least cost and its first sentence.
+//! `reach` runs both searches of a table; `Reach` gives the least cost and the first sentence of each state.
+//!
+//! A *path* is a state with the first symbols of a production's right side. A *fact* is a path with a word, and with a
+//! first and a next token: with the word and then the next token to come, a run follows the path and shifts the word.
+//! The first token is the first of the word and the next token. A path is *complete* if it has all symbols of the right
+//! side. If the state in which it ends reduces on the next token, the fact gives a *goto fact*: the run goes from the
+//! first state of the path along the goto of the production's left side. The rules are in `mh_facts/specs/Search`.
+//!
+//! 1. `mh_reach_classes`: in each state, the tokens that all reductions leading to the state treat alike form a class.
+//!    Both searches use one token of each class, its representative.
+//! 2. `mh_reach_paths`: the first search settles, for each path with its first and next tokens, a word of least
+//!    cost, and of these the lexicographically first. It begins with the empty paths. A path becomes longer by a shift
+//!    of the symbol after it, or by a goto fact for that symbol. The queue is ordered by cost, and the facts of one
+//!    cost are sorted by their words, which have numbers (`mh_reach_words`); so the first fact that is taken for a key
+//!    is kept. All costs above 1,000,000 count as 1,000,001, and words of this cost are not compared.
+//! 3. `mh_reach_arrivals`: the second search settles, for each state with a next token, the least sentence with which a
+//!    run reaches the state. It begins in the states of the starts and continues by shifts and by the goto facts of the
+//!    first search, again by cost and then by sentence.
+//! 4. `candidates`: a state that refuses a token and is reached with this token next has a candidate, which is the sentence
+//!    of the arrival and the token. The least candidate of all tokens is kept.
+//! 5. `sentences`, `spell`: the sentence is spelled backwards, from each arrival and fact to those that it was derived
+//!    from.
+//!
+//! The result is complete because both searches are closed under the rules: for each sentence that the rules refuse in
+//! a state there is a candidate that comes no later, or both cost more than 1,000,000. The law
+//! `mh_facts::failures_are_reached` says that the sentences that the rules refuse in a state are exactly those that
+//! fail there.
 #![tactic(auto)]
 
-mod best;
-mod both;
+mod candidates;
+mod searches;
 mod sentences;
 mod spell;
 
-pub use both::reach;
+pub use searches::reach;
 pub use sentences::Reach;

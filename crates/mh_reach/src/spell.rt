@@ -1,6 +1,6 @@
-//! Words and sentences, by what facts and arrivals came from.
+//! Writing out the words of facts.
 ghost use Rattle.std.specs.Prelude.{◌≡◌, OnOk};
-ghost use Rattle.mh_reach.specs.code.Spelling.{HasWord, Spells, SpellsOne, SpellsNext};
+ghost use Rattle.mh_reach.specs.code.Spelling.{HasWord, WritesWord, WritesFact, WritesNextFact};
 
 use mh_facts::{Back, FactKey, FactStore};
 use mh_grammar::{Memory, Token};
@@ -8,7 +8,7 @@ use mh_reach_found::token_before;
 use mh_tables_core::Table;
 use std::alloc::Global;
 
-/// Puts what a fact came from in its place; the token that it ends with is spelled.
+/// Pushes the facts that a fact was derived from, and appends the token that its word ends with to `backwards`.
 fn spell_one(
     table: &Table,
     stack: &mut Vec<FactKey>,
@@ -16,7 +16,7 @@ fn spell_one(
     key: FactKey,
     back: Back,
 ) -> Result<(), Memory>
-    ensures { OnOk result (SpellsOne table.now key back stack.old.items stack.new.items backwards.old.items backwards.new.items) }
+    ensures { OnOk result (WritesFact table.now key back stack.old.items stack.new.items backwards.old.items backwards.new.items) }
 {
     match back {
         Back::Empty => Ok(()),
@@ -35,7 +35,7 @@ fn spell_one(
     }
 }
 
-/// The same, but what is free has no tokens, and is not gone into.
+/// The same, except that a fact of cost 0 is dropped, for its word is empty.
 fn spell_next(
     table: &Table,
     store: &FactStore,
@@ -43,7 +43,7 @@ fn spell_next(
     backwards: &mut Vec<Token>,
     key: FactKey,
 ) -> Result<(), Memory>
-    ensures { OnOk result (SpellsNext table.now store.now key stack.old.items stack.new.items backwards.old.items backwards.new.items) }
+    ensures { OnOk result (WritesNextFact table.now store.now key stack.old.items stack.new.items backwards.old.items backwards.new.items) }
 {
     if store.cost(&key) == Some(0) {
         return Ok(());
@@ -54,7 +54,7 @@ fn spell_next(
     }
 }
 
-/// Puts the word of a fact in front of what is spelled. Fails for want of memory alone.
+/// Appends the tokens of a fact's word to `backwards`, from the last to the first. Fails for want of memory alone.
 pub fn spell(
     alloc: Global,
     table: &Table,
@@ -63,7 +63,7 @@ pub fn spell(
     backwards: &mut Vec<Token>,
 ) -> Result<(), Memory>
     requires { HasWord table.now store.now key }
-    ensures { OnOk result (Spells table.now store.now key backwards.old.items backwards.new.items) }
+    ensures { OnOk result (WritesWord table.now store.now key backwards.old.items backwards.new.items) }
 {
     let mut stack = Vec::new(alloc);
     stack.push(key)?;

@@ -1,6 +1,6 @@
-mod Arriving
-mod Journeys
-mod Levels
-mod Ordering
-mod Spotting
-mod Stepping
+mod ArrivalInvariant
+mod LabelAssignment
+mod ArrivalLevels
+mod ArrivalOrder
+mod Unreached
+mod StepsShift

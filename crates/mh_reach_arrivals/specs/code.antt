@@ -1,2 +1,2 @@
-pub mod Arriving
-pub mod Ordering
+pub mod ArrivalSearch
+pub mod ArrivalOrder

@@ -1,68 +1,74 @@
-//! The second search: how a state is reached with a token to come.
+//! The second search, best-first: the least sentence by which each state is reached, with each next token. A state with
+//! a next token is a spot, and a way to reach it is an arrival. An arrival is settled when it is stored as the least
+//! one of its spot.
 ghost use Rattle.std.specs.Prelude.{◌≡◌, ◌≤◌, ◌<◌, ◌+◌, ◌⊎◌, ◌∷◌, ℕ, [], Some, OnOk, IfOk, drop, length, min};
 ghost use Rattle.std.specs.List.{Contains};
 ghost use Rattle.mh_tables_core.specs.Table.{edge_of};
-ghost use Rattle.mh_facts.specs.declared.work.Whole.{Whole};
+ghost use Rattle.mh_facts.specs.declared.work.CompletePath.{CompletePath};
 ghost use Rattle.mh_facts.specs.Costs.{cap};
-ghost use Rattle.mh_facts.specs.code.Rows.{Gains, Among, row_of};
-ghost use Rattle.mh_facts.specs.code.Classes.{IsClasses, place_of};
-ghost use Rattle.mh_facts.specs.code.Rules.{OnlyAt};
-ghost use Rattle.mh_reach_found.specs.code.Found.{IsFound};
-ghost use Rattle.mh_reach_found.specs.code.Spots.{ArrivedIn};
-ghost use Rattle.mh_reach_arrivals.specs.code.Arriving.{NextComing, StepsOn, StepsAlong, StepsEdge, StepsShift, StepsWay, Starts, KeepsComing, TakesAll, GoodIn, ReadyIn};
-ghost use Rattle.mh_reach_found.specs.code.Comparing.{IsTold};
-ghost use Rattle.mh_reach_arrivals.specs.code.Ordering.{AreKnown, InTurn};
-ghost use Rattle.mh_reach_words.specs.code.Rising.{Rises, Same};
+ghost use Rattle.mh_facts.specs.code.Queues.{QueueGains, Among, row_of};
+ghost use Rattle.mh_facts.specs.code.TokenClasses.{AreTokenClasses, place_of};
+ghost use Rattle.mh_facts.specs.code.SearchRules.{IsUniqueItem};
+ghost use Rattle.mh_reach_found.specs.code.SearchResult.{IsSearchResult};
+ghost use Rattle.mh_reach_found.specs.code.Arrivals.{AreLeastArrivalsFor};
+ghost use Rattle.mh_reach_arrivals.specs.code.ArrivalSearch.{TakesNextArrival, StepsOn, StepsAlong, StepsEdge, StepsShift, StepsOverGoto, IsStartArrival, KeepsUnreached, TakesAllUnreached, ArrivalInvariantFor, ArrivalsReadyFor};
+ghost use Rattle.mh_reach_found.specs.code.SentenceComparison.{HasAssignments};
+ghost use Rattle.mh_reach_arrivals.specs.code.ArrivalOrder.{AreKnownSteps, SentenceNoLater};
+ghost use Rattle.mh_reach_words.specs.code.Sorting.{IsSorted, HaveSameElements};
 
-use crate::comings::Coming;
+use crate::queued_arrivals::WaitingArrival;
 use crate::sorting::BySentence;
 use mh_facts::queue::{Queue, empty_queue, push, take};
-use mh_facts::{CAP, Classes, Whole, add_costs, add_token, class_of, list_of};
+use mh_facts::{
+    CAP, CompletePath, TokenClasses, add_costs, add_token, class_of, representatives_of,
+};
 use mh_grammar::{Edge, Memory, Symbol, Token, lost};
-use mh_reach_found::{Arrival, Arrivals, Found, Spot, Step, arrival_of, arrive_at, no_arrivals};
+use mh_reach_found::{
+    Arrival, ArrivalStep, Arrivals, SearchResult, StateAndNext, arrival_of, arrive_at, no_arrivals,
+};
 use mh_reach_words::sorted;
-use mh_tables_core::{Choice, Table, choose};
+use mh_tables_core::{NextAction, Table, choose};
 use std::alloc::Global;
 
-/// Puts an arrival in with each of some tokens to come.
+/// Queues arrivals at a state by one step, one with each of the given next tokens.
 fn push_each(
     alloc: Global,
-    queue: &mut Queue<Coming>,
+    queue: &mut Queue<WaitingArrival>,
     tokens: &[Token],
     cost: u32,
     state: u32,
-    step: Step,
+    step: ArrivalStep,
 ) -> Result<(), Memory>
-    ensures { OnOk result (Gains (Among (StepsOn cost state step) tokens.now) queue.old.buckets.items queue.new.buckets.items) }
+    ensures { OnOk result (QueueGains (Among (StepsOn cost state step) tokens.now) queue.old.buckets.items queue.new.buckets.items) }
 {
     for next in tokens {
-        let spot = Spot { state, next: *next };
-        push(alloc, queue, cost, Coming { spot, step })?;
+        let spot = StateAndNext { state, next: *next };
+        push(alloc, queue, cost, WaitingArrival { spot, step })?;
     }
     Ok(())
 }
 
-/// An arrival that is settled.
+/// A settled arrival: its spot and its cost.
 #[derive(Clone, Copy, Drop)]
-struct Settled {
-    spot: Spot,
+struct SettledArrival {
+    spot: StateAndNext,
     cost: u32,
 }
 
-/// Where a shift along an edge leads.
+/// Queues the arrivals that follow by a shift along an edge, if the edge's symbol is a token.
 fn step_edge(
     alloc: Global,
     table: &Table,
-    classes: &Classes,
-    queue: &mut Queue<Coming>,
-    from: Settled,
+    classes: &TokenClasses,
+    queue: &mut Queue<WaitingArrival>,
+    from: SettledArrival,
     edge: Edge,
 ) -> Result<(), Memory>
-    requires classes { IsClasses table.now classes.now }
+    requires classes { AreTokenClasses table.now classes.now }
     requires state { from.spot.state < length table.now.states }
     requires cost { from.cost ≤ cap }
     requires edge { edge_of table.now from.spot.state edge.symbol ≡ Some edge.target }
-    ensures { OnOk result (Gains (StepsEdge table.now classes.now from.spot from.cost edge) queue.old.buckets.items queue.new.buckets.items) }
+    ensures { OnOk result (QueueGains (StepsEdge table.now classes.now from.spot from.cost edge) queue.old.buckets.items queue.new.buckets.items) }
 {
     table.facts();
     match edge.symbol {
@@ -71,50 +77,57 @@ fn step_edge(
     }
 }
 
-/// Where a shift of a token leads.
+/// Queues the arrivals that follow by a shift of a token, if the spot has this token next.
 fn step_on(
     alloc: Global,
     table: &Table,
-    classes: &Classes,
-    queue: &mut Queue<Coming>,
-    from: Settled,
+    classes: &TokenClasses,
+    queue: &mut Queue<WaitingArrival>,
+    from: SettledArrival,
     token: Token,
 ) -> Result<(), Memory>
-    requires classes { IsClasses table.now classes.now }
+    requires classes { AreTokenClasses table.now classes.now }
     requires state { from.spot.state < length table.now.states }
     requires cost { from.cost ≤ cap }
     requires token { token < table.now.grammar.tokens }
-    ensures { OnOk result (Gains (StepsAlong table.now classes.now from.spot from.cost token) queue.old.buckets.items queue.new.buckets.items) }
+    ensures { OnOk result (QueueGains (StepsAlong table.now classes.now from.spot from.cost token) queue.old.buckets.items queue.new.buckets.items) }
 {
     table.facts();
     if class_of(table, classes, from.spot.state, token).representative != from.spot.next {
         return Ok(());
     }
     match choose(table, from.spot.state, Some(token)) {
-        Choice::Shift(end) => {
-            let step = Step::Shift {
+        NextAction::Shift(end) => {
+            let step = ArrivalStep::Shift {
                 from: from.spot,
                 token,
             };
             let cost = add_token(table, from.cost, token);
-            push_each(alloc, queue, list_of(table, classes, end), cost, end, step)
+            push_each(
+                alloc,
+                queue,
+                representatives_of(table, classes, end),
+                cost,
+                end,
+                step,
+            )
         }
         _ => Ok(()),
     }
 }
 
-/// Where shifts lead.
+/// Queues the arrivals that follow by shifts.
 fn step_shifts(
     alloc: Global,
     table: &Table,
-    classes: &Classes,
-    queue: &mut Queue<Coming>,
-    from: Settled,
+    classes: &TokenClasses,
+    queue: &mut Queue<WaitingArrival>,
+    from: SettledArrival,
 ) -> Result<(), Memory>
-    requires classes { IsClasses table.now classes.now }
+    requires classes { AreTokenClasses table.now classes.now }
     requires state { from.spot.state < length table.now.states }
     requires cost { from.cost ≤ cap }
-    ensures { OnOk result (Gains (StepsShift table.now classes.now from.spot from.cost) queue.old.buckets.items queue.new.buckets.items) }
+    ensures { OnOk result (QueueGains (StepsShift table.now classes.now from.spot from.cost) queue.old.buckets.items queue.new.buckets.items) }
 {
     table.facts();
     for edge in table.edges(from.spot.state) {
@@ -123,36 +136,36 @@ fn step_shifts(
     Ok(())
 }
 
-/// The arrival that a way over a nonterminal leads to, where it begins there.
-fn stepped(from: Settled, whole: Whole) -> Option<Coming>
-    ensures { OnlyAt (StepsWay from.spot from.cost whole) (min (from.cost + whole.cost) cap) result }
+/// The arrival that follows by a complete path and its goto, if the path begins at the spot.
+fn stepped(from: SettledArrival, whole: CompletePath) -> Option<WaitingArrival>
+    ensures { IsUniqueItem (StepsOverGoto from.spot from.cost whole) (min (from.cost + whole.cost) cap) result }
 {
     let fits = whole.inner.from == from.spot.state && whole.inner.first == from.spot.next;
     if !fits {
         return None;
     }
-    Some(Coming {
-        spot: Spot {
+    Some(WaitingArrival {
+        spot: StateAndNext {
             state: whole.target,
             next: whole.next,
         },
-        step: Step::Way {
+        step: ArrivalStep::Goto {
             from: from.spot,
             inner: whole.inner,
         },
     })
 }
 
-/// Where a way over a nonterminal leads.
+/// Queues the arrival that follows by a complete path and its goto, if the path begins at the spot.
 fn step_way(
     alloc: Global,
-    queue: &mut Queue<Coming>,
-    from: Settled,
-    whole: Whole,
+    queue: &mut Queue<WaitingArrival>,
+    from: SettledArrival,
+    whole: CompletePath,
 ) -> Result<(), Memory>
     requires cost { from.cost ≤ cap }
     requires whole { whole.cost ≤ cap }
-    ensures { OnOk result (Gains (StepsWay from.spot from.cost whole) queue.old.buckets.items queue.new.buckets.items) }
+    ensures { OnOk result (QueueGains (StepsOverGoto from.spot from.cost whole) queue.old.buckets.items queue.new.buckets.items) }
 {
     match stepped(from, whole) {
         None => Ok(()),
@@ -160,16 +173,16 @@ fn step_way(
     }
 }
 
-/// Where ways over nonterminals lead.
+/// Queues the arrivals that follow by each of the complete paths that begin at the spot.
 fn step_ways(
     alloc: Global,
-    queue: &mut Queue<Coming>,
-    from: Settled,
-    wholes: &[Whole],
+    queue: &mut Queue<WaitingArrival>,
+    from: SettledArrival,
+    wholes: &[CompletePath],
 ) -> Result<(), Memory>
     requires cost { from.cost ≤ cap }
-    requires wholes { (w : Whole) → Contains wholes.now w → w.cost ≤ cap }
-    ensures { OnOk result (Gains (Among (StepsWay from.spot from.cost) wholes.now) queue.old.buckets.items queue.new.buckets.items) }
+    requires wholes { (w : CompletePath) → Contains wholes.now w → w.cost ≤ cap }
+    ensures { OnOk result (QueueGains (Among (StepsOverGoto from.spot from.cost) wholes.now) queue.old.buckets.items queue.new.buckets.items) }
 {
     for whole in wholes {
         step_way(alloc, queue, from, *whole)?;
@@ -177,52 +190,60 @@ fn step_ways(
     Ok(())
 }
 
-/// Where an arrival leads.
+/// Queues all arrivals that follow from a settled arrival.
 fn go_on(
     alloc: Global,
     table: &Table,
-    classes: &Classes,
-    queue: &mut Queue<Coming>,
-    wholes: &[Vec<Whole>],
-    from: Settled,
+    classes: &TokenClasses,
+    queue: &mut Queue<WaitingArrival>,
+    wholes: &[Vec<CompletePath>],
+    from: SettledArrival,
 ) -> Result<(), Memory>
-    requires classes { IsClasses table.now classes.now }
+    requires classes { AreTokenClasses table.now classes.now }
     requires rows { length wholes.now ≡ classes.now.places }
-    requires few { (n : ℕ) (w : Whole) → Contains (row_of wholes.now n) w → w.cost ≤ cap }
+    requires few { (n : ℕ) (w : CompletePath) → Contains (row_of wholes.now n) w → w.cost ≤ cap }
     requires state { from.spot.state < length table.now.states }
     requires next { from.spot.next < table.now.grammar.tokens }
     requires cost { from.cost ≤ cap }
-    ensures { OnOk result (Gains (λ at o. StepsShift table.now classes.now from.spot from.cost at o ⊎ Among (StepsWay from.spot from.cost) (row_of wholes.now (place_of classes.now from.spot.state from.spot.next)) at o) queue.old.buckets.items queue.new.buckets.items) }
+    ensures { OnOk result (QueueGains (λ at o. StepsShift table.now classes.now from.spot from.cost at o ⊎ Among (StepsOverGoto from.spot from.cost) (row_of wholes.now (place_of classes.now from.spot.state from.spot.next)) at o) queue.old.buckets.items queue.new.buckets.items) }
 {
     step_shifts(alloc, table, classes, queue, from)?;
     let place = class_of(table, classes, from.spot.state, from.spot.next).place as usize;
     step_ways(alloc, queue, from, wholes[place].as_slice())
 }
 
-/// The starts, each with what may come first.
-fn starts(alloc: Global, table: &Table, classes: &Classes) -> Result<Queue<Coming>, Memory>
-    requires { IsClasses table.now classes.now }
-    ensures { IfOk result (λ queue. Gains (Starts table.now classes.now) [] queue.buckets.items) }
+/// Returns a queue of the arrivals at the beginning of each start, one for each next token.
+fn starts(
+    alloc: Global,
+    table: &Table,
+    classes: &TokenClasses,
+) -> Result<Queue<WaitingArrival>, Memory>
+    requires { AreTokenClasses table.now classes.now }
+    ensures { IfOk result (λ queue. QueueGains (IsStartArrival table.now classes.now) [] queue.buckets.items) }
 {
     table.facts();
     let mut queue = empty_queue(alloc);
     for start in 0..table.starts() {
-        let tokens = list_of(table, classes, start as u32);
+        let tokens = representatives_of(table, classes, start as u32);
         push_each(
             alloc,
             &mut queue,
             tokens,
             0,
             start as u32,
-            Step::Begin(start),
+            ArrivalStep::Begin(start),
         )?;
     }
     Ok(queue)
 }
 
-/// Takes the next arrival of a cost at a spot that is not reached; the others are dropped.
-fn next_coming(queue: &mut Queue<Coming>, arrivals: &Arrivals, cost: u32) -> Option<Coming>
-    ensures { NextComing arrivals.now.spots queue.old.buckets.items queue.new.buckets.items cost result }
+/// Takes the next arrival of a cost whose spot is not reached; drops the arrivals at spots that are reached.
+fn next_coming(
+    queue: &mut Queue<WaitingArrival>,
+    arrivals: &Arrivals,
+    cost: u32,
+) -> Option<WaitingArrival>
+    ensures { TakesNextArrival arrivals.now.spots queue.old.buckets.items queue.new.buckets.items cost result }
 {
     'items: loop {
         match take(queue, cost) {
@@ -236,9 +257,13 @@ fn next_coming(queue: &mut Queue<Coming>, arrivals: &Arrivals, cost: u32) -> Opt
     }
 }
 
-/// Adds an arrival to others, unless its spot is reached.
-fn keep_coming(all: &mut Vec<Coming>, arrivals: &Arrivals, coming: Coming) -> Result<(), Memory>
-    ensures { OnOk result (KeepsComing arrivals.now.spots coming all.old.items all.new.items) }
+/// Appends an arrival to a list, unless its spot is reached.
+fn keep_coming(
+    all: &mut Vec<WaitingArrival>,
+    arrivals: &Arrivals,
+    coming: WaitingArrival,
+) -> Result<(), Memory>
+    ensures { OnOk result (KeepsUnreached arrivals.now.spots coming all.old.items all.new.items) }
 {
     if arrival_of(arrivals, coming.spot).is_none() {
         all.push(coming)?;
@@ -246,14 +271,14 @@ fn keep_coming(all: &mut Vec<Coming>, arrivals: &Arrivals, coming: Coming) -> Re
     Ok(())
 }
 
-/// Takes all arrivals of a cost at spots that are not reached.
+/// Takes all arrivals of a cost from the queue. Returns those at spots that are not reached.
 fn take_all(
     alloc: Global,
-    queue: &mut Queue<Coming>,
+    queue: &mut Queue<WaitingArrival>,
     arrivals: &Arrivals,
     cost: u32,
-) -> Result<Vec<Coming>, Memory>
-    ensures { IfOk result (λ all. TakesAll arrivals.now.spots queue.old.buckets.items queue.new.buckets.items cost all.items) }
+) -> Result<Vec<WaitingArrival>, Memory>
+    ensures { IfOk result (λ all. TakesAllUnreached arrivals.now.spots queue.old.buckets.items queue.new.buckets.items cost all.items) }
 {
     let mut all = Vec::new(alloc);
     'items: loop {
@@ -264,19 +289,19 @@ fn take_all(
     }
 }
 
-/// Arrivals of a cost in the order of their sentences; those that are too dear come in any order.
+/// Sorts arrivals of one cost by their sentences; those of the highest cost are left in any order.
 fn ordered(
     alloc: Global,
     table: &Table,
-    found: &Found,
+    found: &SearchResult,
     arrivals: &Arrivals,
-    all: Vec<Coming>,
+    all: Vec<WaitingArrival>,
     cost: u32,
-) -> Result<Vec<Coming>, Memory>
-    requires told { IsTold table.now found.now arrivals.now.spots }
-    requires known { AreKnown found.now.store arrivals.now.spots all.items }
-    ensures same { IfOk result (λ new. Same all.items new.items) }
-    ensures rises { cost < cap → IfOk result (λ new. Rises (InTurn table.now found.now.store arrivals.now.spots) new.items) }
+) -> Result<Vec<WaitingArrival>, Memory>
+    requires told { HasAssignments table.now found.now arrivals.now.spots }
+    requires known { AreKnownSteps found.now.store arrivals.now.spots all.items }
+    ensures same { IfOk result (λ new. HaveSameElements all.items new.items) }
+    ensures rises { cost < cap → IfOk result (λ new. IsSorted (SentenceNoLater table.now found.now.store arrivals.now.spots) new.items) }
 {
     if cost >= CAP {
         return Ok(all);
@@ -290,35 +315,35 @@ fn ordered(
     sorted(alloc, &order, &mut (), all.as_slice())
 }
 
-/// Arrivals of one cost, in their order.
+/// The arrivals of one cost, in the order of their sentences.
 #[derive(Clone, Copy, Drop)]
 struct Level<'a> {
     cost: u32,
-    comings: &'a [Coming],
+    comings: &'a [WaitingArrival],
 }
 
 /// The first arrival of a level.
-fn first_of(level: &Level) -> Coming
+fn first_of(level: &Level) -> WaitingArrival
     requires { 0 < length level.now.comings.now }
     ensures { level.now.comings.now ≡ result ∷ drop 1 level.now.comings.now }
 {
     level.comings[0]
 }
 
-/// Settles the first arrival of a level, and what it leads to with the same cost.
+/// Settles the first arrival of a level, and the arrivals of the same cost that follow from it.
 fn arrive_one(
     alloc: Global,
     table: &Table,
-    classes: &Classes,
-    found: &Found,
-    second: &mut Second,
+    classes: &TokenClasses,
+    found: &SearchResult,
+    second: &mut SecondSearch,
     level: &Level,
 ) -> Result<(), Memory>
-    requires classes { IsClasses table.now classes.now }
+    requires classes { AreTokenClasses table.now classes.now }
     requires some { 0 < length level.now.comings.now }
-    requires ready { ReadyIn table.now classes.now found.now second.old.arrivals.spots second.old.queue.buckets.items level.now.cost level.now.comings.now }
+    requires ready { ArrivalsReadyFor table.now classes.now found.now second.old.arrivals.spots second.old.queue.buckets.items level.now.cost level.now.comings.now }
     requires cost { level.now.cost ≤ cap }
-    ensures { OnOk result (ReadyIn table.now classes.now found.now second.new.arrivals.spots second.new.queue.buckets.items level.now.cost (drop 1 level.now.comings.now)) }
+    ensures { OnOk result (ArrivalsReadyFor table.now classes.now found.now second.new.arrivals.spots second.new.queue.buckets.items level.now.cost (drop 1 level.now.comings.now)) }
 {
     table.facts();
     push(alloc, &mut second.queue, level.cost, first_of(level))?;
@@ -331,7 +356,7 @@ fn arrive_one(
                     step: coming.step,
                 };
                 arrive_at(&mut second.arrivals, coming.spot, arrival)?;
-                let from = Settled {
+                let from = SettledArrival {
                     spot: coming.spot,
                     cost: level.cost,
                 };
@@ -342,19 +367,19 @@ fn arrive_one(
     }
 }
 
-/// Settles the arrivals of a level.
+/// Settles all arrivals of a level, in order.
 fn arrive_each(
     alloc: Global,
     table: &Table,
-    classes: &Classes,
-    found: &Found,
-    second: &mut Second,
+    classes: &TokenClasses,
+    found: &SearchResult,
+    second: &mut SecondSearch,
     level: &Level,
 ) -> Result<(), Memory>
-    requires classes { IsClasses table.now classes.now }
-    requires ready { ReadyIn table.now classes.now found.now second.old.arrivals.spots second.old.queue.buckets.items level.now.cost level.now.comings.now }
+    requires classes { AreTokenClasses table.now classes.now }
+    requires ready { ArrivalsReadyFor table.now classes.now found.now second.old.arrivals.spots second.old.queue.buckets.items level.now.cost level.now.comings.now }
     requires cost { level.now.cost ≤ cap }
-    ensures { OnOk result (GoodIn table.now classes.now found.now second.new.arrivals.spots second.new.queue.buckets.items (level.now.cost + 1) []) }
+    ensures { OnOk result (ArrivalInvariantFor table.now classes.now found.now second.new.arrivals.spots second.new.queue.buckets.items (level.now.cost + 1) []) }
 {
     table.facts();
     for place in 0..level.comings.len() {
@@ -367,19 +392,19 @@ fn arrive_each(
     Ok(())
 }
 
-/// Settles all arrivals of a cost.
+/// Settles all arrivals of one cost, and the arrivals of the same cost that follow from them.
 fn arrive_level(
     alloc: Global,
     table: &Table,
-    classes: &Classes,
-    found: &Found,
-    second: &mut Second,
+    classes: &TokenClasses,
+    found: &SearchResult,
+    second: &mut SecondSearch,
     cost: u32,
 ) -> Result<(), Memory>
-    requires classes { IsClasses table.now classes.now }
-    requires good { GoodIn table.now classes.now found.now second.old.arrivals.spots second.old.queue.buckets.items cost [] }
+    requires classes { AreTokenClasses table.now classes.now }
+    requires good { ArrivalInvariantFor table.now classes.now found.now second.old.arrivals.spots second.old.queue.buckets.items cost [] }
     requires cost { cost ≤ cap }
-    ensures { OnOk result (GoodIn table.now classes.now found.now second.new.arrivals.spots second.new.queue.buckets.items (cost + 1) []) }
+    ensures { OnOk result (ArrivalInvariantFor table.now classes.now found.now second.new.arrivals.spots second.new.queue.buckets.items (cost + 1) []) }
 {
     table.facts();
     let all = take_all(alloc, &mut second.queue, &second.arrivals, cost)?;
@@ -391,24 +416,24 @@ fn arrive_level(
     arrive_each(alloc, table, classes, found, second, &level)
 }
 
-/// What the second search keeps.
+/// The working data of the second search: the settled arrivals and the queue.
 #[derive(Drop)]
-struct Second {
+struct SecondSearch {
     arrivals: Arrivals,
-    queue: Queue<Coming>,
+    queue: Queue<WaitingArrival>,
 }
 
-/// Settles one level after another until nothing waits.
+/// Settles one level after another until no arrival waits.
 fn arrive_all(
     alloc: Global,
     table: &Table,
-    classes: &Classes,
-    found: &Found,
-    second: &mut Second,
+    classes: &TokenClasses,
+    found: &SearchResult,
+    second: &mut SecondSearch,
 ) -> Result<(), Memory>
-    requires classes { IsClasses table.now classes.now }
-    requires good { GoodIn table.now classes.now found.now second.old.arrivals.spots second.old.queue.buckets.items 0 [] }
-    ensures { OnOk result (ArrivedIn table.now classes.now found.now second.new.arrivals.spots) }
+    requires classes { AreTokenClasses table.now classes.now }
+    requires good { ArrivalInvariantFor table.now classes.now found.now second.old.arrivals.spots second.old.queue.buckets.items 0 [] }
+    ensures { OnOk result (AreLeastArrivalsFor table.now classes.now found.now second.new.arrivals.spots) }
 {
     table.facts();
     for cost in 0..CAP + 1 {
@@ -421,27 +446,27 @@ fn arrive_all(
     Ok(())
 }
 
-/// The arrivals; the queue is let go.
-fn arrivals_in(second: Second) -> Arrivals
+/// Returns the settled arrivals and drops the queue.
+fn arrivals_in(second: SecondSearch) -> Arrivals
     ensures { result ≡ second.arrivals }
 {
     second.arrivals
 }
 
-/// Each state and token to come that a run reaches, with the first of the sentences of least cost. Fails for want of
-/// memory alone.
+/// Finds, for each state and next token that a run reaches, the first of the sentences of least cost: by start and then
+/// lexicographically. Fails for want of memory alone.
 pub fn arrive(
     alloc: Global,
     table: &Table,
-    classes: &Classes,
-    found: &Found,
+    classes: &TokenClasses,
+    found: &SearchResult,
 ) -> Result<Arrivals, Memory>
-    requires classes { IsClasses table.now classes.now }
-    requires found { IsFound table.now classes.now found.now }
-    ensures { IfOk result (λ arrivals. ArrivedIn table.now classes.now found.now arrivals.spots) }
+    requires classes { AreTokenClasses table.now classes.now }
+    requires found { IsSearchResult table.now classes.now found.now }
+    ensures { IfOk result (λ arrivals. AreLeastArrivalsFor table.now classes.now found.now arrivals.spots) }
 {
     table.facts();
-    let mut second = Second {
+    let mut second = SecondSearch {
         queue: starts(alloc, table, classes)?,
         arrivals: no_arrivals(alloc),
     };

@@ -1,8 +1,9 @@
-//! The second search: how states are reached, each with a token to come, by what the first search found.
+//! The second search: the least sentence by which each state is reached with each next token, from the result of the
+//! first search.
 #![tactic(auto)]
 
 pub mod arrive;
-mod comings;
+mod queued_arrivals;
 mod sorting;
 
-pub use mh_reach_found::{Arrivals, Spot, Step, arrival_of, comes_later};
+pub use mh_reach_found::{ArrivalStep, Arrivals, StateAndNext, arrival_of, comes_later};

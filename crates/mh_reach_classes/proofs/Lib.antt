@@ -1,5 +1,5 @@
-mod Alike
-mod Noting
-mod Parting
-mod Pasting
-mod Rowed
+mod TreatsAlike
+mod ReductionSets
+mod IsPartition
+mod AllReductions
+mod RowOfClasses

@@ -1,2 +1,2 @@
-pub mod Classing
-pub mod Past
+pub mod ClassRows
+pub mod Reductions

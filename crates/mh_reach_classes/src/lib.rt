@@ -1,7 +1,8 @@
-//! Tokens that a state's past cannot tell apart: which reductions lie in it, and the classes that they part the tokens into.
+//! Token classes of states: the reductions that lead to each state, and the classes of tokens that those reductions
+//! treat alike.
 #![tactic(auto)]
 
-mod classing;
-mod past;
+mod leading_reductions;
+mod token_classes;
 
-pub use classing::classes_of;
+pub use token_classes::classes_of;

@@ -1,7 +1,7 @@
-pub mod Compared
-pub mod Queueing
-pub mod Telling
-pub mod Labelling
-pub mod Spots
-pub mod Tracing
-pub mod Walking
+pub mod WordComparison
+pub mod QueueDraws
+pub mod AllNumbered
+pub mod LabelOrder
+pub mod StateAndNextKeys
+pub mod SentenceParts
+pub mod LabelTrace

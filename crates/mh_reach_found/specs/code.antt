@@ -1,6 +1,6 @@
-pub mod Drawn
-pub mod Found
-pub mod Numbers
-pub mod Tails
-pub mod Comparing
-pub mod Spots
+pub mod QueueDraws
+pub mod SearchResult
+pub mod WordNumbers
+pub mod WordComparison
+pub mod SentenceComparison
+pub mod Arrivals

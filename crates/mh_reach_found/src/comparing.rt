@@ -1,38 +1,43 @@
-//! Sentences of arrivals, compared by their starts and then by the numbers of their tokens: no sentence is written out.
+//! The comparison of the sentences of arrivals, by start and then lexicographically, without writing the sentences out.
+//! An arrival is the way in which a spot, a state with a next token, is reached.
 ghost use Rattle.std.specs.Prelude.{◌≡◌, [], IfOk, OnOk, Some};
-ghost use Rattle.mh_reach_found.specs.code.Comparing.{ArePartsOf, ComesLater, HasSentence, IsKnown, IsTold, from_of, part_of};
+ghost use Rattle.mh_reach_found.specs.code.SentenceComparison.{ArePartsOf, ComesLater, HasSentence, IsKnownStep, HasAssignments, from_of, part_of};
 
-use crate::arrivals::{Arrivals, Spot, Step, arrival_of};
-use crate::found::Found;
-use crate::tails::{Part, Rests, is_later};
+use crate::arrivals::{ArrivalStep, Arrivals, StateAndNext, arrival_of};
+use crate::search_result::SearchResult;
+use crate::word_comparison::{Rests, WordPart, is_later};
 use mh_grammar::Memory;
 use mh_tables_core::Table;
 use std::alloc::Global;
 
-/// What a step adds to a sentence. The number of the start comes before all tokens, so that starts are compared
+/// The part that a step appends to a sentence. The number of the start is the first part, so that starts are compared
 /// first.
-fn part_of(step: Step) -> Part
+fn part_of(step: ArrivalStep) -> WordPart
     ensures { result ≡ part_of step }
 {
     match step {
-        Step::Begin(start) => Part::Token(start),
-        Step::Shift { token, .. } => Part::Token(token),
-        Step::Way { inner, .. } => Part::Fact(inner),
+        ArrivalStep::Begin(start) => WordPart::Token(start),
+        ArrivalStep::Shift { token, .. } => WordPart::Token(token),
+        ArrivalStep::Goto { inner, .. } => WordPart::Fact(inner),
     }
 }
 
-/// The spot that a step comes from.
-fn from_of(step: Step) -> Option<Spot>
+/// The spot that a step comes from, none for the beginning of a run.
+fn from_of(step: ArrivalStep) -> Option<StateAndNext>
     ensures { result ≡ from_of step }
 {
     match step {
-        Step::Begin(_) => None,
-        Step::Shift { from, .. } | Step::Way { from, .. } => Some(from),
+        ArrivalStep::Begin(_) => None,
+        ArrivalStep::Shift { from, .. } | ArrivalStep::Goto { from, .. } => Some(from),
     }
 }
 
-/// The parts of the sentence of a step, found from its end; the first part lies on top.
-fn put_parts(arrivals: &Arrivals, parts: &mut Vec<Part>, step: Step) -> Result<(), Memory>
+/// Pushes the parts of a step's sentence, from its end to its beginning, so that the first part is on top.
+fn put_parts(
+    arrivals: &Arrivals,
+    parts: &mut Vec<WordPart>,
+    step: ArrivalStep,
+) -> Result<(), Memory>
     requires empty { parts.old.items ≡ [] }
     requires known { HasSentence arrivals.now.spots step }
     ensures { OnOk result (ArePartsOf arrivals.now.spots step parts.new.items) }
@@ -50,18 +55,19 @@ fn put_parts(arrivals: &Arrivals, parts: &mut Vec<Part>, step: Step) -> Result<(
     }
 }
 
-/// Whether the sentence of the left step comes later. Fails for want of memory alone.
+/// Whether the sentence of the left step comes later, by start and then lexicographically. Fails for want of memory
+/// alone.
 pub fn comes_later(
     alloc: Global,
     table: &Table,
-    found: &Found,
+    found: &SearchResult,
     arrivals: &Arrivals,
-    left: Step,
-    right: Step,
+    left: ArrivalStep,
+    right: ArrivalStep,
 ) -> Result<bool, Memory>
-    requires told { IsTold table.now found.now arrivals.now.spots }
-    requires left { IsKnown found.now.store arrivals.now.spots left }
-    requires right { IsKnown found.now.store arrivals.now.spots right }
+    requires told { HasAssignments table.now found.now arrivals.now.spots }
+    requires left { IsKnownStep found.now.store arrivals.now.spots left }
+    requires right { IsKnownStep found.now.store arrivals.now.spots right }
     ensures { IfOk result (ComesLater table.now found.now.store arrivals.now.spots left right) }
 {
     let mut rests = Rests {

@@ -1,15 +1,18 @@
-//! What the first search leaves, and words of settled facts compared by it.
+//! The result of the first search, and the comparison of the words of settled facts.
 //!
-//! How states are reached, each with a token to come, by what the second search found; the sentences of arrivals compared.
+//! Also the arrivals of the second search: how each state is reached with each next token, and the comparison of the
+//! sentences of arrivals.
 #![tactic(auto)]
 
 mod arrivals;
 mod comparing;
-mod found;
 mod numbers;
-mod tails;
+mod search_result;
+mod word_comparison;
 
-pub use arrivals::{Arrival, Arrivals, Spot, Step, arrival_of, arrive_at, no_arrivals};
+pub use arrivals::{
+    Arrival, ArrivalStep, Arrivals, StateAndNext, arrival_of, arrive_at, no_arrivals,
+};
 pub use comparing::comes_later;
-pub use found::Found;
-pub use numbers::{EMPTY, Numbering, number_of, token_before};
+pub use numbers::{EMPTY, WordNumbering, number_of, token_before};
+pub use search_result::SearchResult;

@@ -1,7 +1,7 @@
-//! The numbers of the words of settled facts.
+//! The numbers of the words of settled facts. A fact is settled when it is stored with its least word.
 ghost use Rattle.std.specs.Prelude.{◌≡◌};
-ghost use Rattle.mh_reach_found.specs.code.Numbers.{IsPlaced};
-ghost use Rattle.mh_facts.specs.code.Tales.{before_dot, listed};
+ghost use Rattle.mh_reach_found.specs.code.WordNumbers.{IsNumberOfFact};
+ghost use Rattle.mh_facts.specs.code.WordAssignment.{before_dot, listed};
 
 use mh_facts::{FactKey, FactStore};
 use mh_grammar::{Symbol, Token};
@@ -11,16 +11,17 @@ use mh_tables_core::Table;
 /// The number of the empty word.
 pub const EMPTY: usize = 0;
 
-/// The words of the settled facts.
+/// The words of the settled facts, and their numbers.
 #[derive(Drop)]
-pub struct Numbering {
-    /// For each settled fact, in their order, the number of its word. Words that are too dear have none.
+pub struct WordNumbering {
+    /// The number of each settled fact's word, in the order of the facts. The entries of facts of the highest cost have
+    /// no meaning.
     pub numbers: Vec<usize>,
-    /// The words. Their groups are their costs.
+    /// The words. The group of a word is its cost.
     pub book: Book,
 }
 
-/// The token before the dot.
+/// The token before the dot of a key, if the symbol there is a token.
 #[tactic(auto, unfolding(mh_grammar::specs::Plain::rhs_of))]
 pub fn token_before(table: &Table, key: FactKey) -> Option<Token>
     ensures { listed result ≡ before_dot table.now key }
@@ -39,8 +40,8 @@ pub fn token_before(table: &Table, key: FactKey) -> Option<Token>
 }
 
 /// The number of a settled fact's word.
-pub fn number_of(store: &FactStore, numbering: &Numbering, key: &FactKey) -> usize
-    ensures { IsPlaced store.now numbering.now key.now result }
+pub fn number_of(store: &FactStore, numbering: &WordNumbering, key: &FactKey) -> usize
+    ensures { IsNumberOfFact store.now numbering.now key.now result }
 {
     match store.place(key) {
         None => EMPTY,

@@ -1,4 +1,5 @@
--- A level of the search, from its beginning to its end.
+-- Lemmas on a level of the search, from its beginning to its end: the items of one cost. An item is a fact that waits
+-- in the queue.
 use Rattle.std.proofs.Common.{◌≡◌, ℕ, zero, suc, drop, Some, None, ◌+◌, inl, inr, List, [], ◌∷◌, Option, refl, ap, sym, arith, ◌∙◌}
 use Rattle.std.specs.Prelude.{slice_get}
 use Rattle.std.specs.List.{Contains}
@@ -8,33 +9,33 @@ use Rattle.mh_tables_core.specs.Table.{TableData}
 use Rattle.mh_tables_core.specs.Facts.{Facts}
 use Rattle.mh_facts.specs.declared.store.FactKey.{FactKey}
 use Rattle.mh_facts.specs.Stored.{Facts as Stored}
-use Rattle.mh_facts.specs.code.Least.{Pending}
+use Rattle.mh_facts.specs.code.BestFirst.{IsPending}
 use Rattle.mh_facts.specs.Costs.{cap}
-use Rattle.mh_facts.specs.declared.work.Item.{Item}
-use Rattle.mh_facts.specs.declared.work.Work.{Work}
-use Rattle.mh_facts.specs.declared.classes.Classes.{Classes}
-use Rattle.mh_facts.specs.code.Rows.{Waits, Gains, IsOne}
-use Rattle.mh_facts.specs.code.Classes.{IsClasses, rep_of}
-use Rattle.mh_facts.specs.code.Rules.{queue_of}
-use Rattle.mh_facts.specs.code.Tales.{NoLater, WordBy}
-use Rattle.mh_reach_paths.specs.code.Good.{IsDone, NoneIsNext, InQueue, Waiting, ItemOk, Good, IsRising, InOrder, LevelReady, AllTaken}
-use Rattle.mh_reach_found.proofs.Queueing.{moves_taken, moves_sorted, moves_pushed, moves_drained, moves_higher, above}
-use Rattle.mh_facts.proofs.Wording.{word_one, order_laws, cheaper, over}
-use Rattle.mh_reach_paths.proofs.Turns.{SameBeside, good_moves}
+use Rattle.mh_facts.specs.declared.work.QueuedFact.{QueuedFact}
+use Rattle.mh_facts.specs.declared.work.SearchData.{SearchData}
+use Rattle.mh_facts.specs.declared.classes.TokenClasses.{TokenClasses}
+use Rattle.mh_facts.specs.code.Queues.{Waits, QueueGains, IsOne}
+use Rattle.mh_facts.specs.code.TokenClasses.{AreTokenClasses, rep_of}
+use Rattle.mh_facts.specs.code.SearchRules.{queue_of}
+use Rattle.mh_facts.specs.code.WordAssignment.{WordNoLater, WordBy}
+use Rattle.mh_reach_paths.specs.code.LevelInvariant.{IsItemSettled, NoUnsettledLeft, WaitsWithWord, Waiting, IsSoundItem, LevelInvariant, AreSortedByWord, LevelInOrder, LevelReady, TakesAllUnsettled}
+use Rattle.mh_reach_found.proofs.QueueDraws.{moves_taken, moves_sorted, moves_pushed, moves_drained, moves_higher, above}
+use Rattle.mh_facts.proofs.WordAssignment.{word_one, order_laws, no_later_if_cheaper, no_later_at_cap}
+use Rattle.mh_reach_paths.proofs.SearchSteps.{EqualButQueue, invariant_moves}
 
-module _ (t : TableData) (f : Facts t) (c : Classes) (cls : IsClasses t c) (facts : Stored) (old : Work) (level : ℕ) where
-  -- what waited with the level's cost waits beside the queue
-  unfoldable pub level_taken : (mid : Work) (all : List Item) → Good t c facts old level [] → SameBeside old mid → AllTaken facts (queue_of old) (queue_of mid) level all → Good t c facts mid level all
-  level_taken mid all good same taken = let m = moves_taken (IsDone facts) (queue_of old) (queue_of mid) level all taken in good_moves t f c cls facts old level [] good mid all same m.on m.back
+module _ (t : TableData) (f : Facts t) (c : TokenClasses) (cls : AreTokenClasses t c) (facts : Stored) (old : SearchData) (level : ℕ) where
+  -- The items of the level's cost are moved from the queue to a separate list.
+  unfoldable pub level_taken : (mid : SearchData) (all : List QueuedFact) → LevelInvariant t c facts old level [] → EqualButQueue old mid → TakesAllUnsettled facts (queue_of old) (queue_of mid) level all → LevelInvariant t c facts mid level all
+  level_taken mid all good same taken = let m = moves_taken (IsItemSettled facts) (queue_of old) (queue_of mid) level all taken in invariant_moves t f c cls facts old level [] good mid all same m.on m.back
 
-  -- the same items beside it, in another order
-  unfoldable pub level_sorted : (xs ys : List Item) → Good t c facts old level xs → ((o : Item) → Contains xs o → Contains ys o) → ((o : Item) → Contains ys o → Contains xs o) → Good t c facts old level ys
+  -- The separate list is reordered.
+  unfoldable pub level_sorted : (xs ys : List QueuedFact) → LevelInvariant t c facts old level xs → ((o : QueuedFact) → Contains xs o → Contains ys o) → ((o : QueuedFact) → Contains ys o → Contains xs o) → LevelInvariant t c facts old level ys
   level_sorted xs ys good kept only =
-      let m = moves_sorted (IsDone facts) (queue_of old) level xs ys (record { kept = kept; only = only }) in
-      good_moves t f c cls facts old level xs good old ys (record { paths = refl; wholes = refl; known = refl }) m.on m.back
+      let m = moves_sorted (IsItemSettled facts) (queue_of old) level xs ys (record { kept = kept; only = only }) in
+      invariant_moves t f c cls facts old level xs good old ys (record { paths = refl; wholes = refl; known = refl }) m.on m.back
 
-  -- words that are too dear rise in any order
-  pub rises_over : (words : FactKey → Option (List ℕ)) → level ≡ cap → (ys : List Item) → ((o : Item) → Contains ys o → ItemOk t (rep_of c) words level o) → IsRising t words ys
+  -- Items of the highest cost are sorted in any order.
+  pub rises_over : (words : FactKey → Option (List ℕ)) → level ≡ cap → (ys : List QueuedFact) → ((o : QueuedFact) → Contains ys o → IsSoundItem t (rep_of c) words level o) → AreSortedByWord t words ys
   rises_over words top [] each = tt
   rises_over words top (y ∷ ys) each = (
     λ o u v there by by'.
@@ -42,24 +43,24 @@ module _ (t : TableData) (f : Facts t) (c : Classes) (cls : IsClasses t c) (fact
         let b = each o (contains_there y ys o there) in
         let e : u ≡ a.word = word_one t words y.key y.back u a.word by a.by in
         let g : v ≡ b.word = word_one t words o.key o.back v b.word by' b.by in
-        rw (e, g) (over t a.word b.word (sym top ∙ a.cost_is) (sym top ∙ b.cost_is)),
+        rw (e, g) (no_later_at_cap t a.word b.word (sym top ∙ a.cost_is) (sym top ∙ b.cost_is)),
     rises_over words top ys (λ o there. each o (contains_there y ys o there)),
   )
 
-  -- the next item goes into the queue
-  unfoldable pub level_pushed : (mid : Work) (x : Item) (xs : List Item) → LevelReady t c facts old level (x ∷ xs) → SameBeside old mid → Gains (IsOne level x) (queue_of old) (queue_of mid) → InOrder t c facts mid level xs
-  unfolding good_moves
+  -- The next item of the separate list is moved to the queue.
+  unfoldable pub level_pushed : (mid : SearchData) (x : QueuedFact) (xs : List QueuedFact) → LevelReady t c facts old level (x ∷ xs) → EqualButQueue old mid → QueueGains (IsOne level x) (queue_of old) (queue_of mid) → LevelInOrder t c facts mid level xs
+  unfolding invariant_moves
   level_pushed mid x xs ready same gains = record {
-    good = let m = moves_pushed (IsDone facts) (queue_of old) (queue_of mid) level x xs gains in good_moves t f c cls facts old level (x ∷ xs) ready.good mid xs same m.on m.back;
+    good = let m = moves_pushed (IsItemSettled facts) (queue_of old) (queue_of mid) level x xs gains in invariant_moves t f c cls facts old level (x ∷ xs) ready.good mid xs same m.on m.back;
     flat = flat;
     rising = ready.rising.1;
   }
     where
-      here : ItemOk t (rep_of c) ready.good.tale.words level x
+      here : IsSoundItem t (rep_of c) ready.good.tale.words level x
       here = ready.good.items level x (inr (refl, (0, omega arith, refl)))
 
-      -- x comes no later than all that waits
-      first : (i : Item) (cost : ℕ) (u v : List ℕ) → Waiting mid level xs cost i → WordBy t ready.good.tale.words x.key x.back u → WordBy t ready.good.tale.words i.key i.back v → NoLater t u v
+      -- The item x comes no later than all items that wait.
+      first : (i : QueuedFact) (cost : ℕ) (u v : List ℕ) → Waiting mid level xs cost i → WordBy t ready.good.tale.words x.key x.back u → WordBy t ready.good.tale.words i.key i.back v → WordNoLater t u v
       first i cost u v (inl there) by by' = elim (gains.only cost i there) [
         | inl was ↦ (
             let ok = ready.good.items cost i (inl was) in
@@ -67,7 +68,7 @@ module _ (t : TableData) (f : Facts t) (c : Classes) (cls : IsClasses t c) (fact
             let e : u ≡ here.word = word_one t ready.good.tale.words x.key x.back u here.word by here.by in
             let g : v ≡ ok.word = word_one t ready.good.tale.words i.key i.back v ok.word by' ok.by in
             elim (cases_lt level cost) [
-              | inl lt ↦ rw (e, g) (cheaper t here.word ok.word level cost here.cost_is ok.cost_is lt)
+              | inl lt ↦ rw (e, g) (no_later_if_cheaper t here.word ok.word level cost here.cost_is ok.cost_is lt)
               | inr ge ↦ absurd (ready.none i (let same : cost ≡ level = omega arith in rw same at was))
             ])
         | inr is ↦ (
@@ -77,23 +78,23 @@ module _ (t : TableData) (f : Facts t) (c : Classes) (cls : IsClasses t c) (fact
       ]
       first i cost u v (inr beside) by by' = ready.rising.0 i u v beside.1 by by'
 
-      flat : (o i : Item) (cost : ℕ) (u v : List ℕ) → Waits (queue_of mid) level o → Waiting mid level xs cost i → WordBy t ready.good.tale.words o.key o.back u → WordBy t ready.good.tale.words i.key i.back v → NoLater t u v
+      flat : (o i : QueuedFact) (cost : ℕ) (u v : List ℕ) → Waits (queue_of mid) level o → Waiting mid level xs cost i → WordBy t ready.good.tale.words o.key o.back u → WordBy t ready.good.tale.words i.key i.back v → WordNoLater t u v
       flat o i cost u v there waits by by' = elim (gains.only level o there) [
         | inl was ↦ absurd (ready.none o was)
         | inr is ↦ first i cost u v waits (rw is.1 at by) by'
       ]
 
-  -- nothing of the level is left in the queue
-  unfoldable pub level_drained : (mid : Work) (xs : List Item) → InOrder t c facts old level xs → SameBeside old mid → NoneIsNext facts (queue_of old) (queue_of mid) level → LevelReady t c facts mid level xs
-  unfolding good_moves
+  -- The queue has no item of the level left.
+  unfoldable pub level_drained : (mid : SearchData) (xs : List QueuedFact) → LevelInOrder t c facts old level xs → EqualButQueue old mid → NoUnsettledLeft facts (queue_of old) (queue_of mid) level → LevelReady t c facts mid level xs
+  unfolding invariant_moves
   level_drained mid xs order same next = record {
-    good = let m = moves_drained (IsDone facts) (queue_of old) (queue_of mid) level xs next in good_moves t f c cls facts old level xs order.good mid xs same m.on m.back;
+    good = let m = moves_drained (IsItemSettled facts) (queue_of old) (queue_of mid) level xs next in invariant_moves t f c cls facts old level xs order.good mid xs same m.on m.back;
     none = next.none;
     rising = order.rising;
   }
 
-  -- the level is done
-  unfoldable pub level_done : LevelReady t c facts old level [] → Good t c facts old (level + 1) []
+  -- The level is finished.
+  unfoldable pub level_done : LevelReady t c facts old level [] → LevelInvariant t c facts old (level + 1) []
   level_done ready =
       let good = ready.good in
       record {
@@ -119,18 +120,18 @@ module _ (t : TableData) (f : Facts t) (c : Classes) (cls : IsClasses t c) (fact
         filed = good.filed;
       }
     where
-      was : (cost : ℕ) (i : Item) → Waiting old (level + 1) [] cost i → Waiting old level [] cost i
-      was = (moves_higher (IsDone facts) (queue_of old) level).back
+      was : (cost : ℕ) (i : QueuedFact) → Waiting old (level + 1) [] cost i → Waiting old level [] cost i
+      was = (moves_higher (IsItemSettled facts) (queue_of old) level).back
 
-      waits : (cost : ℕ) (i : Item) → Waiting old level [] cost i → Waiting old (level + 1) [] cost i
+      waits : (cost : ℕ) (i : QueuedFact) → Waiting old level [] cost i → Waiting old (level + 1) [] cost i
       waits cost i (inl there) = inl there
       waits cost i (inr beside) = absurd (contains_none i beside.1)
 
-      next : {k : FactKey} {u : List ℕ} → Pending (NoLater t) ready.good.tale.words (InQueue t ready.good.tale.words (Waiting old level [])) k u → Pending (NoLater t) ready.good.tale.words (InQueue t ready.good.tale.words (Waiting old (level + 1) [])) k u
+      next : {k : FactKey} {u : List ℕ} → IsPending (WordNoLater t) ready.good.tale.words (WaitsWithWord t ready.good.tale.words (Waiting old level [])) k u → IsPending (WordNoLater t) ready.good.tale.words (WaitsWithWord t ready.good.tale.words (Waiting old (level + 1) [])) k u
       next (inl held) = inl held
       next (inr w) = inr (w.0, ((w.1).0, (w.1).1, waits (w.1).0 (w.1).1 (w.1).2, (w.1).3, (w.1).4), w.2)
 
--- the front of a list is taken off
+-- The remaining elements of a list, from index n on, are the element at n and the elements after it.
 pub drop_get : {X : Type 0} (xs : List X) (n : ℕ) (x : X) → slice_get xs n ≡ Some x → drop n xs ≡ x ∷ drop (n + 1) xs
 drop_get {X = X} [] n x e = absurd (let y : None ≡ Some x = e in cc)
 drop_get {X = X} (y ∷ xs) zero x e = let z : y ≡ x = (let w : Some y ≡ Some x = e in cc) in ap (λ (w : X). w ∷ xs) z

@@ -1,5 +1,5 @@
-pub mod Adding
-pub mod Begins
-pub mod Good
+pub mod GotoFacts
+pub mod EmptyPaths
+pub mod LevelInvariant
 pub mod Numbering
-pub mod Ranking
+pub mod Levels

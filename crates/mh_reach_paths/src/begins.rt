@@ -1,24 +1,27 @@
 //! The facts of empty paths, with which the search begins.
 ghost use Rattle.std.specs.Prelude.{◌≡◌, ◌<◌, ℕ, [], OnOk, IfOk, length};
 ghost use Rattle.mh_grammar.specs.declared.types.Symbol.TheVariants.{N};
-ghost use Rattle.mh_facts.specs.code.Rows.{Gains, Among, row_of};
-ghost use Rattle.mh_facts.specs.code.Classes.{IsClasses};
-ghost use Rattle.mh_facts.specs.code.Rules.{IsEmptyItem};
-ghost use Rattle.mh_facts.specs.code.Left.{IsByLeft};
-ghost use Rattle.mh_reach_paths.specs.code.Begins.{IsBegun, EmptyOn, BeginsOn, BeginsBehind, AllBegin, empty_item};
+ghost use Rattle.mh_facts.specs.code.Queues.{QueueGains, Among, row_of};
+ghost use Rattle.mh_facts.specs.code.TokenClasses.{AreTokenClasses};
+ghost use Rattle.mh_facts.specs.code.SearchRules.{IsEmptyItem};
+ghost use Rattle.mh_facts.specs.code.ByLeftSide.{IsByLeftSide};
+ghost use Rattle.mh_reach_paths.specs.code.EmptyPaths.{IsBegun, EmptyOn, BeginsOn, BeginsOverEdge, IsEmptyPath, empty_item};
 
 use mh_facts::queue::{Queue, empty_queue, push};
-use mh_facts::{Back, ByLeft, Classes, FactKey, Item, Work, by_left_side, list_of, productions_of};
+use mh_facts::{
+    Back, ByLeftSide, FactKey, QueuedFact, SearchData, TokenClasses, by_left_side, productions_of,
+    representatives_of,
+};
 use mh_grammar::{Edge, Memory, Symbol, Token};
 use mh_tables_core::Table;
 use std::alloc::Global;
 use std::collections::HashSet;
 
-/// The fact of an empty path.
-fn empty_at(from: u32, production: u32, token: Token) -> Item
+/// The fact of an empty path, with one token that is both the first and the next one.
+fn empty_at(from: u32, production: u32, token: Token) -> QueuedFact
     ensures { result ≡ empty_item from production token }
 {
-    Item {
+    QueuedFact {
         key: FactKey {
             from,
             production,
@@ -31,15 +34,15 @@ fn empty_at(from: u32, production: u32, token: Token) -> Item
     }
 }
 
-/// The empty paths of a state and a production.
+/// Queues the empty paths of a production from a state, one for each token.
 fn begin_one(
     alloc: Global,
-    queue: &mut Queue<Item>,
+    queue: &mut Queue<QueuedFact>,
     tokens: &[Token],
     from: u32,
     production: u32,
 ) -> Result<(), Memory>
-    ensures { OnOk result (Gains (Among (EmptyOn from production) tokens.now) queue.old.buckets.items queue.new.buckets.items) }
+    ensures { OnOk result (QueueGains (Among (EmptyOn from production) tokens.now) queue.old.buckets.items queue.new.buckets.items) }
 {
     for token in tokens {
         push(alloc, queue, 0, empty_at(from, production, *token))?;
@@ -47,15 +50,15 @@ fn begin_one(
     Ok(())
 }
 
-/// The empty paths of a state and some productions.
+/// Queues the empty paths of the given productions from a state.
 fn begin_on(
     alloc: Global,
-    queue: &mut Queue<Item>,
+    queue: &mut Queue<QueuedFact>,
     tokens: &[Token],
     from: u32,
     productions: &[u32],
 ) -> Result<(), Memory>
-    ensures { OnOk result (Gains (Among (BeginsOn from tokens.now) productions.now) queue.old.buckets.items queue.new.buckets.items) }
+    ensures { OnOk result (QueueGains (Among (BeginsOn from tokens.now) productions.now) queue.old.buckets.items queue.new.buckets.items) }
 {
     for production in productions {
         begin_one(alloc, queue, tokens, from, *production)?;
@@ -63,17 +66,17 @@ fn begin_on(
     Ok(())
 }
 
-/// The empty paths of a state after an edge.
-fn begin_behind(
+/// Queues the empty paths of the productions of an edge's nonterminal.
+fn begin_edge(
     alloc: Global,
-    queue: &mut Queue<Item>,
-    left: &ByLeft,
+    queue: &mut Queue<QueuedFact>,
+    left: &ByLeftSide,
     tokens: &[Token],
     from: u32,
     edge: Edge,
 ) -> Result<(), Memory>
     requires { (n : ℕ) → edge.symbol ≡ N n → n < length left.now.rows.items }
-    ensures { OnOk result (Gains (BeginsBehind from tokens.now left.now edge) queue.old.buckets.items queue.new.buckets.items) }
+    ensures { OnOk result (QueueGains (BeginsOverEdge from tokens.now left.now edge) queue.old.buckets.items queue.new.buckets.items) }
 {
     match edge.symbol {
         Symbol::T(_) => Ok(()),
@@ -90,27 +93,27 @@ fn begin_behind(
     }
 }
 
-/// The empty paths of a state.
+/// Queues the empty paths from a state.
 fn begin_in(
     alloc: Global,
     table: &Table,
-    classes: &Classes,
-    queue: &mut Queue<Item>,
-    left: &ByLeft,
+    classes: &TokenClasses,
+    queue: &mut Queue<QueuedFact>,
+    left: &ByLeftSide,
     from: u32,
 ) -> Result<(), Memory>
-    requires classes { IsClasses table.now classes.now }
-    requires left { IsByLeft table.now left.now }
+    requires classes { AreTokenClasses table.now classes.now }
+    requires left { IsByLeftSide table.now left.now }
     requires from { from < length table.now.states }
-    ensures { OnOk result (Gains (IsEmptyItem table.now classes.now from) queue.old.buckets.items queue.new.buckets.items) }
+    ensures { OnOk result (QueueGains (IsEmptyItem table.now classes.now from) queue.old.buckets.items queue.new.buckets.items) }
 {
     table.facts();
     for edge in table.edges(from) {
-        begin_behind(
+        begin_edge(
             alloc,
             queue,
             left,
-            list_of(table, classes, from),
+            representatives_of(table, classes, from),
             from,
             *edge,
         )?;
@@ -118,10 +121,14 @@ fn begin_in(
     Ok(())
 }
 
-/// The empty paths of all states.
-fn begin_all(alloc: Global, table: &Table, classes: &Classes) -> Result<Queue<Item>, Memory>
-    requires { IsClasses table.now classes.now }
-    ensures { IfOk result (λ queue. Gains (AllBegin table.now classes.now) [] queue.buckets.items) }
+/// Returns a queue of the empty paths from all states.
+fn begin_all(
+    alloc: Global,
+    table: &Table,
+    classes: &TokenClasses,
+) -> Result<Queue<QueuedFact>, Memory>
+    requires { AreTokenClasses table.now classes.now }
+    ensures { IfOk result (λ queue. QueueGains (IsEmptyPath table.now classes.now) [] queue.buckets.items) }
 {
     let left = by_left_side(alloc, table)?;
     let mut queue = empty_queue(alloc);
@@ -131,7 +138,7 @@ fn begin_all(alloc: Global, table: &Table, classes: &Classes) -> Result<Queue<It
     Ok(queue)
 }
 
-/// Empty rows.
+/// Returns the given number of empty rows.
 fn empty_rows<X: Drop>(alloc: Global, places: u32) -> Result<Vec<Vec<X>>, Memory>
     ensures rows { IfOk result (λ rows. length rows.items ≡ places) }
     ensures none { IfOk result (λ rows. (n : ℕ) → row_of rows.items n ≡ []) }
@@ -143,15 +150,15 @@ fn empty_rows<X: Drop>(alloc: Global, places: u32) -> Result<Vec<Vec<X>>, Memory
     Ok(rows)
 }
 
-/// What the search begins with. Fails for want of memory alone.
-pub fn begin(alloc: Global, table: &Table, classes: &Classes) -> Result<Work, Memory>
-    requires { IsClasses table.now classes.now }
+/// The working data at the beginning of the search. Fails for want of memory alone.
+pub fn begin(alloc: Global, table: &Table, classes: &TokenClasses) -> Result<SearchData, Memory>
+    requires { AreTokenClasses table.now classes.now }
     ensures { IfOk result (IsBegun table.now classes.now) }
 {
     let queue = begin_all(alloc, table, classes)?;
     let paths = empty_rows(alloc, classes.places)?;
     let wholes = empty_rows(alloc, classes.places)?;
-    Ok(Work {
+    Ok(SearchData {
         queue,
         paths,
         wholes,

@@ -1,72 +1,74 @@
-//! What follows from settled facts.
+//! The rules of the search: the facts that follow from settled facts. A fact is settled when it is stored with its
+//! least word.
 ghost use Rattle.std.specs.Prelude.{◌≡◌, ◌<◌, ◌≤◌, ◌↔◌, ◌+◌, ◌^◌, ◌∷◌, [], IfOk, IsTrue, OnOk, false, length, min, slice_get, Some};
 ghost use Rattle.mh_grammar.specs.declared.types.Symbol.TheVariants.{T, N};
 ghost use Rattle.mh_grammar.specs.Plain.{rhs_of, lhs_of};
 ghost use Rattle.mh_tables_core.specs.Table.{edge_of};
 ghost use Rattle.mh_facts.specs.Costs.{cap};
 ghost use Rattle.std.specs.List.{Contains};
-ghost use Rattle.mh_facts.specs.declared.work.Whole.{Whole};
-ghost use Rattle.mh_facts.specs.declared.work.Path.{Path};
-ghost use Rattle.mh_facts.specs.code.Rows.{Gains, Among, Files};
-ghost use Rattle.mh_facts.specs.code.Classes.{IsClasses, rep_of, place_of};
-ghost use Rattle.mh_facts.specs.code.Rules.{InRange, FollowsShift, FollowsWay, OnlyAt, HasRows, IsReady, Expanded, whole_of, wholes_at};
-ghost use Rattle.mh_tables_core.specs.Run.{Reduces, move_of};
-ghost use Rattle.mh_reach_paths.specs.code.Adding.{WithNext, Adds, MeetsOn};
-ghost use Rattle.mh_facts.specs.code.Rows.{Collects};
-ghost use Rattle.mh_facts.specs.code.Classes.{list_at};
+ghost use Rattle.mh_facts.specs.declared.work.CompletePath.{CompletePath};
+ghost use Rattle.mh_facts.specs.declared.work.SettledFact.{SettledFact};
+ghost use Rattle.mh_facts.specs.code.Queues.{QueueGains, Among, AddsToRow};
+ghost use Rattle.mh_facts.specs.code.TokenClasses.{AreTokenClasses, rep_of, place_of};
+ghost use Rattle.mh_facts.specs.code.SearchRules.{InRange, FollowsShift, FollowsGoto, IsUniqueItem, HasRows, IsReady, ExpandsFact, complete_path, complete_paths_at};
+ghost use Rattle.mh_tables_core.specs.Run.{Reduces, run_move_of};
+ghost use Rattle.mh_reach_paths.specs.code.GotoFacts.{WithNext, AddsGoto, AddsGotos};
+ghost use Rattle.mh_facts.specs.code.Queues.{ListGains};
+ghost use Rattle.mh_facts.specs.code.TokenClasses.{representatives_at};
 
 use mh_facts::queue::{Queue, push};
 use mh_facts::{
-    Back, Classes, FactKey, Item, Path, Way, Whole, Work, add_costs, add_token, class_of, list_of,
+    Back, CompletePath, FactKey, GotoFact, QueuedFact, SearchData, SettledFact, TokenClasses,
+    add_costs, add_token, class_of, representatives_of,
 };
 use mh_grammar::{Memory, Symbol, Token};
-use mh_tables_core::{Choice, Table, choose};
+use mh_tables_core::{NextAction, Table, choose};
 use std::alloc::Global;
 use std::collections::HashSet;
 
-/// Puts an item in with each of some tokens after.
+/// Queues copies of an item, one with each of the given next tokens.
 fn push_each(
     alloc: Global,
-    queue: &mut Queue<Item>,
+    queue: &mut Queue<QueuedFact>,
     tokens: &[Token],
     cost: u32,
-    item: Item,
+    item: QueuedFact,
 ) -> Result<(), Memory>
-    ensures { OnOk result (Gains (Among (WithNext cost item) tokens.now) queue.old.buckets.items queue.new.buckets.items) }
+    ensures { OnOk result (QueueGains (Among (WithNext cost item) tokens.now) queue.old.buckets.items queue.new.buckets.items) }
 {
     for next in tokens {
         let key = FactKey {
             next: *next,
             ..item.key
         };
-        push(alloc, queue, cost, Item { key, ..item })?;
+        push(alloc, queue, cost, QueuedFact { key, ..item })?;
     }
     Ok(())
 }
 
-/// What follows where the token after a path's end is shifted.
+/// Queues the extensions of a path by a shift of the token after its dot, if the path has this token next.
 fn shift(
     alloc: Global,
     table: &Table,
-    classes: &Classes,
-    queue: &mut Queue<Item>,
-    path: Path,
+    classes: &TokenClasses,
+    queue: &mut Queue<QueuedFact>,
+    path: SettledFact,
     token: Token,
 ) -> Result<(), Memory>
-    requires classes { IsClasses table.now classes.now }
+    requires classes { AreTokenClasses table.now classes.now }
     requires path { InRange table.now path }
     requires symbol { slice_get (rhs_of table.now.grammar path.key.production) path.key.dot ≡ Some (T token) }
     requires token { token < table.now.grammar.tokens }
     requires room { path.key.dot + 1 < 2 ^ 32 }
-    ensures { OnOk result (Gains (FollowsShift table.now (rep_of classes.now) path) queue.old.buckets.items queue.new.buckets.items) }
+    ensures { OnOk result (QueueGains (FollowsShift table.now (rep_of classes.now) path) queue.old.buckets.items queue.new.buckets.items) }
 {
     table.facts();
     if class_of(table, classes, path.end, token).representative != path.key.next {
         return Ok(());
     }
     match choose(table, path.end, Some(token)) {
-        Choice::Shift(end) => {
-            let item = Item {
+        NextAction::Shift(end) => {
+            let item = QueuedFact {
                 key: FactKey {
                     dot: path.key.dot + 1,
                     ..path.key
@@ -75,17 +77,23 @@ fn shift(
                 back: Back::Shifted(path.key),
             };
             let cost = add_token(table, path.cost, token);
-            push_each(alloc, queue, list_of(table, classes, end), cost, item)?;
+            push_each(
+                alloc,
+                queue,
+                representatives_of(table, classes, end),
+                cost,
+                item,
+            )?;
             Ok(())
         }
         _ => Ok(()),
     }
 }
 
-/// The fact that a path and a way after it lead to.
-fn joined(table: &Table, path: Path, whole: Whole) -> Option<Item>
+/// The extension of a path by a goto, if the goto begins where the path ends.
+fn joined(table: &Table, path: SettledFact, whole: CompletePath) -> Option<QueuedFact>
     requires { InRange table.now path }
-    ensures { OnlyAt (FollowsWay table.now path whole) (min (path.cost + whole.cost) cap) result }
+    ensures { IsUniqueItem (FollowsGoto table.now path whole) (min (path.cost + whole.cost) cap) result }
 {
     table.facts();
     if path.key.dot >= table.length_of(path.key.production) {
@@ -97,7 +105,7 @@ fn joined(table: &Table, path: Path, whole: Whole) -> Option<Item>
     if !fits {
         return None;
     }
-    Some(Item {
+    Some(QueuedFact {
         key: FactKey {
             dot: path.key.dot + 1,
             next: whole.next,
@@ -111,17 +119,17 @@ fn joined(table: &Table, path: Path, whole: Whole) -> Option<Item>
     })
 }
 
-/// What follows from a path and a way after it.
+/// Queues the extension of a path by a goto, if the two fit.
 fn join(
     alloc: Global,
     table: &Table,
-    queue: &mut Queue<Item>,
-    path: Path,
-    whole: Whole,
+    queue: &mut Queue<QueuedFact>,
+    path: SettledFact,
+    whole: CompletePath,
 ) -> Result<(), Memory>
     requires path { InRange table.now path }
     requires whole { whole.cost ≤ cap }
-    ensures { OnOk result (Gains (FollowsWay table.now path whole) queue.old.buckets.items queue.new.buckets.items) }
+    ensures { OnOk result (QueueGains (FollowsGoto table.now path whole) queue.old.buckets.items queue.new.buckets.items) }
 {
     match joined(table, path, whole) {
         None => Ok(()),
@@ -132,17 +140,17 @@ fn join(
     }
 }
 
-/// What follows from a path and each of some ways.
+/// Queues the extensions of a path by each of the gotos that fit.
 fn join_ways(
     alloc: Global,
     table: &Table,
-    queue: &mut Queue<Item>,
-    path: Path,
-    wholes: &[Whole],
+    queue: &mut Queue<QueuedFact>,
+    path: SettledFact,
+    wholes: &[CompletePath],
 ) -> Result<(), Memory>
     requires path { InRange table.now path }
-    requires wholes { (w : Whole) → Contains wholes.now w → w.cost ≤ cap }
-    ensures { OnOk result (Gains (Among (FollowsWay table.now path) wholes.now) queue.old.buckets.items queue.new.buckets.items) }
+    requires wholes { (w : CompletePath) → Contains wholes.now w → w.cost ≤ cap }
+    ensures { OnOk result (QueueGains (Among (FollowsGoto table.now path) wholes.now) queue.old.buckets.items queue.new.buckets.items) }
 {
     for whole in wholes {
         join(alloc, table, queue, path, *whole)?;
@@ -150,17 +158,17 @@ fn join_ways(
     Ok(())
 }
 
-/// What follows from each of some paths and a way.
+/// Queues the extensions by a goto of each of the paths that fit.
 fn join_paths(
     alloc: Global,
     table: &Table,
-    queue: &mut Queue<Item>,
-    paths: &[Path],
-    whole: Whole,
+    queue: &mut Queue<QueuedFact>,
+    paths: &[SettledFact],
+    whole: CompletePath,
 ) -> Result<(), Memory>
-    requires paths { (p : Path) → Contains paths.now p → InRange table.now p }
+    requires paths { (p : SettledFact) → Contains paths.now p → InRange table.now p }
     requires whole { whole.cost ≤ cap }
-    ensures { OnOk result (Gains (Among (λ path. FollowsWay table.now path whole) paths.now) queue.old.buckets.items queue.new.buckets.items) }
+    ensures { OnOk result (QueueGains (Among (λ path. FollowsGoto table.now path whole) paths.now) queue.old.buckets.items queue.new.buckets.items) }
 {
     for path in paths {
         join(alloc, table, queue, *path, whole)?;
@@ -168,19 +176,20 @@ fn join_paths(
     Ok(())
 }
 
-/// A path before a nonterminal meets the ways that begin at its end, and is filed.
+/// Stores a path that has a nonterminal after its dot in its row, and queues its extensions by the gotos that begin at
+/// its end.
 fn meet_path(
     alloc: Global,
     table: &Table,
-    classes: &Classes,
-    work: &mut Work,
-    path: Path,
+    classes: &TokenClasses,
+    work: &mut SearchData,
+    path: SettledFact,
 ) -> Result<(), Memory>
-    requires classes { IsClasses table.now classes.now }
+    requires classes { AreTokenClasses table.now classes.now }
     requires ready { IsReady table.now classes.now work.old }
     requires path { InRange table.now path }
-    ensures queue { OnOk result (Gains (Among (FollowsWay table.now path) (wholes_at work.old (place_of classes.now path.end path.key.next))) work.old.queue.buckets.items work.new.queue.buckets.items) }
-    ensures paths { OnOk result (Files work.old.paths.items work.new.paths.items (place_of classes.now path.end path.key.next) path) }
+    ensures queue { OnOk result (QueueGains (Among (FollowsGoto table.now path) (complete_paths_at work.old (place_of classes.now path.end path.key.next))) work.old.queue.buckets.items work.new.queue.buckets.items) }
+    ensures paths { OnOk result (AddsToRow work.old.paths.items work.new.paths.items (place_of classes.now path.end path.key.next) path) }
     ensures wholes { OnOk result (work.new.wholes.items ≡ work.old.wholes.items) }
     ensures known { OnOk result (work.new.known.keys ≡ work.old.known.keys) }
 {
@@ -196,15 +205,15 @@ fn meet_path(
     Ok(())
 }
 
-/// Whether a whole path is reduced in front of a token.
-fn reduces(table: &Table, classes: &Classes, inner: Path, next: Token) -> bool
-    requires classes { IsClasses table.now classes.now }
+/// Whether a complete path is reduced on a token, and the token is in the class of the path's next token.
+fn reduces(table: &Table, classes: &TokenClasses, inner: SettledFact, next: Token) -> bool
+    requires classes { AreTokenClasses table.now classes.now }
     requires inner { InRange table.now inner }
     requires next { next < table.now.grammar.tokens }
-    ensures { IsTrue result ↔ ((move_of table.now inner.end (next ∷ []) ≡ Reduces inner.key.production) × (rep_of classes.now inner.end next ≡ inner.key.next)) }
+    ensures { IsTrue result ↔ ((run_move_of table.now inner.end (next ∷ []) ≡ Reduces inner.key.production) × (rep_of classes.now inner.end next ≡ inner.key.next)) }
 {
     match choose(table, inner.end, Some(next)) {
-        Choice::Reduce(production) => {
+        NextAction::Reduce(production) => {
             production == inner.key.production
                 && class_of(table, classes, inner.end, next).representative == inner.key.next
         }
@@ -212,38 +221,38 @@ fn reduces(table: &Table, classes: &Classes, inner: Path, next: Token) -> bool
     }
 }
 
-/// Puts a way in. Whether it was not known.
-fn note_way(known: &mut HashSet<Way>, way: Way) -> Result<bool, Memory>
-    ensures notes { OnOk result (Collects (λ k. k ≡ way) known.old.keys known.new.keys) }
+/// Records a goto fact. Returns whether it is new.
+fn note_way(known: &mut HashSet<GotoFact>, way: GotoFact) -> Result<bool, Memory>
+    ensures notes { OnOk result (ListGains (λ k. k ≡ way) known.old.keys known.new.keys) }
     ensures same { IfOk result (λ fresh. fresh ≡ false → known.new.keys ≡ known.old.keys) }
 {
     let fresh = known.insert(way)?;
     Ok(fresh)
 }
 
-/// A way, where its whole fact goes over it and none like it is known, meets the paths before its nonterminal, and is
-/// filed.
+/// Records the goto fact of a complete path, if the path is reduced on the next token and the goto fact is new, and
+/// queues the extensions of all paths that wait for it.
 fn meet_way(
     alloc: Global,
     table: &Table,
-    classes: &Classes,
-    work: &mut Work,
-    inner: Path,
-    whole: Whole,
+    classes: &TokenClasses,
+    work: &mut SearchData,
+    inner: SettledFact,
+    whole: CompletePath,
 ) -> Result<(), Memory>
-    requires classes { IsClasses table.now classes.now }
+    requires classes { AreTokenClasses table.now classes.now }
     requires rows { HasRows table.now classes.now work.old }
     requires inner { InRange table.now inner }
     requires complete { inner.key.dot ≡ length (rhs_of table.now.grammar inner.key.production) }
-    requires whole { whole ≡ whole_of table.now inner whole.target whole.next }
+    requires whole { whole ≡ complete_path table.now inner whole.target whole.next }
     requires edge { edge_of table.now inner.key.from (N whole.nonterminal) ≡ Some whole.target }
-    requires listed { Contains (list_at classes.now whole.target) whole.next }
-    ensures { OnOk result (Adds table.now classes.now work.old work.new inner whole) }
+    requires listed { Contains (representatives_at classes.now whole.target) whole.next }
+    ensures { OnOk result (AddsGoto table.now classes.now work.old work.new inner whole) }
 {
     if !reduces(table, classes, inner, whole.next) {
         return Ok(());
     }
-    let way = Way {
+    let way = GotoFact {
         from: whole.inner.from,
         nonterminal: whole.nonterminal,
         first: whole.inner.first,
@@ -264,26 +273,26 @@ fn meet_way(
     Ok(())
 }
 
-/// A whole fact gives a way over its nonterminal in front of each token on which it is reduced.
+/// Records the goto facts of a complete path, one for each representative of the target on which the path is reduced.
 fn meet_whole(
     alloc: Global,
     table: &Table,
-    classes: &Classes,
-    work: &mut Work,
-    inner: Path,
+    classes: &TokenClasses,
+    work: &mut SearchData,
+    inner: SettledFact,
     target: u32,
 ) -> Result<(), Memory>
-    requires classes { IsClasses table.now classes.now }
+    requires classes { AreTokenClasses table.now classes.now }
     requires rows { HasRows table.now classes.now work.old }
     requires inner { InRange table.now inner }
     requires complete { inner.key.dot ≡ length (rhs_of table.now.grammar inner.key.production) }
     requires edge { edge_of table.now inner.key.from (N (lhs_of table.now.grammar inner.key.production)) ≡ Some target }
-    ensures { OnOk result (MeetsOn table.now classes.now work.old work.new inner target (list_at classes.now target)) }
+    ensures { OnOk result (AddsGotos table.now classes.now work.old work.new inner target (representatives_at classes.now target)) }
 {
     table.facts();
     let nonterminal = table.lhs_of(inner.key.production);
-    for next in list_of(table, classes, target) {
-        let whole = Whole {
+    for next in representatives_of(table, classes, target) {
+        let whole = CompletePath {
             inner: inner.key,
             nonterminal,
             target,
@@ -295,19 +304,19 @@ fn meet_whole(
     Ok(())
 }
 
-/// Files a settled fact, and puts in what follows from it and those that were settled before it. Fails for want of
-/// memory alone.
+/// Stores a settled fact in its row, and queues all facts that follow from it and the facts settled before. Fails for
+/// want of memory alone.
 pub fn expand(
     alloc: Global,
     table: &Table,
-    classes: &Classes,
-    work: &mut Work,
-    path: Path,
+    classes: &TokenClasses,
+    work: &mut SearchData,
+    path: SettledFact,
 ) -> Result<(), Memory>
-    requires classes { IsClasses table.now classes.now }
+    requires classes { AreTokenClasses table.now classes.now }
     requires ready { IsReady table.now classes.now work.old }
     requires path { InRange table.now path }
-    ensures { OnOk result (Expanded table.now classes.now work.old work.new path) }
+    ensures { OnOk result (ExpandsFact table.now classes.now work.old work.new path) }
 {
     table.facts();
     if path.key.dot >= table.length_of(path.key.production) {

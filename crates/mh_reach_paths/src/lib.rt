@@ -1,4 +1,4 @@
-//! The best-first search for facts: each path that a run goes along, with the first of its words of least cost.
+//! The first search, best-first (Pottier 2016): for each path of a run, the first of its words of least cost.
 #![tactic(auto)]
 
 mod begins;

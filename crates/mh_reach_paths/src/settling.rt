@@ -1,31 +1,33 @@
-//! Facts are settled in order of their costs.
+//! The main loop of the search: facts are settled, that is, stored with their least words, in order of their costs, and
+//! facts of one cost in order of their words.
 ghost use Rattle.std.specs.Prelude.{◌≡◌, ◌↔◌, IsTrue, ◌≤◌, ◌<◌, ◌+◌, [], OnOk, IfOk, Some, drop, length, slice_get};
-ghost use Rattle.mh_facts.specs.Stored.{last_of};
+ghost use Rattle.mh_facts.specs.Stored.{highest_cost};
 ghost use Rattle.mh_facts.specs.Costs.{cap};
-ghost use Rattle.mh_facts.specs.code.Classes.{IsClasses};
-ghost use Rattle.mh_reach_found.specs.code.Found.{IsFound};
-ghost use Rattle.mh_reach_paths.specs.code.Good.{SettlesNext, KeepsNew, AllTaken};
-ghost use Rattle.mh_reach_paths.specs.code.Ranking.{BeforeLevel, InLevel};
+ghost use Rattle.mh_facts.specs.code.TokenClasses.{AreTokenClasses};
+ghost use Rattle.mh_reach_found.specs.code.SearchResult.{IsSearchResult};
+ghost use Rattle.mh_reach_paths.specs.code.LevelInvariant.{SettlesNext, KeepsNew, TakesAllUnsettled};
+ghost use Rattle.mh_reach_paths.specs.code.Levels.{BeforeLevel, InLevel};
 
 use crate::begins::begin;
 use crate::joins::expand;
 use crate::numbering::numbers_of;
-use crate::ranking::{Ranked, in_order};
+use crate::ranking::{RankedFact, in_order};
 use mh_facts::queue::{Queue, push, take};
-use mh_facts::{CAP, Classes, FactStore, Item, Path};
+use mh_facts::{CAP, FactStore, QueuedFact, SettledFact, TokenClasses};
 use mh_grammar::Memory;
-use mh_reach_found::{Found, Numbering};
+use mh_reach_found::{SearchResult, WordNumbering};
 use mh_reach_words::Book;
 use mh_tables_core::Table;
 use std::alloc::Global;
 
-/// Takes the next item of a cost that is not stored, and stores it; those that are stored are dropped.
+/// Takes the next item of a cost from the queue whose key has no fact yet, and stores its fact; drops the items whose
+/// keys have one.
 fn settle_next(
-    queue: &mut Queue<Item>,
+    queue: &mut Queue<QueuedFact>,
     store: &mut FactStore,
     cost: u32,
-) -> Result<Option<Item>, Memory>
-    requires { last_of store.old ≤ cost }
+) -> Result<Option<QueuedFact>, Memory>
+    requires { highest_cost store.old ≤ cost }
     ensures { IfOk result (SettlesNext store.old store.new queue.old.buckets.items queue.new.buckets.items cost) }
 {
     'items: loop {
@@ -40,8 +42,8 @@ fn settle_next(
     }
 }
 
-/// Puts an item in, where it is not stored.
-fn keep_new(all: &mut Vec<Item>, store: &FactStore, item: Item) -> Result<(), Memory>
+/// Appends an item to a list, unless its key has a fact.
+fn keep_new(all: &mut Vec<QueuedFact>, store: &FactStore, item: QueuedFact) -> Result<(), Memory>
     ensures { OnOk result (KeepsNew store.now item all.old.items all.new.items) }
 {
     if store.place(&item.key).is_none() {
@@ -50,14 +52,14 @@ fn keep_new(all: &mut Vec<Item>, store: &FactStore, item: Item) -> Result<(), Me
     Ok(())
 }
 
-/// Takes all that waits with a cost and is not stored.
+/// Takes all items of a cost from the queue. Returns those whose keys have no fact yet.
 fn all_new(
     alloc: Global,
-    queue: &mut Queue<Item>,
+    queue: &mut Queue<QueuedFact>,
     store: &FactStore,
     cost: u32,
-) -> Result<Vec<Item>, Memory>
-    ensures { IfOk result (λ all. AllTaken store.now queue.old.buckets.items queue.new.buckets.items cost all.items) }
+) -> Result<Vec<QueuedFact>, Memory>
+    ensures { IfOk result (λ all. TakesAllUnsettled store.now queue.old.buckets.items queue.new.buckets.items cost all.items) }
 {
     let mut all = Vec::new(alloc);
     'items: loop {
@@ -68,31 +70,31 @@ fn all_new(
     }
 }
 
-/// Items of one cost, in their order.
+/// The items of one cost, in the order of their words.
 #[derive(Clone, Copy, Drop)]
 struct Level<'a> {
     cost: u32,
-    items: &'a [Ranked],
+    items: &'a [RankedFact],
 }
 
-/// An item of a level.
-fn ranked_at(level: &Level, place: usize) -> Ranked
+/// The item at an index.
+fn ranked_at(level: &Level, place: usize) -> RankedFact
     requires { place < length level.now.items.now }
     ensures { slice_get level.now.items.now place ≡ Some result }
 {
     level.items[place]
 }
 
-/// Settles one item of a level, and what follows from it with the same cost, which has the same word.
+/// Settles one item of a level, and the facts of the same cost that follow from it; these have the same word.
 fn settle_one(
     alloc: Global,
     table: &Table,
-    classes: &Classes,
-    found: &mut Found,
+    classes: &TokenClasses,
+    found: &mut SearchResult,
     level: &Level,
     place: usize,
 ) -> Result<(), Memory>
-    requires classes { IsClasses table.now classes.now }
+    requires classes { AreTokenClasses table.now classes.now }
     requires place { place < length level.now.items.now }
     requires ready { InLevel table.now classes.now found.old level.now.cost (drop place level.now.items.now) }
     requires cost { level.now.cost ≤ cap }
@@ -106,7 +108,7 @@ fn settle_one(
             None => return Ok(()),
             Some(item) => {
                 found.numbering.numbers.push(ranked.word)?;
-                let path = Path {
+                let path = SettledFact {
                     key: item.key,
                     end: item.end,
                     cost: level.cost,
@@ -117,15 +119,15 @@ fn settle_one(
     }
 }
 
-/// Settles the items of a level.
+/// Settles all items of a level, in order.
 fn settle_each(
     alloc: Global,
     table: &Table,
-    classes: &Classes,
-    found: &mut Found,
+    classes: &TokenClasses,
+    found: &mut SearchResult,
     level: &Level,
 ) -> Result<(), Memory>
-    requires classes { IsClasses table.now classes.now }
+    requires classes { AreTokenClasses table.now classes.now }
     requires ready { InLevel table.now classes.now found.old level.now.cost level.now.items.now }
     requires cost { level.now.cost ≤ cap }
     ensures { OnOk result (BeforeLevel table.now classes.now found.new (level.now.cost + 1)) }
@@ -137,15 +139,15 @@ fn settle_each(
     Ok(())
 }
 
-/// Settles all that waits with a cost, and what follows from it with the same cost.
+/// Settles all items of one cost, and the facts of the same cost that follow from them.
 fn settle_level(
     alloc: Global,
     table: &Table,
-    classes: &Classes,
-    found: &mut Found,
+    classes: &TokenClasses,
+    found: &mut SearchResult,
     cost: u32,
 ) -> Result<(), Memory>
-    requires classes { IsClasses table.now classes.now }
+    requires classes { AreTokenClasses table.now classes.now }
     requires before { BeforeLevel table.now classes.now found.old cost }
     requires cost { cost ≤ cap }
     ensures { OnOk result (BeforeLevel table.now classes.now found.new (cost + 1)) }
@@ -167,27 +169,27 @@ fn settle_level(
     settle_each(alloc, table, classes, found, &Level { cost, items })
 }
 
-/// Whether nothing waits with a cost or with a higher one.
-fn is_done(found: &Found, cost: u32) -> bool
+/// Whether no item of this or a higher cost waits.
+fn is_done(found: &SearchResult, cost: u32) -> bool
     ensures { IsTrue result ↔ (length found.now.work.queue.buckets.items ≤ cost) }
 {
     found.work.queue.buckets.len() <= cost as usize
 }
 
-/// Each path that a run goes along with the least cost of its words, and of the words of that cost the first: the one that has the
-/// lower number at the first place where it differs from another. Fails for want of memory alone.
-pub fn search(alloc: Global, table: &Table, classes: &Classes) -> Result<Found, Memory>
-    requires { IsClasses table.now classes.now }
-    ensures { IfOk result (λ found. IsFound table.now classes.now found) }
+/// Finds, for each path of a run, the least cost of its words, and the lexicographically first word of that cost. Fails
+/// for want of memory alone.
+pub fn search(alloc: Global, table: &Table, classes: &TokenClasses) -> Result<SearchResult, Memory>
+    requires { AreTokenClasses table.now classes.now }
+    ensures { IfOk result (λ found. IsSearchResult table.now classes.now found) }
 {
     table.facts();
     let work = begin(alloc, table, classes)?;
     let store = FactStore::new(alloc);
-    let numbering = Numbering {
+    let numbering = WordNumbering {
         numbers: Vec::new(alloc),
         book: Book::new(alloc),
     };
-    let mut found = Found {
+    let mut found = SearchResult {
         store,
         work,
         numbering,

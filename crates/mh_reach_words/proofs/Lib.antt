@@ -1,8 +1,8 @@
-mod Extending
-mod Giving
-mod Growing
-pub mod Listing
-mod Parts
-mod Runs
-mod Turning
-pub mod Ordered
+mod NumberAll
+mod IsNumberedUpTo
+mod LongerBook
+pub mod MergeSort
+mod PartStacks
+mod PutsRun
+mod IsComparisonStep
+pub mod ComparisonOrder

@@ -1,4 +1,4 @@
-pub mod Compared
-pub mod Numbered
-pub mod Rising
+pub mod Comparison
+pub mod Numbering
+pub mod Sorting
 pub mod Words

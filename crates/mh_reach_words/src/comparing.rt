@@ -1,22 +1,22 @@
-//! Two words compared from their fronts, through what they are made of: no word is written out.
+//! The lexicographic comparison of two words by their parts, without writing the words out.
 ghost use Rattle.std.specs.Prelude.{◌≡◌, ◌<◌, ◌++◌, ◌∷◌, [], IfOk, OnOk, length, slice_get};
-ghost use Rattle.mh_reach_words.specs.code.Compared.{AreTops, IsCompared, IsEntryOf, IsTold, Opens, TakesTop, Turns, top_of};
-ghost use Rattle.mh_reach_words.specs.code.Words.{IsSound, Knows, group_of, spelled, words_of};
-ghost use Rattle.mh_reach_words.specs.declared.made.Last.TheVariants as lasts;
+ghost use Rattle.mh_reach_words.specs.code.Comparison.{AreTops, IsComparison, IsEntryOf, IsTokenComparison, ReplacesByParts, TakesTop, IsComparisonStep, top_of};
+ghost use Rattle.mh_reach_words.specs.code.Words.{AreSoundEntries, HasParts, group_of, spelled, words_of};
+ghost use Rattle.mh_reach_words.specs.declared.word_parts.LastPart.TheVariants as lasts;
 
-use crate::made::{Entry, Last, Made};
+use crate::word_parts::{BookEntry, LastPart, WordParts};
 use mh_grammar::{Memory, Token};
 use std::alloc::Global;
 use std::cmp::Ordering;
 
-/// The rests of two words, the first part of each on top.
+/// The parts of two words that are still to be compared, as two stacks with the first part on top.
 #[derive(Drop)]
 pub struct Rests {
-    pub left: Vec<Last>,
-    pub right: Vec<Last>,
+    pub left: Vec<LastPart>,
+    pub right: Vec<LastPart>,
 }
 
-/// No parts on either side.
+/// Two empty stacks.
 pub fn no_rests(alloc: Global) -> Rests {
     Rests {
         left: Vec::new(alloc),
@@ -24,24 +24,24 @@ pub fn no_rests(alloc: Global) -> Rests {
     }
 }
 
-/// Puts what a word is made of on top of other parts.
-fn put_parts(parts: &mut Vec<Last>, made: Made) -> Result<(), Memory>
+/// Pushes the parts of a word.
+fn put_parts(parts: &mut Vec<LastPart>, made: WordParts) -> Result<(), Memory>
     ensures { OnOk result (parts.new.items ≡ (parts.old.items ++ made.last ∷ []) ++ lasts.Word made.front ∷ []) }
 {
     parts.push(made.last)?;
-    parts.push(Last::Word(made.front))?;
+    parts.push(LastPart::Word(made.front))?;
     Ok(())
 }
 
-/// The entry at a place.
-fn get(entries: &[Entry], place: usize) -> Option<Entry>
+/// The entry at an index, if there is one.
+fn get(entries: &[BookEntry], place: usize) -> Option<BookEntry>
     ensures { result ≡ slice_get entries.now place }
 {
     entries.get(place).copied()
 }
 
-/// What a word is made of; the empty one is of nothing.
-fn entry_at(entries: &[Entry], number: usize) -> Option<Entry>
+/// The entry of a word, none for the empty word.
+fn entry_at(entries: &[BookEntry], number: usize) -> Option<BookEntry>
     requires { number < length (words_of entries.now) }
     ensures { IsEntryOf entries.now number result }
 {
@@ -52,7 +52,7 @@ fn entry_at(entries: &[Entry], number: usize) -> Option<Entry>
 }
 
 /// The group of a word.
-fn group_at(entries: &[Entry], number: usize) -> u32
+fn group_at(entries: &[BookEntry], number: usize) -> u32
     requires { number < length (words_of entries.now) }
     ensures { result ≡ group_of (words_of entries.now) number }
 {
@@ -62,11 +62,11 @@ fn group_at(entries: &[Entry], number: usize) -> u32
     }
 }
 
-/// Puts what a word is made of on top of other parts in its place; the empty word goes.
-fn open(entries: &[Entry], parts: &mut Vec<Last>, number: usize) -> Result<(), Memory>
-    requires sound { IsSound entries.now }
+/// Pushes the parts of the word of a number; the empty word has none.
+fn open(entries: &[BookEntry], parts: &mut Vec<LastPart>, number: usize) -> Result<(), Memory>
+    requires sound { AreSoundEntries entries.now }
     requires known { number < length (words_of entries.now) }
-    ensures { OnOk result (Opens (words_of entries.now) number parts.old.items parts.new.items) }
+    ensures { OnOk result (ReplacesByParts (words_of entries.now) number parts.old.items parts.new.items) }
 {
     match entry_at(entries, number) {
         None => Ok(()),
@@ -74,8 +74,8 @@ fn open(entries: &[Entry], parts: &mut Vec<Last>, number: usize) -> Result<(), M
     }
 }
 
-/// Puts a part back, where there is one.
-fn put_back(parts: &mut Vec<Last>, part: Option<Last>) -> Result<(), Memory>
+/// Pushes a part back, if there is one.
+fn put_back(parts: &mut Vec<LastPart>, part: Option<LastPart>) -> Result<(), Memory>
     ensures { OnOk result (parts.new.items ≡ parts.old.items ++ top_of part) }
 {
     if let Some(part) = part {
@@ -84,9 +84,9 @@ fn put_back(parts: &mut Vec<Last>, part: Option<Last>) -> Result<(), Memory>
     Ok(())
 }
 
-/// What two tokens say of the order.
-fn told(one: Token, two: Token) -> Option<Ordering>
-    ensures { IsTold one two result }
+/// The order of two tokens, none if they are equal.
+fn compare_tokens(one: Token, two: Token) -> Option<Ordering>
+    ensures { IsTokenComparison one two result }
 {
     if one < two {
         return Some(Ordering::Less);
@@ -97,47 +97,48 @@ fn told(one: Token, two: Token) -> Option<Ordering>
     None
 }
 
-/// Puts the left part back, where there is one, and opens the right one.
+/// Pushes the left part back, if there is one, and replaces the right word by its parts.
 fn open_right(
-    entries: &[Entry],
+    entries: &[BookEntry],
     rests: &mut Rests,
-    left: Option<Last>,
+    left: Option<LastPart>,
     right: usize,
 ) -> Result<(), Memory>
-    requires sound { IsSound entries.now }
+    requires sound { AreSoundEntries entries.now }
     requires tops { AreTops (words_of entries.now) rests.old left (Some (lasts.Word right)) }
-    ensures { OnOk result (Turns (words_of entries.now) rests.old rests.new left (Some (lasts.Word right)) None) }
+    ensures { OnOk result (IsComparisonStep (words_of entries.now) rests.old rests.new left (Some (lasts.Word right)) None) }
 {
     put_back(&mut rests.left, left)?;
     open(entries, &mut rests.right, right)
 }
 
-/// Puts the right part back, where there is one, and opens the left one.
+/// Pushes the right part back, if there is one, and replaces the left word by its parts.
 fn open_left(
-    entries: &[Entry],
+    entries: &[BookEntry],
     rests: &mut Rests,
     left: usize,
-    right: Option<Last>,
+    right: Option<LastPart>,
 ) -> Result<(), Memory>
-    requires sound { IsSound entries.now }
+    requires sound { AreSoundEntries entries.now }
     requires tops { AreTops (words_of entries.now) rests.old (Some (lasts.Word left)) right }
-    ensures { OnOk result (Turns (words_of entries.now) rests.old rests.new (Some (lasts.Word left)) right None) }
+    ensures { OnOk result (IsComparisonStep (words_of entries.now) rests.old rests.new (Some (lasts.Word left)) right None) }
 {
     put_back(&mut rests.right, right)?;
     open(entries, &mut rests.left, left)
 }
 
-/// What two words say of the order. Equal ones are dropped. Two of one group are in the order of their numbers. Else the one of
-/// the higher group is opened, so that what both begin with comes to stand on top of both.
+/// Compares two words at the tops of the stacks. Equal words are dropped. Two words of one group are in the order of
+/// their numbers. Else the word of the higher group is replaced by its parts, until equal words are on top of both
+/// stacks and can be dropped.
 fn turn_words(
-    entries: &[Entry],
+    entries: &[BookEntry],
     rests: &mut Rests,
     left: usize,
     right: usize,
 ) -> Result<Option<Ordering>, Memory>
-    requires sound { IsSound entries.now }
+    requires sound { AreSoundEntries entries.now }
     requires tops { AreTops (words_of entries.now) rests.old (Some (lasts.Word left)) (Some (lasts.Word right)) }
-    ensures { IfOk result (Turns (words_of entries.now) rests.old rests.new (Some (lasts.Word left)) (Some (lasts.Word right))) }
+    ensures { IfOk result (IsComparisonStep (words_of entries.now) rests.old rests.new (Some (lasts.Word left)) (Some (lasts.Word right))) }
 {
     if left == right {
         return Ok(None);
@@ -145,11 +146,11 @@ fn turn_words(
     let left_group = group_at(entries, left);
     let right_group = group_at(entries, right);
     if left_group < right_group {
-        open_right(entries, rests, Some(Last::Word(left)), right)?;
+        open_right(entries, rests, Some(LastPart::Word(left)), right)?;
         return Ok(None);
     }
     if right_group < left_group {
-        open_left(entries, rests, left, Some(Last::Word(right)))?;
+        open_left(entries, rests, left, Some(LastPart::Word(right)))?;
         return Ok(None);
     }
     if left < right {
@@ -158,71 +159,79 @@ fn turn_words(
     Ok(Some(Ordering::Greater))
 }
 
-/// What the first parts of two words say of the order.
+/// Compares the top parts of two words; none if they do not decide the order.
 fn turn_both(
-    entries: &[Entry],
+    entries: &[BookEntry],
     rests: &mut Rests,
-    left: Last,
-    right: Last,
+    left: LastPart,
+    right: LastPart,
 ) -> Result<Option<Ordering>, Memory>
-    requires sound { IsSound entries.now }
+    requires sound { AreSoundEntries entries.now }
     requires tops { AreTops (words_of entries.now) rests.old (Some left) (Some right) }
-    ensures { IfOk result (Turns (words_of entries.now) rests.old rests.new (Some left) (Some right)) }
+    ensures { IfOk result (IsComparisonStep (words_of entries.now) rests.old rests.new (Some left) (Some right)) }
 {
     match (left, right) {
-        (Last::Token(one), Last::Token(two)) => Ok(told(one, two)),
-        (Last::Word(one), Last::Word(two)) => turn_words(entries, rests, one, two),
-        (Last::Token(_), Last::Word(two)) => {
+        (LastPart::Token(one), LastPart::Token(two)) => Ok(compare_tokens(one, two)),
+        (LastPart::Word(one), LastPart::Word(two)) => turn_words(entries, rests, one, two),
+        (LastPart::Token(_), LastPart::Word(two)) => {
             open_right(entries, rests, Some(left), two)?;
             Ok(None)
         }
-        (Last::Word(one), Last::Token(_)) => {
+        (LastPart::Word(one), LastPart::Token(_)) => {
             open_left(entries, rests, one, Some(right))?;
             Ok(None)
         }
     }
 }
 
-/// What the first part of the right word says of the order, where the left one has ended.
-fn left_ended(entries: &[Entry], rests: &mut Rests, right: Last) -> Result<Option<Ordering>, Memory>
-    requires sound { IsSound entries.now }
+/// Compares the top part of the right word with a left word that has ended.
+fn left_ended(
+    entries: &[BookEntry],
+    rests: &mut Rests,
+    right: LastPart,
+) -> Result<Option<Ordering>, Memory>
+    requires sound { AreSoundEntries entries.now }
     requires tops { AreTops (words_of entries.now) rests.old None (Some right) }
-    ensures { IfOk result (Turns (words_of entries.now) rests.old rests.new None (Some right)) }
+    ensures { IfOk result (IsComparisonStep (words_of entries.now) rests.old rests.new None (Some right)) }
 {
     match right {
-        Last::Token(_) => Ok(Some(Ordering::Less)),
-        Last::Word(number) => {
+        LastPart::Token(_) => Ok(Some(Ordering::Less)),
+        LastPart::Word(number) => {
             open_right(entries, rests, None, number)?;
             Ok(None)
         }
     }
 }
 
-/// What the first part of the left word says of the order, where the right one has ended.
-fn right_ended(entries: &[Entry], rests: &mut Rests, left: Last) -> Result<Option<Ordering>, Memory>
-    requires sound { IsSound entries.now }
+/// Compares the top part of the left word with a right word that has ended.
+fn right_ended(
+    entries: &[BookEntry],
+    rests: &mut Rests,
+    left: LastPart,
+) -> Result<Option<Ordering>, Memory>
+    requires sound { AreSoundEntries entries.now }
     requires tops { AreTops (words_of entries.now) rests.old (Some left) None }
-    ensures { IfOk result (Turns (words_of entries.now) rests.old rests.new (Some left) None) }
+    ensures { IfOk result (IsComparisonStep (words_of entries.now) rests.old rests.new (Some left) None) }
 {
     match left {
-        Last::Token(_) => Ok(Some(Ordering::Greater)),
-        Last::Word(number) => {
+        LastPart::Token(_) => Ok(Some(Ordering::Greater)),
+        LastPart::Word(number) => {
             open_left(entries, rests, number, None)?;
             Ok(None)
         }
     }
 }
 
-/// What the first parts of two words say of the order; a word without one has ended.
+/// One step of a comparison, by the top parts of the two words; a word without a top part has ended.
 fn turn(
-    entries: &[Entry],
+    entries: &[BookEntry],
     rests: &mut Rests,
-    left: Option<Last>,
-    right: Option<Last>,
+    left: Option<LastPart>,
+    right: Option<LastPart>,
 ) -> Result<Option<Ordering>, Memory>
-    requires sound { IsSound entries.now }
+    requires sound { AreSoundEntries entries.now }
     requires tops { AreTops (words_of entries.now) rests.old left right }
-    ensures { IfOk result (Turns (words_of entries.now) rests.old rests.new left right) }
+    ensures { IfOk result (IsComparisonStep (words_of entries.now) rests.old rests.new left right) }
 {
     match (left, right) {
         (None, None) => Ok(Some(Ordering::Equal)),
@@ -232,24 +241,25 @@ fn turn(
     }
 }
 
-/// Takes the first part.
-fn take_top(parts: &mut Vec<Last>) -> Option<Last>
+/// Takes the top part off a stack, if there is one.
+fn take_top(parts: &mut Vec<LastPart>) -> Option<LastPart>
     ensures { TakesTop parts.old.items parts.new.items result }
 {
     parts.pop()
 }
 
-/// Which of two words comes first. What lay on the rests before is dropped. Fails for want of memory alone.
+/// Compares two words lexicographically. The stacks are scratch space and are cleared first. Fails for want of memory
+/// alone.
 pub fn compare(
-    entries: &[Entry],
+    entries: &[BookEntry],
     rests: &mut Rests,
-    left: Made,
-    right: Made,
+    left: WordParts,
+    right: WordParts,
 ) -> Result<Ordering, Memory>
-    requires sound { IsSound entries.now }
-    requires left { Knows (words_of entries.now) left }
-    requires right { Knows (words_of entries.now) right }
-    ensures { IfOk result (IsCompared (spelled (words_of entries.now) left) (spelled (words_of entries.now) right)) }
+    requires sound { AreSoundEntries entries.now }
+    requires left { HasParts (words_of entries.now) left }
+    requires right { HasParts (words_of entries.now) right }
+    ensures { IfOk result (IsComparison (spelled (words_of entries.now) left) (spelled (words_of entries.now) right)) }
 {
     rests.left.clear();
     rests.right.clear();

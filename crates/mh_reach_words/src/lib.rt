@@ -1,14 +1,14 @@
-//! Words by numbers: distinct words, each made of earlier ones, in groups whose numbers rise with the words. So two words of one
+//! Words by numbers: distinct words, each made of earlier ones, in groups that rise with the numbers. Two words of one
 //! group are compared by their numbers alone.
 #![tactic(auto)]
 
 mod book;
 mod comparing;
-mod made;
 mod numbering;
 mod sorting;
 mod spelling;
+mod word_parts;
 
 pub use book::Book;
-pub use made::{Last, Made};
 pub use sorting::{Order, sorted};
+pub use word_parts::{LastPart, WordParts};

@@ -1,30 +1,30 @@
-//! Numbers for words: by their order, equal words one.
+//! The numbering of words in lexicographic order, where equal words get one number.
 ghost use Rattle.std.specs.Prelude.{◌≡◌, ◌<◌, ◌+◌, IfOk, IsSome, OnOk, Some, length, slice_get};
 ghost use Rattle.std.specs.List.{Contains};
-ghost use Rattle.mh_reach_words.specs.code.Numbered.{AddsNew, AreBelowGroup, AreEven, AreKnown, AreNumbers, Gives, IsEqual, IsNumbered, IsRepeated, Orders, PutsOnce, number_in};
-ghost use Rattle.mh_reach_words.specs.code.Rising.{NoLater, Rises, Same};
-ghost use Rattle.mh_reach_words.specs.code.Words.{IsSound, Knows, words_of};
+ghost use Rattle.mh_reach_words.specs.code.Numbering.{AddsNew, AreBelowGroup, ArePrefixFree, AreKnown, AreNumbers, IsNumberedUpTo, IsEqual, IsNumberedGroup, IsRepeated, SortsDistinct, InsertsOnce, number_in};
+ghost use Rattle.mh_reach_words.specs.code.Sorting.{LexNoLater, IsSorted, HaveSameElements};
+ghost use Rattle.mh_reach_words.specs.code.Words.{AreSoundEntries, HasParts, words_of};
 
 use crate::comparing::{Rests, compare, no_rests};
-use crate::made::{Entry, Made};
 use crate::sorting::sorted;
 use crate::spelling::BySpelling;
+use crate::word_parts::{BookEntry, WordParts};
 use indexmap::{IndexMap, IndexSet};
 use mh_grammar::Memory;
 use std::alloc::Global;
 use std::cmp::Ordering;
 
-/// Puts a word in, where none that is made alike is there.
-fn put_once(distinct: &mut IndexSet<Made>, made: Made) -> Result<(), Memory>
-    ensures { OnOk result (PutsOnce distinct.old.keys distinct.new.keys made) }
+/// Inserts the parts of a word into a set.
+fn put_once(distinct: &mut IndexSet<WordParts>, made: WordParts) -> Result<(), Memory>
+    ensures { OnOk result (InsertsOnce distinct.old.keys distinct.new.keys made) }
 {
     distinct.insert(made)?;
     Ok(())
 }
 
-/// The same words, those that are made alike once.
-fn distinct_of(alloc: Global, made: &[Made]) -> Result<IndexSet<Made>, Memory>
-    ensures { IfOk result (λ all. Same made.now all.keys) }
+/// The set of the given parts, each once.
+fn distinct_of(alloc: Global, made: &[WordParts]) -> Result<IndexSet<WordParts>, Memory>
+    ensures { IfOk result (λ all. HaveSameElements made.now all.keys) }
 {
     let mut distinct = IndexSet::new(alloc);
     for one in made {
@@ -33,8 +33,8 @@ fn distinct_of(alloc: Global, made: &[Made]) -> Result<IndexSet<Made>, Memory>
     Ok(distinct)
 }
 
-/// The word at a place.
-fn made_at(made: &[Made], place: usize) -> Made
+/// The word at an index.
+fn made_at(made: &[WordParts], place: usize) -> WordParts
     requires { place < length made.now }
     ensures { slice_get made.now place ≡ Some result }
 {
@@ -42,10 +42,15 @@ fn made_at(made: &[Made], place: usize) -> Made
 }
 
 /// Whether two words are equal.
-fn is_equal(entries: &[Entry], rests: &mut Rests, left: Made, right: Made) -> Result<bool, Memory>
-    requires sound { IsSound entries.now }
-    requires left { Knows (words_of entries.now) left }
-    requires right { Knows (words_of entries.now) right }
+fn is_equal(
+    entries: &[BookEntry],
+    rests: &mut Rests,
+    left: WordParts,
+    right: WordParts,
+) -> Result<bool, Memory>
+    requires sound { AreSoundEntries entries.now }
+    requires left { HasParts (words_of entries.now) left }
+    requires right { HasParts (words_of entries.now) right }
     ensures { IfOk result (IsEqual (words_of entries.now) left right) }
 {
     match compare(entries, rests, left, right)? {
@@ -54,21 +59,21 @@ fn is_equal(entries: &[Entry], rests: &mut Rests, left: Made, right: Made) -> Re
     }
 }
 
-/// Words in their order, to be numbered in a group.
+/// Words in lexicographic order, to be numbered as one group.
 #[derive(Clone, Copy, Drop)]
-struct Ordered<'a> {
+struct OrderedWords<'a> {
     group: u32,
-    made: &'a [Made],
+    made: &'a [WordParts],
 }
 
-/// Whether the word at a place is the one before it.
+/// Whether the word at an index equals the word before it.
 fn is_repeated(
-    entries: &[Entry],
+    entries: &[BookEntry],
     rests: &mut Rests,
-    ordered: &Ordered,
+    ordered: &OrderedWords,
     place: usize,
 ) -> Result<bool, Memory>
-    requires sound { IsSound entries.now }
+    requires sound { AreSoundEntries entries.now }
     requires known { AreKnown (words_of entries.now) ordered.now.made.now }
     requires place { place < length ordered.now.made.now }
     ensures { IfOk result (IsRepeated (words_of entries.now) ordered.now.made.now place) }
@@ -81,15 +86,15 @@ fn is_repeated(
     is_equal(entries, rests, before, made)
 }
 
-/// Adds the word at a place to those that are new, unless it equals the one before it.
+/// Appends the word at an index to the new entries, unless it equals the word before it.
 fn add_new(
-    entries: &[Entry],
+    entries: &[BookEntry],
     rests: &mut Rests,
-    ordered: &Ordered,
+    ordered: &OrderedWords,
     place: usize,
-    new: &mut Vec<Entry>,
+    new: &mut Vec<BookEntry>,
 ) -> Result<(), Memory>
-    requires sound { IsSound entries.now }
+    requires sound { AreSoundEntries entries.now }
     requires known { AreKnown (words_of entries.now) ordered.now.made.now }
     requires place { place < length ordered.now.made.now }
     ensures { OnOk result (AddsNew (words_of entries.now) ordered.now.group ordered.now.made.now place new.old.items new.new.items) }
@@ -97,7 +102,7 @@ fn add_new(
     if is_repeated(entries, rests, ordered, place)? {
         return Ok(());
     }
-    let entry = Entry {
+    let entry = BookEntry {
         made: made_at(ordered.made, place),
         group: ordered.group,
     };
@@ -105,28 +110,28 @@ fn add_new(
     Ok(())
 }
 
-/// The words that are new, and the numbers of all.
+/// The new entries so far, and the numbers of the words so far.
 #[derive(Drop)]
-struct Given {
-    entries: Vec<Entry>,
-    numbers: IndexMap<Made, usize>,
+struct PartialNumbering {
+    entries: Vec<BookEntry>,
+    numbers: IndexMap<WordParts, usize>,
 }
 
-/// Gives the word at a place a number: that of the word before, where they are equal.
+/// Numbers the word at an index; a word that equals the one before it gets the same number.
 fn give_one(
-    entries: &[Entry],
+    entries: &[BookEntry],
     rests: &mut Rests,
-    ordered: &Ordered,
+    ordered: &OrderedWords,
     place: usize,
-    given: &mut Given,
+    given: &mut PartialNumbering,
 ) -> Result<(), Memory>
-    requires sound { IsSound entries.now }
+    requires sound { AreSoundEntries entries.now }
     requires known { AreKnown (words_of entries.now) ordered.now.made.now }
-    requires even { AreEven (words_of entries.now) ordered.now.made.now }
-    requires rises { Rises (NoLater (words_of entries.now)) ordered.now.made.now }
+    requires even { ArePrefixFree (words_of entries.now) ordered.now.made.now }
+    requires rises { IsSorted (LexNoLater (words_of entries.now)) ordered.now.made.now }
     requires place { place < length ordered.now.made.now }
-    requires given { Gives entries.now ordered.now.group ordered.now.made.now place given.old }
-    ensures { OnOk result (Gives entries.now ordered.now.group ordered.now.made.now (place + 1) given.new) }
+    requires given { IsNumberedUpTo entries.now ordered.now.group ordered.now.made.now place given.old }
+    ensures { OnOk result (IsNumberedUpTo entries.now ordered.now.group ordered.now.made.now (place + 1) given.new) }
 {
     add_new(entries, rests, ordered, place, &mut given.entries)?;
     let number = entries.len() + given.entries.len();
@@ -134,20 +139,20 @@ fn give_one(
     Ok(())
 }
 
-/// Gives each of some words in order a number.
+/// Numbers words that are in order.
 fn give(
     alloc: Global,
-    entries: &[Entry],
+    entries: &[BookEntry],
     rests: &mut Rests,
-    ordered: &Ordered,
-) -> Result<Given, Memory>
-    requires sound { IsSound entries.now }
+    ordered: &OrderedWords,
+) -> Result<PartialNumbering, Memory>
+    requires sound { AreSoundEntries entries.now }
     requires known { AreKnown (words_of entries.now) ordered.now.made.now }
-    requires even { AreEven (words_of entries.now) ordered.now.made.now }
-    requires rises { Rises (NoLater (words_of entries.now)) ordered.now.made.now }
-    ensures { IfOk result (λ given. Gives entries.now ordered.now.group ordered.now.made.now (length ordered.now.made.now) given) }
+    requires even { ArePrefixFree (words_of entries.now) ordered.now.made.now }
+    requires rises { IsSorted (LexNoLater (words_of entries.now)) ordered.now.made.now }
+    ensures { IfOk result (λ given. IsNumberedUpTo entries.now ordered.now.group ordered.now.made.now (length ordered.now.made.now) given) }
 {
-    let mut given = Given {
+    let mut given = PartialNumbering {
         entries: Vec::new(alloc),
         numbers: IndexMap::new(alloc),
     };
@@ -157,24 +162,28 @@ fn give(
     Ok(given)
 }
 
-/// The words that are new, and the numbers of all, in the places of the words.
+/// The new entries, and the number of each word in the order of the words.
 #[derive(Drop)]
-pub struct Numbered {
-    pub entries: Vec<Entry>,
+pub struct NumberedWords {
+    pub entries: Vec<BookEntry>,
     pub numbers: Vec<usize>,
 }
 
-/// The number of a word that has one.
-fn number_for(given: &Given, made: &Made) -> usize
+/// The number of a word that was numbered.
+fn number_for(given: &PartialNumbering, made: &WordParts) -> usize
     requires { IsSome (number_in given.now made.now) }
     ensures { Some result ≡ number_in given.now made.now }
 {
     given.numbers.get(made).copied().unwrap()
 }
 
-/// The numbers of some words, in their places.
-fn numbers_of(alloc: Global, given: &Given, made: &[Made]) -> Result<Vec<usize>, Memory>
-    requires { (m : Made) → Contains made.now m → IsSome (number_in given.now m) }
+/// The number of each word, in the order of the words.
+fn numbers_of(
+    alloc: Global,
+    given: &PartialNumbering,
+    made: &[WordParts],
+) -> Result<Vec<usize>, Memory>
+    requires { (m : WordParts) → Contains made.now m → IsSome (number_in given.now m) }
     ensures { IfOk result (λ numbers. AreNumbers given.now made.now numbers.items) }
 {
     let mut numbers = Vec::new(alloc);
@@ -184,62 +193,62 @@ fn numbers_of(alloc: Global, given: &Given, made: &[Made]) -> Result<Vec<usize>,
     Ok(numbers)
 }
 
-/// The same words in their order, those that are made alike once.
+/// The given words in lexicographic order; words with the same parts occur once.
 fn in_order(
     alloc: Global,
-    entries: &[Entry],
+    entries: &[BookEntry],
     rests: &mut Rests,
-    made: &[Made],
-) -> Result<Vec<Made>, Memory>
-    requires sound { IsSound entries.now }
+    made: &[WordParts],
+) -> Result<Vec<WordParts>, Memory>
+    requires sound { AreSoundEntries entries.now }
     requires known { AreKnown (words_of entries.now) made.now }
-    ensures { IfOk result (λ words. Orders (words_of entries.now) made.now words.items) }
+    ensures { IfOk result (λ words. SortsDistinct (words_of entries.now) made.now words.items) }
 {
     let distinct = distinct_of(alloc, made)?;
     let order = BySpelling { entries };
     sorted(alloc, &order, rests, distinct.as_slice())
 }
 
-/// Gives each of some words a number, by the same words in their order.
+/// Numbers words, given the same words in lexicographic order.
 fn number_ordered(
     alloc: Global,
-    entries: &[Entry],
+    entries: &[BookEntry],
     rests: &mut Rests,
-    ordered: &Ordered,
-    made: &[Made],
-) -> Result<Numbered, Memory>
-    requires sound { IsSound entries.now }
+    ordered: &OrderedWords,
+    made: &[WordParts],
+) -> Result<NumberedWords, Memory>
+    requires sound { AreSoundEntries entries.now }
     requires known { AreKnown (words_of entries.now) made.now }
     requires fresh { AreBelowGroup (words_of entries.now) ordered.now.group }
-    requires even { AreEven (words_of entries.now) made.now }
-    requires orders { Orders (words_of entries.now) made.now ordered.now.made.now }
-    ensures { IfOk result (λ numbered. IsNumbered entries.now ordered.now.group made.now numbered) }
+    requires even { ArePrefixFree (words_of entries.now) made.now }
+    requires orders { SortsDistinct (words_of entries.now) made.now ordered.now.made.now }
+    ensures { IfOk result (λ numbered. IsNumberedGroup entries.now ordered.now.group made.now numbered) }
 {
     let given = give(alloc, entries, rests, ordered)?;
     let numbers = numbers_of(alloc, &given, made)?;
-    Ok(Numbered {
+    Ok(NumberedWords {
         entries: given.entries,
         numbers,
     })
 }
 
-/// Gives each of some words a number: words that are equal have one, and the numbers of the others are in their order.
+/// Numbers words as one group: equal words get one number, and the numbers rise with the words in lexicographic order.
 /// Fails for want of memory alone.
 pub fn number_words(
     alloc: Global,
-    entries: &[Entry],
+    entries: &[BookEntry],
     group: u32,
-    made: &[Made],
-) -> Result<Numbered, Memory>
-    requires sound { IsSound entries.now }
+    made: &[WordParts],
+) -> Result<NumberedWords, Memory>
+    requires sound { AreSoundEntries entries.now }
     requires known { AreKnown (words_of entries.now) made.now }
     requires fresh { AreBelowGroup (words_of entries.now) group }
-    requires even { AreEven (words_of entries.now) made.now }
-    ensures { IfOk result (λ numbered. IsNumbered entries.now group made.now numbered) }
+    requires even { ArePrefixFree (words_of entries.now) made.now }
+    ensures { IfOk result (λ numbered. IsNumberedGroup entries.now group made.now numbered) }
 {
     let mut rests = no_rests(alloc);
     let words = in_order(alloc, entries, &mut rests, made)?;
-    let ordered = Ordered {
+    let ordered = OrderedWords {
         group,
         made: words.as_slice(),
     };

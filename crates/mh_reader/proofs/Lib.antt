@@ -1,2 +1,2 @@
-pub mod Laid
-pub mod Reprinted
+pub mod PrintedText
+pub mod PrintedSpells

@@ -1,4 +1,4 @@
-//! The text of a module, from which the module is read again.
+//! The reader of grammar files, and the text of a module, from which the module can be read again.
 #![tactic(auto)]
 
 mod printing;

@@ -8,7 +8,7 @@ ghost use Rattle.mh_lex.specs.declared.kinds.SyntaxFault.TheVariants as faults;
 ghost use Rattle.mh_rules.specs.declared.modules.Module.{Module};
 ghost use Rattle.mh_rules.specs.Ready.{IsModuleReady};
 ghost use Rattle.mh_reader_parser.specs.Spelling.{Spells};
-ghost use Rattle.mh_reader_parser.specs.Faults.{Reads};
+ghost use Rattle.mh_reader_parser.specs.Faults.{IsReadResult};
 
 use mh_grammar::{Assoc, Memory, Name, Sequence};
 use mh_reader_parser::spelled_once;
@@ -60,7 +60,7 @@ fn write_actual(text: &mut Vec<u8>, actual: &Actual) -> Result<(), Memory>
     Ok(())
 }
 
-#[tactic(auto, using(crate::proofs::Laid::laid_joined))]
+#[tactic(auto, using(crate::proofs::PrintedText::laid_out_append))]
 fn write_actuals(text: &mut Vec<u8>, actuals: &[Actual]) -> Result<(), Memory>
     ensures { OnOk result (Writes text.old.items text.new.items (flat_map actual_pieces actuals.now)) }
 {
@@ -81,8 +81,8 @@ fn write_prec(text: &mut Vec<u8>, prec: &Option<Ref>) -> Result<(), Memory>
     Ok(())
 }
 
-/// Writes an alternative as a group of its own, behind a bar.
-#[tactic(auto, using(crate::proofs::Laid::laid_joined))]
+/// Writes an alternative as a group by itself, after a bar.
+#[tactic(auto, using(crate::proofs::PrintedText::laid_out_append))]
 fn write_alternative(text: &mut Vec<u8>, alternative: &Alternative) -> Result<(), Memory>
     ensures { OnOk result (Writes text.old.items text.new.items (alternative_pieces alternative.now)) }
 {
@@ -93,7 +93,7 @@ fn write_alternative(text: &mut Vec<u8>, alternative: &Alternative) -> Result<()
     Ok(())
 }
 
-#[tactic(auto, using(crate::proofs::Laid::laid_joined))]
+#[tactic(auto, using(crate::proofs::PrintedText::laid_out_append))]
 fn write_alternatives(text: &mut Vec<u8>, alternatives: &[Alternative]) -> Result<(), Memory>
     ensures { OnOk result (Writes text.old.items text.new.items (flat_map alternative_pieces alternatives.now)) }
 {
@@ -116,7 +116,7 @@ fn write_modifiers(text: &mut Vec<u8>, rule: &Rule) -> Result<(), Memory>
     Ok(())
 }
 
-#[tactic(auto, using(crate::proofs::Laid::laid_joined))]
+#[tactic(auto, using(crate::proofs::PrintedText::laid_out_append))]
 fn write_formals(text: &mut Vec<u8>, formals: &[Name]) -> Result<(), Memory>
     ensures { OnOk result (Writes text.old.items text.new.items (formals_pieces formals.now)) }
 {
@@ -133,7 +133,7 @@ fn write_formals(text: &mut Vec<u8>, formals: &[Name]) -> Result<(), Memory>
     Ok(())
 }
 
-#[tactic(auto, using(crate::proofs::Laid::laid_joined))]
+#[tactic(auto, using(crate::proofs::PrintedText::laid_out_append))]
 fn write_rule(text: &mut Vec<u8>, rule: &Rule) -> Result<(), Memory>
     ensures { OnOk result (Writes text.old.items text.new.items (rule_pieces rule.now)) }
 {
@@ -145,7 +145,7 @@ fn write_rule(text: &mut Vec<u8>, rule: &Rule) -> Result<(), Memory>
     Ok(())
 }
 
-#[tactic(auto, using(crate::proofs::Laid::laid_joined))]
+#[tactic(auto, using(crate::proofs::PrintedText::laid_out_append))]
 fn write_rules(text: &mut Vec<u8>, rules: &[Rule]) -> Result<(), Memory>
     ensures { OnOk result (Writes text.old.items text.new.items (flat_map rule_pieces rules.now)) }
 {
@@ -176,8 +176,8 @@ fn write_cost(alloc: Global, text: &mut Vec<u8>, cost: Option<u32>) -> Result<()
     write_lexeme(text, b"]")
 }
 
-/// Writes a token's declaration, with its alias and its cost where it has them.
-#[tactic(auto, using(crate::proofs::Laid::laid_joined))]
+/// Writes a token's declaration, with its alias and its cost, if it has them.
+#[tactic(auto, using(crate::proofs::PrintedText::laid_out_append))]
 fn write_token(alloc: Global, text: &mut Vec<u8>, token: &TokenDecl) -> Result<(), Memory>
     ensures { OnOk result (Writes text.old.items text.new.items (token_pieces token.now)) }
 {
@@ -187,7 +187,7 @@ fn write_token(alloc: Global, text: &mut Vec<u8>, token: &TokenDecl) -> Result<(
     write_cost(alloc, text, token.cost)
 }
 
-#[tactic(auto, using(crate::proofs::Laid::laid_joined))]
+#[tactic(auto, using(crate::proofs::PrintedText::laid_out_append))]
 fn write_tokens(alloc: Global, text: &mut Vec<u8>, tokens: &[TokenDecl]) -> Result<(), Memory>
     ensures { OnOk result (Writes text.old.items text.new.items (flat_map token_pieces tokens.now)) }
 {
@@ -197,7 +197,7 @@ fn write_tokens(alloc: Global, text: &mut Vec<u8>, tokens: &[TokenDecl]) -> Resu
     Ok(())
 }
 
-#[tactic(auto, using(crate::proofs::Laid::laid_joined))]
+#[tactic(auto, using(crate::proofs::PrintedText::laid_out_append))]
 fn write_starts(text: &mut Vec<u8>, starts: &[Name]) -> Result<(), Memory>
     ensures { OnOk result (Writes text.old.items text.new.items (flat_map start_pieces starts.now)) }
 {
@@ -218,7 +218,7 @@ fn assoc_keyword(assoc: Assoc) -> &'static [u8]
     }
 }
 
-#[tactic(auto, using(crate::proofs::Laid::laid_joined))]
+#[tactic(auto, using(crate::proofs::PrintedText::laid_out_append))]
 fn write_level(text: &mut Vec<u8>, level: &LevelDecl) -> Result<(), Memory>
     ensures { OnOk result (Writes text.old.items text.new.items (level_pieces level.now)) }
 {
@@ -229,7 +229,7 @@ fn write_level(text: &mut Vec<u8>, level: &LevelDecl) -> Result<(), Memory>
     Ok(())
 }
 
-#[tactic(auto, using(crate::proofs::Laid::laid_joined))]
+#[tactic(auto, using(crate::proofs::PrintedText::laid_out_append))]
 fn write_levels(text: &mut Vec<u8>, levels: &[LevelDecl]) -> Result<(), Memory>
     ensures { OnOk result (Writes text.old.items text.new.items (flat_map level_pieces levels.now)) }
 {
@@ -239,7 +239,7 @@ fn write_levels(text: &mut Vec<u8>, levels: &[LevelDecl]) -> Result<(), Memory>
     Ok(())
 }
 
-#[tactic(auto, using(crate::proofs::Laid::laid_joined))]
+#[tactic(auto, using(crate::proofs::PrintedText::laid_out_append))]
 fn write_on_error(text: &mut Vec<u8>, lists: &[Sequence<Actual>]) -> Result<(), Memory>
     ensures { OnOk result (Writes text.old.items text.new.items (flat_map on_error_pieces lists.now)) }
 {
@@ -250,8 +250,8 @@ fn write_on_error(text: &mut Vec<u8>, lists: &[Sequence<Actual>]) -> Result<(), 
     Ok(())
 }
 
-/// Writes a declaration for each token, start, level and list of `%on_error_reduce`, and the rules.
-#[tactic(auto, using(crate::proofs::Laid::laid_joined))]
+/// Writes a declaration for each token, start, level and list of `%on_error_reduce`, and after them the rules.
+#[tactic(auto, using(crate::proofs::PrintedText::laid_out_append))]
 fn write_module(alloc: Global, text: &mut Vec<u8>, module: &Module) -> Result<(), Memory>
     ensures { OnOk result (Writes text.old.items text.new.items (module_pieces «module».now)) }
 {
@@ -264,14 +264,14 @@ fn write_module(alloc: Global, text: &mut Vec<u8>, module: &Module) -> Result<()
     Ok(())
 }
 
-/// Bytes that spell the module, if some bytes spell it; `read_module` gives it back from them. Answers `Memory` only where
-/// memory runs out. What bytes spell is ready, so nothing is lost by asking for it: the recursion over actuals is at most
-/// `MAX_DEPTH` deep.
+/// Returns bytes that spell the module, provided that some bytes spell it; `read_module` reads it again from them.
+/// Every module that bytes spell meets the precondition, by which the recursion over actuals is at most `MAX_DEPTH`
+/// deep. It fails only if memory runs out.
 pub fn print_module(alloc: Global, module: &Module) -> Result<Vec<u8>, Memory>
     requires { IsModuleReady «module».now }
     ensures spelled { IfOk result (λ text. (bytes : List ℕ) → Spells bytes «module».now → Spells text.items «module».now) }
     ensures again { IfOk result (λ text. (bytes : List ℕ) → Spells bytes «module».now → (answer : Result Module SyntaxFault)
-        → Reads text.items answer → answer ≢ Err faults.Memory → answer ≡ Ok «module».now) }
+        → IsReadResult text.items answer → answer ≢ Err faults.Memory → answer ≡ Ok «module».now) }
 {
     spelled_once();
     let mut text = Vec::new(alloc);

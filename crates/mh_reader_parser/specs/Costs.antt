@@ -1,13 +1,13 @@
--- Costs of tokens in attributes. Source: this project's profile.
+-- The costs of tokens in attributes (a rule of this project).
 use Rattle.std.specs.Prelude.{◌≡◌, ◌<◌, ◌≤◌, ◌+◌, ◌-◌, ◌*◌, ◌==◌, ◌&&◌, ℕ, Bool, true, cond, List, [], ◌∷◌, ◌++◌, length, Option, Some, None, drop, take, nat_lt, nat_le, nat_eq, codes, decimal}
 use Rattle.std.specs.List.{AllByRecursion}
 use Rattle.std.specs.Cmp.Lexicographic.{pointwise}
 use Rattle.mh_grammar.specs.declared.types.TheConstants.{MAX_COST}
 use Rattle.mh_lex_bytes.specs.Bytes.{byte_at, is_blank, is_decimal}
 
--- WHAT A COST ATTRIBUTE IS
+-- The text of a cost attribute.
 
--- `[@cost`, one or more blanks, a number from 1 to 1,000 in decimal without leading zeros, blanks or none, and `]`
+-- `[@cost`, one or more blanks, a number from 1 to 1,000 in decimal without leading zeros, blanks or none, and `]`.
 pub record IsCostText (text : List ℕ) (cost : ℕ) : Type 0 where
   pub before : List ℕ
   pub behind : List ℕ
@@ -18,35 +18,35 @@ pub record IsCostText (text : List ℕ) (cost : ℕ) : Type 0 where
   pub most : cost ≤ MAX_COST
   pub text_is : text ≡ codes "[@cost" ++ (before ++ (decimal cost ++ (behind ++ 93 ∷ [])))
 
--- THE COST THAT A TEXT GIVES
+-- The cost that a text gives.
 
--- how many bytes of a class stand at the front
-abbrev pub front_of : (ℕ → Bool) → List ℕ → ℕ
-front_of p [] = 0
-front_of p (b ∷ bs) = cond (p b) (front_of p bs + 1) 0
+-- The length of the longest prefix of bytes of a class.
+abbrev pub prefix_length : (ℕ → Bool) → List ℕ → ℕ
+prefix_length p [] = 0
+prefix_length p (b ∷ bs) = cond (p b) (prefix_length p bs + 1) 0
 
--- the number that digits write behind those of another
+-- The number whose decimal is the decimal of n followed by these digits.
 abbrev pub value : ℕ → List ℕ → ℕ
 value n [] = n
 value n (c ∷ cs) = value (n * 10 + (c - 48)) cs
 
-abbrev pub limited : ℕ → Option ℕ
-limited n = cond (nat_le 1 n && nat_le n MAX_COST) (Some n) None
+abbrev pub cost_in_range : ℕ → Option ℕ
+cost_in_range n = cond (nat_le 1 n && nat_le n MAX_COST) (Some n) None
 
--- blanks or none, and what closes
-abbrev pub is_closing : List ℕ → Bool
-is_closing s = pointwise nat_eq (drop (front_of is_blank s) s) (93 ∷ [])
+-- Blanks or none, and the closing bracket.
+abbrev pub is_closing_text : List ℕ → Bool
+is_closing_text s = pointwise nat_eq (drop (prefix_length is_blank s) s) (93 ∷ [])
 
--- from the number on
-abbrev pub numbered : List ℕ → Option ℕ
-numbered s =
+-- The cost in a text that begins with its number.
+abbrev pub cost_from_number : List ℕ → Option ℕ
+cost_from_number s =
     cond (byte_at s 0 == 48) None
-    (cond (is_closing (drop (front_of is_decimal s) s)) (limited (value 0 (take (front_of is_decimal s) s))) None)
+    (cond (is_closing_text (drop (prefix_length is_decimal s) s)) (cost_in_range (value 0 (take (prefix_length is_decimal s) s))) None)
 
--- from the blanks on
-abbrev pub spaced : List ℕ → Option ℕ
-spaced s = cond (nat_lt 0 (front_of is_blank s)) (numbered (drop (front_of is_blank s) s)) None
+-- The cost in a text that begins with the blanks before its number.
+abbrev pub cost_from_blanks : List ℕ → Option ℕ
+cost_from_blanks s = cond (nat_lt 0 (prefix_length is_blank s)) (cost_from_number (drop (prefix_length is_blank s) s)) None
 
--- The cost that an attribute gives, where it is a cost attribute.
+-- The cost that an attribute gives, if it is a cost attribute.
 unfoldable pub cost_of : List ℕ → Option ℕ
-cost_of t = cond (pointwise nat_eq (take 6 t) (codes "[@cost")) (spaced (drop 6 t)) None
+cost_of t = cond (pointwise nat_eq (take 6 t) (codes "[@cost")) (cost_from_blanks (drop 6 t)) None

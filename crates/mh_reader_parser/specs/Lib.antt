@@ -1,5 +1,5 @@
 pub mod Costs
-pub mod Signs
+pub mod TokenKinds
 pub mod Spelling
 pub mod code
 pub mod Faults

@@ -1,3 +1,3 @@
-pub mod Machine
+pub mod ParserSteps
 pub mod Pieces
-pub mod Limits
+pub mod DepthLimit

@@ -1,39 +1,40 @@
-//! Actuals: names with arguments and suffixes.
+//! The parser's steps in actuals, which are names with arguments and suffixes.
 ghost use Rattle.std.specs.Prelude.{◌≡◌, ◌+◌, ◌≤◌, ◌∷◌, ◌++◌, [], suc, IfOk, length, nat_le, max};
 ghost use Rattle.mh_rules.specs.declared.modules.Ref.TheVariants.{Plain};
 ghost use Rattle.mh_rules.specs.Modules.{applied};
-ghost use Rattle.mh_reader_parser.specs.declared.places.Place.TheVariants as places;
+ghost use Rattle.mh_reader_parser.specs.declared.parser_states.ParserState.TheVariants as places;
 ghost use Rattle.mh_reader_parser.specs.Spelling.{ref_by};
-ghost use Rattle.mh_reader_parser.specs.code.Machine as machine;
-ghost use Rattle.mh_reader_parser.specs.code.Machine.{Refers, with_argument, with_producer};
-ghost use Rattle.mh_reader_parser.specs.code.Limits.{Deep};
+ghost use Rattle.mh_reader_parser.specs.code.ParserSteps as machine;
+ghost use Rattle.mh_reader_parser.specs.code.ParserSteps.{AgreesWithStep, with_argument, with_producer};
+ghost use Rattle.mh_reader_parser.specs.code.DepthLimit.{AreOpenShallow};
 
 use crate::declarations::at_items;
-use crate::places::{
-    Draft, Listing, Pending, Place, Purpose, Reader, Refusal, go_to, no_memory, unexpected,
+use crate::parser_states::{
+    ActualPurpose, OpenActual, OpenList, ParseFault, Parser, ParserState, RuleDraft, go_to,
+    no_memory, unexpected,
 };
 use crate::rules::{at_spaced, reference};
-use crate::signs::Sign;
 use crate::stack::Stack;
+use crate::token_kinds::TokenKind;
 use mh_grammar::{Memory, Name, Sequence, from_bytes, lost};
 use mh_rules::{Actual, MAX_DEPTH, Module, Ref};
 use std::alloc::Global;
 
 /// An actual with all its arguments, and its depth.
 #[derive(Drop)]
-pub(crate) struct Measured {
+pub(crate) struct ActualWithDepth {
     pub actual: Actual,
     pub depth: usize,
 }
 
-/// What an actual is for, and the brackets that are open around it.
+/// The purpose of an actual, and the brackets that are open around it.
 #[derive(Drop)]
-pub(crate) struct Within {
-    pub purpose: Purpose,
-    pub pending: Stack<Pending>,
+pub(crate) struct ActualContext {
+    pub purpose: ActualPurpose,
+    pub pending: Stack<OpenActual>,
 }
 
-/// Whether one more than a depth within so many brackets is not too deep.
+/// Returns whether one level more than this depth is within the limit, inside this number of brackets.
 fn has_room(depth: usize, brackets: usize) -> bool
     ensures { result ≡ nat_le (suc depth + brackets) MAX_DEPTH }
 {
@@ -46,7 +47,7 @@ fn deeper_of(one: usize, two: usize) -> usize
     if one < two { two } else { one }
 }
 
-/// Adds an actual behind others.
+/// Appends an actual.
 fn add_actual(mut actuals: Sequence<Actual>, actual: Actual) -> Result<Sequence<Actual>, Memory>
     ensures { IfOk result (λ all. all ≡ actuals ++ actual ∷ []) }
 {
@@ -56,8 +57,8 @@ fn add_actual(mut actuals: Sequence<Actual>, actual: Actual) -> Result<Sequence<
     }
 }
 
-/// Adds a producer to a production.
-fn add_producer(mut draft: Draft, actual: Actual) -> Result<Draft, Memory>
+/// Appends a producer to a production.
+fn add_producer(mut draft: RuleDraft, actual: Actual) -> Result<RuleDraft, Memory>
     ensures { IfOk result (λ d. d ≡ with_producer draft actual) }
 {
     match draft.producers.push(actual) {
@@ -66,8 +67,8 @@ fn add_producer(mut draft: Draft, actual: Actual) -> Result<Draft, Memory>
     }
 }
 
-/// Adds an argument.
-fn add_argument(mut inner: Pending, argument: Measured) -> Result<Pending, Memory>
+/// Appends an argument.
+fn add_argument(mut inner: OpenActual, argument: ActualWithDepth) -> Result<OpenActual, Memory>
     ensures { IfOk result (λ p. p ≡ with_argument inner argument.actual argument.depth) }
 {
     match inner.args.push(argument.actual) {
@@ -79,7 +80,7 @@ fn add_argument(mut inner: Pending, argument: Measured) -> Result<Pending, Memor
     }
 }
 
-/// A list of one actual, for which alone there is room.
+/// A list of one actual, with memory for just this one.
 fn alone(alloc: Global, actual: Actual) -> Result<Sequence<Actual>, Memory>
     ensures { IfOk result (λ all. all ≡ actual ∷ []) }
 {
@@ -102,75 +103,76 @@ fn call(alloc: Global, name: &[u8], args: Sequence<Actual>) -> Result<Actual, Me
     }
 }
 
-/// An actual with one argument: a suffix of one byte makes one.
+/// A name applied to one argument, as a suffix does. The list of arguments has room for just this one, so that each
+/// byte of suffixes takes little memory.
 fn wrapped(alloc: Global, name: &[u8], inner: Actual) -> Result<Actual, Memory>
     ensures { IfOk result (λ a. a ≡ applied (Plain name.now) (inner ∷ [])) }
 {
     call(alloc, name, alone(alloc, inner)?)
 }
 
-/// Behind a whole producer or item of a list.
+/// Takes a lexeme after a whole producer, or after a whole item of a list.
 fn whole(
     alloc: Global,
     made: Module,
-    purpose: Purpose,
+    purpose: ActualPurpose,
     actual: Actual,
-    sign: Sign,
+    sign: TokenKind,
     text: &[u8],
-) -> Result<Reader, Refusal>
-    ensures { Refers (machine.whole made purpose actual sign text.now) result }
+) -> Result<Parser, ParseFault>
+    ensures { AgreesWithStep (machine.after_whole made purpose actual sign text.now) result }
 {
     match purpose {
-        Purpose::Producer(draft) => match add_producer(draft, actual) {
+        ActualPurpose::Producer(draft) => match add_producer(draft, actual) {
             Ok(draft) => at_spaced(alloc, made, draft, sign, text),
             Err(_) => no_memory(made),
         },
-        Purpose::Listed(kept, actuals) => match add_actual(actuals, actual) {
-            Ok(actuals) => at_items(alloc, made, Listing::Actuals(kept, actuals), sign, text),
+        ActualPurpose::Listed(kept, actuals) => match add_actual(actuals, actual) {
+            Ok(actuals) => at_items(alloc, made, OpenList::Actuals(kept, actuals), sign, text),
             Err(_) => no_memory(made),
         },
     }
 }
 
-/// Where the next argument of an open bracket begins.
+/// The parser continues before the next argument of an open bracket.
 fn next_argument(
     made: Module,
-    purpose: Purpose,
-    outer: Stack<Pending>,
-    inner: Pending,
-) -> Result<Reader, Refusal>
-    ensures { Refers (machine.goes made (places.Argument purpose (inner ∷ outer))) result }
+    purpose: ActualPurpose,
+    outer: Stack<OpenActual>,
+    inner: OpenActual,
+) -> Result<Parser, ParseFault>
+    ensures { AgreesWithStep (machine.continues made (places.Argument purpose (inner ∷ outer))) result }
 {
     let mut pending = outer;
     match pending.push(inner) {
-        Ok(()) => go_to(made, Place::Argument(purpose, pending)),
+        Ok(()) => go_to(made, ParserState::Argument(purpose, pending)),
         Err(_) => no_memory((made, (purpose, pending))),
     }
 }
 
-/// Within a bracket, behind a whole argument.
-fn behind_argument(
+/// Takes a lexeme after a whole argument in a bracket.
+fn after_argument(
     made: Module,
-    purpose: Purpose,
-    rest: Stack<Pending>,
-    inner: Pending,
-    argument: Measured,
-    sign: Sign,
-) -> Result<Reader, Refusal>
+    purpose: ActualPurpose,
+    rest: Stack<OpenActual>,
+    inner: OpenActual,
+    argument: ActualWithDepth,
+    sign: TokenKind,
+) -> Result<Parser, ParseFault>
     requires inner { inner.depth ≤ MAX_DEPTH }
     requires outer { argument.depth ≤ MAX_DEPTH }
-    ensures { Refers (machine.within made purpose inner rest argument.actual argument.depth sign) result }
+    ensures { AgreesWithStep (machine.after_argument made purpose inner rest argument.actual argument.depth sign) result }
 {
     match add_argument(inner, argument) {
         Ok(inner) => match sign {
-            Sign::Comma => next_argument(made, purpose, rest, inner),
-            Sign::Close => {
+            TokenKind::Comma => next_argument(made, purpose, rest, inner),
+            TokenKind::Close => {
                 let depth = inner.depth + 1;
                 let actual = Actual {
                     head: inner.head,
                     args: inner.args,
                 };
-                go_to(made, Place::After(purpose, rest, actual, depth))
+                go_to(made, ParserState::After(purpose, rest, actual, depth))
             }
             _ => unexpected((made, (purpose, (rest, inner)))),
         },
@@ -178,45 +180,48 @@ fn behind_argument(
     }
 }
 
-/// Behind an actual with all its suffixes.
+/// Takes a lexeme after an actual with all its suffixes.
 fn above(
     alloc: Global,
     made: Module,
-    within: Within,
-    read: Measured,
-    sign: Sign,
+    within: ActualContext,
+    read: ActualWithDepth,
+    sign: TokenKind,
     text: &[u8],
-) -> Result<Reader, Refusal>
+) -> Result<Parser, ParseFault>
     requires fits { read.depth + length within.pending ≤ MAX_DEPTH }
-    requires deep { Deep within.pending }
-    ensures { Refers (machine.above made within.purpose within.pending read.actual read.depth sign text.now) result }
+    requires deep { AreOpenShallow within.pending }
+    ensures { AgreesWithStep (machine.after_suffixes made within.purpose within.pending read.actual read.depth sign text.now) result }
 {
-    let Within { purpose, pending } = within;
+    let ActualContext { purpose, pending } = within;
     let mut rest = pending;
     match rest.pop() {
         None => {
             drop(rest);
             whole(alloc, made, purpose, read.actual, sign, text)
         }
-        Some(inner) => behind_argument(made, purpose, rest, inner, read, sign),
+        Some(inner) => after_argument(made, purpose, rest, inner, read, sign),
     }
 }
 
-/// A suffix behind an actual.
+/// Takes a suffix after an actual.
 fn suffix(
     alloc: Global,
     made: Module,
-    within: Within,
-    read: Measured,
+    within: ActualContext,
+    read: ActualWithDepth,
     name: &[u8],
-) -> Result<Reader, Refusal>
-    ensures { Refers (machine.deeper made within.purpose within.pending read.actual read.depth (machine.fits (suc read.depth) within.pending) name.now) result }
+) -> Result<Parser, ParseFault>
+    ensures { AgreesWithStep (machine.with_suffix_if_fits made within.purpose within.pending read.actual read.depth (machine.fits_in_depth (suc read.depth) within.pending) name.now) result }
 {
-    let Within { purpose, pending } = within;
-    let Measured { actual, depth } = read;
+    let ActualContext { purpose, pending } = within;
+    let ActualWithDepth { actual, depth } = read;
     if has_room(depth, pending.len()) {
         match wrapped(alloc, name, actual) {
-            Ok(actual) => go_to(made, Place::After(purpose, pending, actual, depth + 1)),
+            Ok(actual) => go_to(
+                made,
+                ParserState::After(purpose, pending, actual, depth + 1),
+            ),
             Err(_) => no_memory((made, (purpose, pending))),
         }
     } else {
@@ -224,34 +229,34 @@ fn suffix(
     }
 }
 
-/// Behind an actual, where a suffix may stand.
+/// Takes a lexeme after an actual; it may be a suffix.
 pub(crate) fn after(
     alloc: Global,
     made: Module,
-    within: Within,
-    read: Measured,
-    sign: Sign,
+    within: ActualContext,
+    read: ActualWithDepth,
+    sign: TokenKind,
     text: &[u8],
-) -> Result<Reader, Refusal>
+) -> Result<Parser, ParseFault>
     requires fits { read.depth + length within.pending ≤ MAX_DEPTH }
-    requires deep { Deep within.pending }
-    ensures { Refers (machine.after made within.purpose within.pending read.actual read.depth sign text.now) result }
+    requires deep { AreOpenShallow within.pending }
+    ensures { AgreesWithStep (machine.after_actual made within.purpose within.pending read.actual read.depth sign text.now) result }
 {
     match sign {
-        Sign::Question => suffix(alloc, made, within, read, b"option"),
-        Sign::Star => suffix(alloc, made, within, read, b"list"),
-        Sign::Plus => suffix(alloc, made, within, read, b"nonempty_list"),
+        TokenKind::Question => suffix(alloc, made, within, read, b"option"),
+        TokenKind::Star => suffix(alloc, made, within, read, b"list"),
+        TokenKind::Plus => suffix(alloc, made, within, read, b"nonempty_list"),
         _ => above(alloc, made, within, read, sign, text),
     }
 }
 
-/// A bracket of arguments opens.
-fn open(alloc: Global, made: Module, within: Within, head: Ref) -> Result<Reader, Refusal>
-    ensures { Refers (machine.opened made within.purpose within.pending head (machine.fits 2 within.pending)) result }
+/// Takes an opening bracket of arguments.
+fn open(alloc: Global, made: Module, within: ActualContext, head: Ref) -> Result<Parser, ParseFault>
+    ensures { AgreesWithStep (machine.with_bracket_if_fits made within.purpose within.pending head (machine.fits_in_depth 2 within.pending)) result }
 {
-    let Within { purpose, pending } = within;
+    let ActualContext { purpose, pending } = within;
     if has_room(1, pending.len()) {
-        let inner = Pending {
+        let inner = OpenActual {
             head,
             args: Sequence::new(alloc),
             depth: 0,
@@ -262,68 +267,68 @@ fn open(alloc: Global, made: Module, within: Within, head: Ref) -> Result<Reader
     }
 }
 
-/// Behind the name of an actual.
+/// Takes a lexeme after the name of an actual.
 pub(crate) fn at_head(
     alloc: Global,
     made: Module,
-    within: Within,
+    within: ActualContext,
     head: Ref,
-    sign: Sign,
+    sign: TokenKind,
     text: &[u8],
-) -> Result<Reader, Refusal>
+) -> Result<Parser, ParseFault>
     requires fits { 1 + length within.pending ≤ MAX_DEPTH }
-    requires deep { Deep within.pending }
-    ensures { Refers (machine.at_head made within.purpose within.pending head sign text.now) result }
+    requires deep { AreOpenShallow within.pending }
+    ensures { AgreesWithStep (machine.at_head made within.purpose within.pending head sign text.now) result }
 {
     match sign {
-        Sign::Open => open(alloc, made, within, head),
+        TokenKind::Open => open(alloc, made, within, head),
         _ => {
             let actual = Actual {
                 head,
                 args: Sequence::new(alloc),
             };
-            let read = Measured { actual, depth: 1 };
+            let read = ActualWithDepth { actual, depth: 1 };
             after(alloc, made, within, read, sign, text)
         }
     }
 }
 
-/// Behind a word that may name a producer.
+/// Takes a lexeme after a word that may be the name of a producer.
 pub(crate) fn at_named(
     alloc: Global,
     made: Module,
-    draft: Draft,
+    draft: RuleDraft,
     name: Name,
-    sign: Sign,
+    sign: TokenKind,
     text: &[u8],
-) -> Result<Reader, Refusal>
-    ensures { Refers (machine.at_named made draft name sign text.now) result }
+) -> Result<Parser, ParseFault>
+    ensures { AgreesWithStep (machine.at_named made draft name sign text.now) result }
 {
-    let purpose = Purpose::Producer(draft);
+    let purpose = ActualPurpose::Producer(draft);
     let pending = Stack::new(alloc);
     match sign {
-        Sign::Equals => go_to(made, Place::Argument(purpose, pending)),
+        TokenKind::Equals => go_to(made, ParserState::Argument(purpose, pending)),
         _ => {
-            let within = Within { purpose, pending };
+            let within = ActualContext { purpose, pending };
             at_head(alloc, made, within, Ref::Plain(name), sign, text)
         }
     }
 }
 
-/// Where an actual has to begin.
+/// Takes the first lexeme of an actual.
 pub(crate) fn at_argument(
     alloc: Global,
     made: Module,
-    purpose: Purpose,
-    pending: Stack<Pending>,
-    sign: Sign,
+    purpose: ActualPurpose,
+    pending: Stack<OpenActual>,
+    sign: TokenKind,
     text: &[u8],
-) -> Result<Reader, Refusal>
-    ensures { Refers (machine.at_argument made purpose pending (ref_by sign text.now)) result }
+) -> Result<Parser, ParseFault>
+    ensures { AgreesWithStep (machine.at_argument made purpose pending (ref_by sign text.now)) result }
 {
     match reference(alloc, sign, text) {
-        Ok(head) => go_to(made, Place::Head(purpose, pending, head)),
-        Err(Refusal::Unexpected) => unexpected((made, (purpose, pending))),
-        Err(Refusal::Memory) => no_memory((made, (purpose, pending))),
+        Ok(head) => go_to(made, ParserState::Head(purpose, pending, head)),
+        Err(ParseFault::Unexpected) => unexpected((made, (purpose, pending))),
+        Err(ParseFault::Memory) => no_memory((made, (purpose, pending))),
     }
 }

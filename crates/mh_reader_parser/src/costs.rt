@@ -1,9 +1,9 @@
-//! Costs of tokens in attributes.
+//! The costs of tokens in attributes.
 ghost use Rattle.std.specs.Prelude.{◌≡◌, ◌≤◌, ◌==◌, List, drop, length, nat_eq, take};
 ghost use Rattle.std.specs.Cmp.Lexicographic.{pointwise};
 ghost use Rattle.mh_lex_bytes.specs.Bytes.{byte_at, is_blank, is_decimal};
 ghost use Rattle.mh_reader_parser.specs.Costs as spec;
-ghost use Rattle.mh_reader_parser.specs.Costs.{front_of, is_closing, limited, numbered, spaced, value};
+ghost use Rattle.mh_reader_parser.specs.Costs.{prefix_length, is_closing_text, cost_in_range, cost_from_number, cost_from_blanks, value};
 
 use mh_grammar::MAX_COST;
 use mh_lex_bytes::is_blank_byte;
@@ -14,9 +14,9 @@ fn is_digit(byte: u8) -> bool
     byte.is_ascii_digit()
 }
 
-/// How many blanks stand at the front.
+/// The number of blanks at the beginning.
 fn blanks_length(text: &[u8]) -> usize
-    ensures value { result ≡ front_of is_blank text.now }
+    ensures value { result ≡ prefix_length is_blank text.now }
     ensures within { result ≤ length text.now }
 {
     let mut length = 0;
@@ -29,9 +29,9 @@ fn blanks_length(text: &[u8]) -> usize
     length
 }
 
-/// How many digits stand at the front.
+/// The number of digits at the beginning.
 fn digits_length(text: &[u8]) -> usize
-    ensures value { result ≡ front_of is_decimal text.now }
+    ensures value { result ≡ prefix_length is_decimal text.now }
     ensures within { result ≤ length text.now }
 {
     let mut length = 0;
@@ -50,16 +50,16 @@ fn are_equal(bytes: &[u8], text: &[u8]) -> bool
     bytes == text
 }
 
-/// Blanks or none, and the bracket that closes.
+/// Returns whether the text is blanks or none, and the closing bracket.
 fn closes(text: &[u8]) -> bool
-    ensures { result ≡ is_closing text.now }
+    ensures { result ≡ is_closing_text text.now }
 {
     are_equal(&text[blanks_length(text)..], b"]")
 }
 
-/// The number that digits write, where it is a cost.
+/// The number that the digits write, if it is a cost.
 fn cost_by(digits: &[u8]) -> Option<u32>
-    ensures { result ≡ limited (value 0 digits.now) }
+    ensures { result ≡ cost_in_range (value 0 digits.now) }
 {
     let mut number = 0;
     for digit in digits {
@@ -80,9 +80,9 @@ fn starts_with_zero(text: &[u8]) -> bool
     }
 }
 
-/// The cost from its number on.
+/// The cost in a text that begins with its number.
 fn numbered_cost(text: &[u8]) -> Option<u32>
-    ensures { result ≡ numbered text.now }
+    ensures { result ≡ cost_from_number text.now }
 {
     if starts_with_zero(text) {
         return None;
@@ -95,9 +95,9 @@ fn numbered_cost(text: &[u8]) -> Option<u32>
     }
 }
 
-/// The cost from the blanks before its number on.
+/// The cost in a text that begins with the blanks before its number.
 fn spaced_cost(text: &[u8]) -> Option<u32>
-    ensures { result ≡ spaced text.now }
+    ensures { result ≡ cost_from_blanks text.now }
 {
     let length = blanks_length(text);
     if length > 0 {
@@ -107,7 +107,7 @@ fn spaced_cost(text: &[u8]) -> Option<u32>
     }
 }
 
-/// The first bytes, as many as `[@cost` has.
+/// The first six bytes, as many as `[@cost` has.
 fn first_bytes(text: &[u8]) -> &[u8]
     ensures { result.now ≡ take 6 text.now }
 {
@@ -117,7 +117,7 @@ fn first_bytes(text: &[u8]) -> &[u8]
     &text[..6]
 }
 
-/// The bytes behind them.
+/// The bytes after the first six.
 fn other_bytes(text: &[u8]) -> &[u8]
     ensures { result.now ≡ drop 6 text.now }
 {
@@ -127,7 +127,7 @@ fn other_bytes(text: &[u8]) -> &[u8]
     &text[6..]
 }
 
-/// The cost that an attribute with this text gives, where it is a cost attribute.
+/// The cost that an attribute with this text gives, if it is a cost attribute.
 #[tactic(auto, unfolding(crate::specs::Costs::cost_of))]
 pub(crate) fn cost_of(text: &[u8]) -> Option<u32>
     ensures { result ≡ spec.cost_of text.now }

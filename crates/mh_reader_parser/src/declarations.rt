@@ -1,17 +1,19 @@
-//! Declarations and their lists.
+//! The parser's steps in declarations and their lists.
 ghost use Rattle.std.specs.Prelude.{◌≡◌, ◌∷◌, ◌++◌, [], IfOk};
-ghost use Rattle.mh_reader_parser.specs.Signs.{is_capital};
-ghost use Rattle.mh_reader_parser.specs.code.Machine as machine;
-ghost use Rattle.mh_reader_parser.specs.code.Machine.{Refers};
+ghost use Rattle.mh_reader_parser.specs.TokenKinds.{is_capital};
+ghost use Rattle.mh_reader_parser.specs.code.ParserSteps as machine;
+ghost use Rattle.mh_reader_parser.specs.code.ParserSteps.{AgreesWithStep};
 
-use crate::places::{Listing, Place, Purpose, Reader, Refusal, go_to, no_memory, unexpected};
-use crate::signs::{Sign, is_capital_word};
+use crate::parser_states::{
+    ActualPurpose, OpenList, ParseFault, Parser, ParserState, go_to, no_memory, unexpected,
+};
 use crate::stack::Stack;
+use crate::token_kinds::{TokenKind, is_capital_word};
 use mh_grammar::{Memory, Name, Sequence, from_bytes, lost};
 use mh_rules::{Actual, LevelDecl, Module, Ref, TokenDecl};
 use std::alloc::Global;
 
-/// A declaration of levels.
+/// Adds a declaration of a level.
 fn add_level(mut made: Module, level: LevelDecl) -> Result<Module, Memory>
     ensures { IfOk result (λ m. m ≡ record made { levels = made.levels ++ level ∷ [] }) }
 {
@@ -21,7 +23,7 @@ fn add_level(mut made: Module, level: LevelDecl) -> Result<Module, Memory>
     }
 }
 
-/// An on-error declaration.
+/// Adds an on-error declaration.
 fn add_on_error(mut made: Module, actuals: Sequence<Actual>) -> Result<Module, Memory>
     ensures { IfOk result (λ m. m ≡ record made { on_error = made.on_error ++ actuals ∷ [] }) }
 {
@@ -31,44 +33,50 @@ fn add_on_error(mut made: Module, actuals: Sequence<Actual>) -> Result<Module, M
     }
 }
 
-/// The module behind a list.
-fn close(made: Module, listing: Listing) -> Result<Module, Memory>
+/// Returns the module after the list has ended.
+fn close(made: Module, listing: OpenList) -> Result<Module, Memory>
     ensures { IfOk result (λ m. m ≡ machine.close made listing) }
 {
     match listing {
-        Listing::Tokens | Listing::Starts => {
+        OpenList::Tokens | OpenList::Starts => {
             drop(listing);
             Ok(made)
         }
-        Listing::Actuals(false, actuals) => {
+        OpenList::Actuals(false, actuals) => {
             drop(actuals);
             Ok(made)
         }
-        Listing::Levels(assoc, names) => add_level(made, LevelDecl { assoc, names }),
-        Listing::Actuals(true, actuals) => add_on_error(made, actuals),
+        OpenList::Levels(assoc, names) => add_level(made, LevelDecl { assoc, names }),
+        OpenList::Actuals(true, actuals) => add_on_error(made, actuals),
     }
 }
 
-/// A declaration or the rules begin.
-pub(crate) fn declare(alloc: Global, made: Module, sign: Sign) -> Result<Reader, Refusal>
-    ensures { Refers (machine.declare made sign) result }
+/// Takes the first lexeme of a declaration, or the `%%` before the rules.
+pub(crate) fn declare(alloc: Global, made: Module, sign: TokenKind) -> Result<Parser, ParseFault>
+    ensures { AgreesWithStep (machine.declare made sign) result }
 {
     let place = match sign {
-        Sign::Header | Sign::Semicolon => Place::Declarations,
-        Sign::Token => Place::Opening(Listing::Tokens),
-        Sign::Start => Place::Opening(Listing::Starts),
-        Sign::Type => Place::TypeOf,
-        Sign::Level(assoc) => Place::Items(Listing::Levels(assoc, Sequence::new(alloc))),
-        Sign::OnErrorReduce => Place::Items(Listing::Actuals(true, Sequence::new(alloc))),
-        Sign::Parameter => Place::ParameterType,
-        Sign::Attribute => Place::Items(Listing::Actuals(false, Sequence::new(alloc))),
-        Sign::Percents => Place::Rules,
+        TokenKind::Header | TokenKind::Semicolon => ParserState::Declarations,
+        TokenKind::Token => ParserState::Opening(OpenList::Tokens),
+        TokenKind::Start => ParserState::Opening(OpenList::Starts),
+        TokenKind::Type => ParserState::TypeOf,
+        TokenKind::Level(assoc) => ParserState::Items(OpenList::Levels(
+            assoc,
+            Sequence::new(alloc),
+        )),
+        TokenKind::OnErrorReduce => ParserState::Items(OpenList::Actuals(
+            true,
+            Sequence::new(alloc),
+        )),
+        TokenKind::Parameter => ParserState::ParameterType,
+        TokenKind::Attribute => ParserState::Items(OpenList::Actuals(false, Sequence::new(alloc))),
+        TokenKind::Percents => ParserState::Rules,
         _ => return unexpected(made),
     };
     go_to(made, place)
 }
 
-/// A start of a list.
+/// Adds a start.
 fn add_start(mut made: Module, name: Name) -> Result<Module, Memory>
     ensures { IfOk result (λ m. m ≡ record made { starts = made.starts ++ name ∷ [] }) }
 {
@@ -78,7 +86,7 @@ fn add_start(mut made: Module, name: Name) -> Result<Module, Memory>
     }
 }
 
-/// A name of a level.
+/// Adds a name to a level.
 fn add_name(mut names: Sequence<Ref>, name: Ref) -> Result<Sequence<Ref>, Memory>
     ensures { IfOk result (λ all. all ≡ names ++ name ∷ []) }
 {
@@ -88,7 +96,7 @@ fn add_name(mut names: Sequence<Ref>, name: Ref) -> Result<Sequence<Ref>, Memory
     }
 }
 
-/// A token more.
+/// Adds a token.
 fn add_token(mut made: Module, token: TokenDecl) -> Result<Module, Memory>
     ensures { IfOk result (λ m. m ≡ machine.with_token made token) }
 {
@@ -98,38 +106,52 @@ fn add_token(mut made: Module, token: TokenDecl) -> Result<Module, Memory>
     }
 }
 
-/// A name or a string in a list that takes both.
-fn list_item(alloc: Global, made: Module, listing: Listing, item: Ref) -> Result<Reader, Refusal>
-    ensures { Refers (machine.list_item made listing item) result }
+/// Takes a name or a string in a list that may have both.
+fn list_item(
+    alloc: Global,
+    made: Module,
+    listing: OpenList,
+    item: Ref,
+) -> Result<Parser, ParseFault>
+    ensures { AgreesWithStep (machine.list_item made listing item) result }
 {
     match listing {
-        Listing::Tokens | Listing::Starts => unexpected((made, (listing, item))),
-        Listing::Levels(assoc, names) => match add_name(names, item) {
-            Ok(names) => go_to(made, Place::Items(Listing::Levels(assoc, names))),
+        OpenList::Tokens | OpenList::Starts => unexpected((made, (listing, item))),
+        OpenList::Levels(assoc, names) => match add_name(names, item) {
+            Ok(names) => go_to(made, ParserState::Items(OpenList::Levels(assoc, names))),
             Err(_) => no_memory(made),
         },
-        Listing::Actuals(kept, actuals) => go_to(
+        OpenList::Actuals(kept, actuals) => go_to(
             made,
-            Place::Head(Purpose::Listed(kept, actuals), Stack::new(alloc), item),
+            ParserState::Head(
+                ActualPurpose::Listed(kept, actuals),
+                Stack::new(alloc),
+                item,
+            ),
         ),
     }
 }
 
-/// A word in a list.
-fn list_word(alloc: Global, made: Module, listing: Listing, text: &[u8]) -> Result<Reader, Refusal>
-    ensures { Refers (machine.list_word made listing text.now) result }
+/// Takes a word in a list.
+fn list_word(
+    alloc: Global,
+    made: Module,
+    listing: OpenList,
+    text: &[u8],
+) -> Result<Parser, ParseFault>
+    ensures { AgreesWithStep (machine.list_word made listing text.now) result }
 {
     match from_bytes(alloc, text) {
         Ok(name) => match listing {
-            Listing::Tokens => {
+            OpenList::Tokens => {
                 if is_capital_word(text) {
-                    go_to(made, Place::TokenNamed(name, None))
+                    go_to(made, ParserState::TokenNamed(name, None))
                 } else {
                     unexpected((made, name))
                 }
             }
-            Listing::Starts => match add_start(made, name) {
-                Ok(made) => go_to(made, Place::Items(listing)),
+            OpenList::Starts => match add_start(made, name) {
+                Ok(made) => go_to(made, ParserState::Items(listing)),
                 Err(_) => no_memory(listing),
             },
             _ => list_item(alloc, made, listing, Ref::Plain(name)),
@@ -138,14 +160,14 @@ fn list_word(alloc: Global, made: Module, listing: Listing, text: &[u8]) -> Resu
     }
 }
 
-/// A string in a list.
+/// Takes a string in a list.
 fn list_quoted(
     alloc: Global,
     made: Module,
-    listing: Listing,
+    listing: OpenList,
     text: &[u8],
-) -> Result<Reader, Refusal>
-    ensures { Refers (machine.list_quoted made listing text.now) result }
+) -> Result<Parser, ParseFault>
+    ensures { AgreesWithStep (machine.list_quoted made listing text.now) result }
 {
     match from_bytes(alloc, text) {
         Ok(name) => list_item(alloc, made, listing, Ref::Alias(name)),
@@ -153,20 +175,20 @@ fn list_quoted(
     }
 }
 
-/// In a list.
+/// Takes a lexeme after the keyword of a list, or after an item.
 pub(crate) fn at_items(
     alloc: Global,
     made: Module,
-    listing: Listing,
-    sign: Sign,
+    listing: OpenList,
+    sign: TokenKind,
     text: &[u8],
-) -> Result<Reader, Refusal>
-    ensures { Refers (machine.at_items made listing sign text.now) result }
+) -> Result<Parser, ParseFault>
+    ensures { AgreesWithStep (machine.at_items made listing sign text.now) result }
 {
     match sign {
-        Sign::Word => list_word(alloc, made, listing, text),
-        Sign::Quoted => list_quoted(alloc, made, listing, text),
-        Sign::Comma => go_to(made, Place::Comma(listing)),
+        TokenKind::Word => list_word(alloc, made, listing, text),
+        TokenKind::Quoted => list_quoted(alloc, made, listing, text),
+        TokenKind::Comma => go_to(made, ParserState::Comma(listing)),
         _ => {
             let made = close(made, listing)?;
             declare(alloc, made, sign)
@@ -174,78 +196,78 @@ pub(crate) fn at_items(
     }
 }
 
-/// Behind a comma of a list.
+/// Takes a lexeme after a comma in a list.
 pub(crate) fn at_comma(
     alloc: Global,
     made: Module,
-    listing: Listing,
-    sign: Sign,
+    listing: OpenList,
+    sign: TokenKind,
     text: &[u8],
-) -> Result<Reader, Refusal>
-    ensures { Refers (machine.at_comma made listing sign text.now) result }
+) -> Result<Parser, ParseFault>
+    ensures { AgreesWithStep (machine.at_comma made listing sign text.now) result }
 {
     match sign {
-        Sign::Word => list_word(alloc, made, listing, text),
-        Sign::Quoted => list_quoted(alloc, made, listing, text),
+        TokenKind::Word => list_word(alloc, made, listing, text),
+        TokenKind::Quoted => list_quoted(alloc, made, listing, text),
         _ => unexpected((made, listing)),
     }
 }
 
-/// Where a type may stand before a list.
+/// Takes a lexeme after the keyword of a list; it may be a type.
 pub(crate) fn at_opening(
     alloc: Global,
     made: Module,
-    listing: Listing,
-    sign: Sign,
+    listing: OpenList,
+    sign: TokenKind,
     text: &[u8],
-) -> Result<Reader, Refusal>
-    ensures { Refers (machine.at_opening made listing sign text.now) result }
+) -> Result<Parser, ParseFault>
+    ensures { AgreesWithStep (machine.at_opening made listing sign text.now) result }
 {
     match sign {
-        Sign::TypeText => go_to(made, Place::Items(listing)),
+        TokenKind::TypeText => go_to(made, ParserState::Items(listing)),
         _ => at_items(alloc, made, listing, sign, text),
     }
 }
 
-/// Where a type has to stand before a list of actuals.
-pub(crate) fn at_type(alloc: Global, made: Module, sign: Sign) -> Result<Reader, Refusal>
-    ensures { Refers (machine.at_type made sign) result }
+/// Takes the type before a list of actuals.
+pub(crate) fn at_type(alloc: Global, made: Module, sign: TokenKind) -> Result<Parser, ParseFault>
+    ensures { AgreesWithStep (machine.at_type made sign) result }
 {
     match sign {
-        Sign::TypeText => go_to(
+        TokenKind::TypeText => go_to(
             made,
-            Place::Items(Listing::Actuals(false, Sequence::new(alloc))),
+            ParserState::Items(OpenList::Actuals(false, Sequence::new(alloc))),
         ),
         _ => unexpected(made),
     }
 }
 
-/// Where a parameter's type has to stand.
-pub(crate) fn at_parameter(made: Module, sign: Sign) -> Result<Reader, Refusal>
-    ensures { Refers (machine.at_parameter made sign) result }
+/// Takes the type of a `%parameter`.
+pub(crate) fn at_parameter(made: Module, sign: TokenKind) -> Result<Parser, ParseFault>
+    ensures { AgreesWithStep (machine.at_parameter made sign) result }
 {
     match sign {
-        Sign::TypeText => go_to(made, Place::Declarations),
+        TokenKind::TypeText => go_to(made, ParserState::Declarations),
         _ => unexpected(made),
     }
 }
 
-/// Behind a token's name, where its alias may stand.
+/// Takes a lexeme after the name of a token; it may be the alias.
 pub(crate) fn at_token(
     alloc: Global,
     made: Module,
     name: Name,
     cost: Option<u32>,
-    sign: Sign,
+    sign: TokenKind,
     text: &[u8],
-) -> Result<Reader, Refusal>
-    ensures { Refers (machine.at_token made name cost sign text.now) result }
+) -> Result<Parser, ParseFault>
+    ensures { AgreesWithStep (machine.at_token made name cost sign text.now) result }
 {
     match sign {
-        Sign::Quoted => match from_bytes(alloc, text) {
+        TokenKind::Quoted => match from_bytes(alloc, text) {
             Ok(alias) => go_to(
                 made,
-                Place::TokenAliased(TokenDecl {
+                ParserState::TokenAliased(TokenDecl {
                     name,
                     alias: Some(alias),
                     cost,
@@ -267,15 +289,15 @@ pub(crate) fn at_token(
     }
 }
 
-/// Behind a token's alias.
+/// Takes a lexeme after a token with its alias, if it has one.
 pub(crate) fn at_aliased(
     alloc: Global,
     made: Module,
     token: TokenDecl,
-    sign: Sign,
+    sign: TokenKind,
     text: &[u8],
-) -> Result<Reader, Refusal>
-    ensures { Refers (machine.at_aliased made token sign text.now) result }
+) -> Result<Parser, ParseFault>
+    ensures { AgreesWithStep (machine.at_aliased made token sign text.now) result }
 {
-    at_items(alloc, add_token(made, token)?, Listing::Tokens, sign, text)
+    at_items(alloc, add_token(made, token)?, OpenList::Tokens, sign, text)
 }

@@ -1,6 +1,5 @@
-//! Where a reader of grammar files stands, what their lexemes are to it, and the steps through declarations and rules.
-//!
-//! The module that a grammar file spells.
+//! The parser of grammar files: lexemes as token kinds, the states of the parser, and its steps through declarations,
+//! rules and actuals.
 #![tactic(auto)]
 
 mod actuals;
@@ -8,13 +7,13 @@ mod advance;
 mod costs;
 mod declarations;
 mod laws;
-mod places;
+mod parser_states;
 mod reading;
 mod rules;
-mod signs;
 mod stack;
+mod token_kinds;
 
 pub use laws::{cost_is_spelled, line_once, spelled_once};
 pub use mh_rules::{Actual, Alternative, LevelDecl, Module, Ref, Rule, TokenDecl};
 pub use reading::read_module;
-pub use signs::Sign;
+pub use token_kinds::TokenKind;

@@ -1,43 +1,45 @@
-//! Rules but for their actuals.
+//! The parser's steps in rules, apart from their actuals.
 ghost use Rattle.std.specs.Prelude.{◌≡◌, ◌∷◌, ◌++◌, [], IfOk, OnOk, Some, None, map};
 ghost use Rattle.mh_reader_parser.specs.Spelling.{ref_by, with_prec};
-ghost use Rattle.mh_reader_parser.specs.code.Machine as machine;
-ghost use Rattle.mh_reader_parser.specs.code.Machine.{Refers, ruled, grouped, grouped_with, produced, drafted, named, with_formal};
+ghost use Rattle.mh_reader_parser.specs.code.ParserSteps as machine;
+ghost use Rattle.mh_reader_parser.specs.code.ParserSteps.{AgreesWithStep, with_rule, with_productions, with_productions_of_prec, with_production, new_draft, named, with_formal};
 
-use crate::places::{Draft, Place, Purpose, Reader, Refusal, go_to, no_memory, unexpected};
-use crate::signs::Sign;
+use crate::parser_states::{
+    ActualPurpose, ParseFault, Parser, ParserState, RuleDraft, go_to, no_memory, unexpected,
+};
 use crate::stack::Stack;
+use crate::token_kinds::TokenKind;
 use mh_grammar::{Memory, Name, Sequence, from_bytes, lost};
 use mh_rules::{Alternative, Module, Ref, Rule};
 use std::alloc::Global;
 use std::mem;
 
-/// What a word or a string refers to.
-pub(crate) fn reference(alloc: Global, sign: Sign, text: &[u8]) -> Result<Ref, Refusal>
-    ensures { Refers (ref_by sign text.now) result }
+/// Returns the reference that a word or a string is.
+pub(crate) fn reference(alloc: Global, sign: TokenKind, text: &[u8]) -> Result<Ref, ParseFault>
+    ensures { AgreesWithStep (ref_by sign text.now) result }
 {
     let name = from_bytes(alloc, text)?;
     match sign {
-        Sign::Word => Ok(Ref::Plain(name)),
-        Sign::Quoted => Ok(Ref::Alias(name)),
+        TokenKind::Word => Ok(Ref::Plain(name)),
+        TokenKind::Quoted => Ok(Ref::Alias(name)),
         _ => unexpected(name),
     }
 }
 
-/// A rule of this name begins.
+/// Takes the name of a rule.
 fn name_rule(
     alloc: Global,
     made: Module,
     public: bool,
     inlined: bool,
     text: &[u8],
-) -> Result<Reader, Refusal>
-    ensures { Refers (machine.goes made (machine.name_place public inlined text.now)) result }
+) -> Result<Parser, ParseFault>
+    ensures { AgreesWithStep (machine.continues made (machine.state_after_name public inlined text.now)) result }
 {
     match from_bytes(alloc, text) {
         Ok(name) => go_to(
             made,
-            Place::RuleNamed(Rule {
+            ParserState::RuleNamed(Rule {
                 public,
                 inlined,
                 name,
@@ -49,52 +51,52 @@ fn name_rule(
     }
 }
 
-/// Where a rule may begin.
+/// Takes the first lexeme of a rule, or the second `%%`.
 pub(crate) fn in_rules(
     alloc: Global,
     made: Module,
-    sign: Sign,
+    sign: TokenKind,
     text: &[u8],
-) -> Result<Reader, Refusal>
-    ensures { Refers (machine.in_rules made sign text.now) result }
+) -> Result<Parser, ParseFault>
+    ensures { AgreesWithStep (machine.in_rules made sign text.now) result }
 {
     match sign {
-        Sign::Percents => go_to(made, Place::Ended),
+        TokenKind::Percents => go_to(made, ParserState::Ended),
         _ => at_modified(alloc, made, false, false, sign, text),
     }
 }
 
-/// Behind modifiers.
+/// Takes a lexeme after modifiers.
 pub(crate) fn at_modified(
     alloc: Global,
     made: Module,
     public: bool,
     inlined: bool,
-    sign: Sign,
+    sign: TokenKind,
     text: &[u8],
-) -> Result<Reader, Refusal>
-    ensures { Refers (machine.at_modified made public inlined sign text.now) result }
+) -> Result<Parser, ParseFault>
+    ensures { AgreesWithStep (machine.at_modified made public inlined sign text.now) result }
 {
     match sign {
-        Sign::Word => name_rule(alloc, made, public, inlined, text),
-        Sign::Public => go_to(made, Place::Modified(true, inlined)),
-        Sign::Inline => go_to(made, Place::Modified(public, true)),
+        TokenKind::Word => name_rule(alloc, made, public, inlined, text),
+        TokenKind::Public => go_to(made, ParserState::Modified(true, inlined)),
+        TokenKind::Inline => go_to(made, ParserState::Modified(public, true)),
         _ => unexpected(made),
     }
 }
 
-/// Behind a rule's name.
-pub(crate) fn at_rule_named(made: Module, rule: Rule, sign: Sign) -> Result<Reader, Refusal>
-    ensures { Refers (machine.at_rule_named made rule sign) result }
+/// Takes a lexeme after the name of a rule.
+pub(crate) fn at_rule_named(made: Module, rule: Rule, sign: TokenKind) -> Result<Parser, ParseFault>
+    ensures { AgreesWithStep (machine.at_rule_named made rule sign) result }
 {
     match sign {
-        Sign::Open => go_to(made, Place::FormalsOpen(rule)),
-        Sign::Colon => go_to(made, Place::Begin(rule)),
+        TokenKind::Open => go_to(made, ParserState::FormalsOpen(rule)),
+        TokenKind::Colon => go_to(made, ParserState::Begin(rule)),
         _ => unexpected((made, rule)),
     }
 }
 
-/// Adds a formal.
+/// Adds a formal to a rule.
 fn push_formal(alloc: Global, rule: &mut Rule, text: &[u8]) -> Result<(), Memory>
     ensures { OnOk result (rule.new ≡ with_formal rule.old text.now) }
 {
@@ -103,84 +105,101 @@ fn push_formal(alloc: Global, rule: &mut Rule, text: &[u8]) -> Result<(), Memory
     Ok(())
 }
 
-/// A formal.
-fn add_formal(alloc: Global, made: Module, mut rule: Rule, text: &[u8]) -> Result<Reader, Refusal>
-    ensures { Refers (machine.goes made (machine.formal_place rule text.now)) result }
+/// Takes a formal of a rule.
+fn add_formal(
+    alloc: Global,
+    made: Module,
+    mut rule: Rule,
+    text: &[u8],
+) -> Result<Parser, ParseFault>
+    ensures { AgreesWithStep (machine.continues made (machine.state_after_formal rule text.now)) result }
 {
     match push_formal(alloc, &mut rule, text) {
-        Ok(()) => go_to(made, Place::FormalRead(rule)),
+        Ok(()) => go_to(made, ParserState::FormalRead(rule)),
         Err(_) => no_memory((made, rule)),
     }
 }
 
-/// Behind the bracket of formals.
+/// Takes a lexeme after the opening bracket of formals.
 pub(crate) fn at_formals_open(
     alloc: Global,
     made: Module,
     rule: Rule,
-    sign: Sign,
+    sign: TokenKind,
     text: &[u8],
-) -> Result<Reader, Refusal>
-    ensures { Refers (machine.at_formals_open made rule sign text.now) result }
+) -> Result<Parser, ParseFault>
+    ensures { AgreesWithStep (machine.at_formals_open made rule sign text.now) result }
 {
     match sign {
-        Sign::Word => add_formal(alloc, made, rule, text),
-        Sign::Close => go_to(made, Place::FormalsClosed(rule)),
+        TokenKind::Word => add_formal(alloc, made, rule, text),
+        TokenKind::Close => go_to(made, ParserState::FormalsClosed(rule)),
         _ => unexpected((made, rule)),
     }
 }
 
-/// Behind a formal.
-pub(crate) fn at_formal_read(made: Module, rule: Rule, sign: Sign) -> Result<Reader, Refusal>
-    ensures { Refers (machine.at_formal_read made rule sign) result }
+/// Takes a lexeme after a formal.
+pub(crate) fn at_formal_read(
+    made: Module,
+    rule: Rule,
+    sign: TokenKind,
+) -> Result<Parser, ParseFault>
+    ensures { AgreesWithStep (machine.at_formal_read made rule sign) result }
 {
     match sign {
-        Sign::Comma => go_to(made, Place::FormalComma(rule)),
-        Sign::Close => go_to(made, Place::FormalsClosed(rule)),
+        TokenKind::Comma => go_to(made, ParserState::FormalComma(rule)),
+        TokenKind::Close => go_to(made, ParserState::FormalsClosed(rule)),
         _ => unexpected((made, rule)),
     }
 }
 
-/// Behind a comma of formals.
+/// Takes a lexeme after a comma of formals.
 pub(crate) fn at_formal_comma(
     alloc: Global,
     made: Module,
     rule: Rule,
-    sign: Sign,
+    sign: TokenKind,
     text: &[u8],
-) -> Result<Reader, Refusal>
-    ensures { Refers (machine.at_formal_comma made rule sign text.now) result }
+) -> Result<Parser, ParseFault>
+    ensures { AgreesWithStep (machine.at_formal_comma made rule sign text.now) result }
 {
     match sign {
-        Sign::Word => add_formal(alloc, made, rule, text),
+        TokenKind::Word => add_formal(alloc, made, rule, text),
         _ => unexpected((made, rule)),
     }
 }
 
-/// Behind formals.
-pub(crate) fn at_formals_closed(made: Module, rule: Rule, sign: Sign) -> Result<Reader, Refusal>
-    ensures { Refers (machine.at_formals_closed made rule sign) result }
+/// Takes a lexeme after the formals.
+pub(crate) fn at_formals_closed(
+    made: Module,
+    rule: Rule,
+    sign: TokenKind,
+) -> Result<Parser, ParseFault>
+    ensures { AgreesWithStep (machine.at_formals_closed made rule sign) result }
 {
     match sign {
-        Sign::Colon => go_to(made, Place::Begin(rule)),
+        TokenKind::Colon => go_to(made, ParserState::Begin(rule)),
         _ => unexpected((made, rule)),
     }
 }
 
-/// A group begins.
-fn draft_of(alloc: Global, rule: Rule) -> Draft
-    ensures { result ≡ drafted rule }
+/// The draft at the beginning of a group.
+fn draft_of(alloc: Global, rule: Rule) -> RuleDraft
+    ensures { result ≡ new_draft rule }
 {
-    Draft {
+    RuleDraft {
         rule,
         productions: Sequence::new(alloc),
         producers: Sequence::new(alloc),
     }
 }
 
-/// A production ends.
-fn end_production(alloc: Global, mut draft: Draft, prec: Option<Ref>) -> Result<Draft, Memory>
-    ensures { IfOk result (λ d. d ≡ produced draft prec) }
+/// The draft after a production.
+fn end_production(
+    alloc: Global,
+    mut draft: RuleDraft,
+    prec: Option<Ref>,
+) -> Result<RuleDraft, Memory>
+    ensures { IfOk result (λ d. d ≡ with_production draft prec) }
 {
     let producers = mem::replace(&mut draft.producers, Sequence::new(alloc));
     match draft.productions.push(Alternative { producers, prec }) {
@@ -189,14 +208,14 @@ fn end_production(alloc: Global, mut draft: Draft, prec: Option<Ref>) -> Result<
     }
 }
 
-/// A production ends without a `%prec`: what follows is what may follow one that has it.
+/// Takes a lexeme after a production without a `%prec`. The same lexemes may follow it as follow a production with one.
 fn end_without_prec(
     alloc: Global,
     made: Module,
-    draft: Draft,
-    sign: Sign,
-) -> Result<Reader, Refusal>
-    ensures { Refers (machine.at_closed made (produced draft None) sign) result }
+    draft: RuleDraft,
+    sign: TokenKind,
+) -> Result<Parser, ParseFault>
+    ensures { AgreesWithStep (machine.after_prec made (with_production draft None) sign) result }
 {
     match end_production(alloc, draft, None) {
         Ok(draft) => at_closed(alloc, made, draft, sign),
@@ -204,115 +223,118 @@ fn end_without_prec(
     }
 }
 
-/// In a production.
+/// Takes a lexeme in a production.
 pub(crate) fn in_production(
     alloc: Global,
     made: Module,
-    draft: Draft,
-    sign: Sign,
+    draft: RuleDraft,
+    sign: TokenKind,
     text: &[u8],
-) -> Result<Reader, Refusal>
-    ensures { Refers (machine.in_production made draft sign text.now) result }
+) -> Result<Parser, ParseFault>
+    ensures { AgreesWithStep (machine.in_production made draft sign text.now) result }
 {
     match sign {
-        Sign::Word => match from_bytes(alloc, text) {
-            Ok(name) => go_to(made, Place::Named(draft, name)),
+        TokenKind::Word => match from_bytes(alloc, text) {
+            Ok(name) => go_to(made, ParserState::Named(draft, name)),
             Err(_) => no_memory((made, draft)),
         },
-        Sign::Quoted => match from_bytes(alloc, text) {
+        TokenKind::Quoted => match from_bytes(alloc, text) {
             Ok(name) => {
-                let purpose = Purpose::Producer(draft);
+                let purpose = ActualPurpose::Producer(draft);
                 let head = Ref::Alias(name);
-                go_to(made, Place::Head(purpose, Stack::new(alloc), head))
+                go_to(made, ParserState::Head(purpose, Stack::new(alloc), head))
             }
             Err(_) => no_memory((made, draft)),
         },
-        Sign::Prec => go_to(made, Place::Prec(draft)),
-        Sign::Bar | Sign::Action => end_without_prec(alloc, made, draft, sign),
+        TokenKind::Prec => go_to(made, ParserState::Prec(draft)),
+        TokenKind::Bar | TokenKind::Action => end_without_prec(alloc, made, draft, sign),
         _ => unexpected((made, draft)),
     }
 }
 
-/// Behind a rule's colon.
+/// Takes a lexeme after the colon of a rule.
 pub(crate) fn at_begin(
     alloc: Global,
     made: Module,
     rule: Rule,
-    sign: Sign,
+    sign: TokenKind,
     text: &[u8],
-) -> Result<Reader, Refusal>
-    ensures { Refers (machine.at_begin made rule sign text.now) result }
+) -> Result<Parser, ParseFault>
+    ensures { AgreesWithStep (machine.at_begin made rule sign text.now) result }
 {
     let begun = draft_of(alloc, rule);
     match sign {
-        Sign::Bar => go_to(made, Place::Production(begun)),
+        TokenKind::Bar => go_to(made, ParserState::Production(begun)),
         _ => in_production(alloc, made, begun, sign, text),
     }
 }
 
-/// Behind a producer.
+/// Takes a lexeme after a producer.
 pub(crate) fn at_spaced(
     alloc: Global,
     made: Module,
-    draft: Draft,
-    sign: Sign,
+    draft: RuleDraft,
+    sign: TokenKind,
     text: &[u8],
-) -> Result<Reader, Refusal>
-    ensures { Refers (machine.at_spaced made draft sign text.now) result }
+) -> Result<Parser, ParseFault>
+    ensures { AgreesWithStep (machine.after_producer made draft sign text.now) result }
 {
     match sign {
-        Sign::Semicolon => go_to(made, Place::Spaced(draft)),
+        TokenKind::Semicolon => go_to(made, ParserState::Spaced(draft)),
         _ => in_production(alloc, made, draft, sign, text),
     }
 }
 
-/// Behind a production's `%prec`.
+/// Takes the name after the `%prec` of a production.
 pub(crate) fn at_prec(
     alloc: Global,
     made: Module,
-    draft: Draft,
-    sign: Sign,
+    draft: RuleDraft,
+    sign: TokenKind,
     text: &[u8],
-) -> Result<Reader, Refusal>
-    ensures { Refers (machine.at_prec made draft (ref_by sign text.now)) result }
+) -> Result<Parser, ParseFault>
+    ensures { AgreesWithStep (machine.at_prec made draft (ref_by sign text.now)) result }
 {
     match reference(alloc, sign, text) {
         Ok(prec) => {
             match end_production(alloc, draft, Some(prec)) {
-                Ok(draft) => go_to(made, Place::Closed(draft)),
+                Ok(draft) => go_to(made, ParserState::Closed(draft)),
                 Err(_) => no_memory(made),
             }
         }
-        Err(Refusal::Unexpected) => unexpected((made, draft)),
-        Err(Refusal::Memory) => no_memory((made, draft)),
+        Err(ParseFault::Unexpected) => unexpected((made, draft)),
+        Err(ParseFault::Memory) => no_memory((made, draft)),
     }
 }
 
-/// The draft where a production begins.
-fn without_producers(alloc: Global, mut draft: Draft) -> Draft
+/// The draft at the beginning of a production.
+fn without_producers(alloc: Global, mut draft: RuleDraft) -> RuleDraft
     ensures { result ≡ record draft { producers = [] } }
 {
     drop(mem::replace(&mut draft.producers, Sequence::new(alloc)));
     draft
 }
 
-/// Behind a production that has a `%prec`.
+/// Takes a lexeme after a production with a `%prec`.
 pub(crate) fn at_closed(
     alloc: Global,
     made: Module,
-    draft: Draft,
-    sign: Sign,
-) -> Result<Reader, Refusal>
-    ensures { Refers (machine.at_closed made draft sign) result }
+    draft: RuleDraft,
+    sign: TokenKind,
+) -> Result<Parser, ParseFault>
+    ensures { AgreesWithStep (machine.after_prec made draft sign) result }
 {
     match sign {
-        Sign::Bar => go_to(made, Place::Production(without_producers(alloc, draft))),
-        Sign::Action => go_to(made, Place::Group(draft)),
+        TokenKind::Bar => go_to(
+            made,
+            ParserState::Production(without_producers(alloc, draft)),
+        ),
+        TokenKind::Action => go_to(made, ParserState::Group(draft)),
         _ => unexpected((made, draft)),
     }
 }
 
-/// Adds alternatives behind others.
+/// Appends alternatives.
 fn joined(
     all: Sequence<Alternative>,
     more: Sequence<Alternative>,
@@ -346,17 +368,17 @@ fn with_group(rule: Rule, productions: Sequence<Alternative>) -> Result<Rule, Me
     }
 }
 
-/// The rule with the group that ends here. Fails for want of memory alone.
-pub(crate) fn group_of(draft: Draft) -> Result<Rule, Memory>
-    ensures { IfOk result (λ r. r ≡ grouped draft) }
+/// The rule with the group of the draft. It fails only for lack of memory.
+pub(crate) fn group_of(draft: RuleDraft) -> Result<Rule, Memory>
+    ensures { IfOk result (λ r. r ≡ with_productions draft) }
 {
     drop(draft.producers);
     with_group(draft.rule, draft.productions)
 }
 
-/// The module with the rule that ends here. Fails for want of memory alone.
+/// The module with one more rule. It fails only for lack of memory.
 pub(crate) fn add_rule(mut made: Module, rule: Rule) -> Result<Module, Memory>
-    ensures { IfOk result (λ m. m ≡ ruled made rule) }
+    ensures { IfOk result (λ m. m ≡ with_rule made rule) }
 {
     match made.rules.push(rule) {
         Ok(()) => Ok(made),
@@ -364,18 +386,18 @@ pub(crate) fn add_rule(mut made: Module, rule: Rule) -> Result<Module, Memory>
     }
 }
 
-/// Behind a group.
-pub(crate) fn behind_group(
+/// Takes a lexeme after a group.
+pub(crate) fn after_group(
     alloc: Global,
     made: Module,
     rule: Rule,
-    sign: Sign,
+    sign: TokenKind,
     text: &[u8],
-) -> Result<Reader, Refusal>
-    ensures { Refers (machine.behind_group made rule sign text.now) result }
+) -> Result<Parser, ParseFault>
+    ensures { AgreesWithStep (machine.after_group made rule sign text.now) result }
 {
     match sign {
-        Sign::Bar => go_to(made, Place::Production(draft_of(alloc, rule))),
+        TokenKind::Bar => go_to(made, ParserState::Production(draft_of(alloc, rule))),
         _ => {
             let made = add_rule(made, rule)?;
             at_rule_end(alloc, made, sign, text)
@@ -383,21 +405,21 @@ pub(crate) fn behind_group(
     }
 }
 
-/// Behind a group's action, where its `%prec` may stand.
+/// Takes a lexeme after the action of a group; it may be a `%prec`.
 pub(crate) fn at_group(
     alloc: Global,
     made: Module,
-    draft: Draft,
-    sign: Sign,
+    draft: RuleDraft,
+    sign: TokenKind,
     text: &[u8],
-) -> Result<Reader, Refusal>
-    ensures { Refers (machine.at_group made draft sign text.now) result }
+) -> Result<Parser, ParseFault>
+    ensures { AgreesWithStep (machine.at_group made draft sign text.now) result }
 {
     match sign {
-        Sign::Prec => go_to(made, Place::GroupPrec(draft)),
+        TokenKind::Prec => go_to(made, ParserState::GroupPrec(draft)),
         _ => {
             match group_of(draft) {
-                Ok(rule) => behind_group(alloc, made, rule, sign, text),
+                Ok(rule) => after_group(alloc, made, rule, sign, text),
                 Err(_) => no_memory(made),
             }
         }
@@ -425,7 +447,7 @@ fn copied_ref(alloc: Global, found: &Ref) -> Result<Ref, Memory>
     }
 }
 
-/// The group's level goes to a production without its own.
+/// Gives the group's level to a production that has none of its own.
 fn give_level(alloc: Global, production: &mut Alternative, group: &Ref) -> Result<(), Memory>
     ensures { OnOk result (production.new ≡ with_prec (Some group.now) production.old) }
 {
@@ -436,7 +458,7 @@ fn give_level(alloc: Global, production: &mut Alternative, group: &Ref) -> Resul
     Ok(())
 }
 
-/// The group's level goes to each production without its own.
+/// Gives the group's level to each production that has none of its own.
 fn give_levels(alloc: Global, productions: &mut [Alternative], group: &Ref) -> Result<(), Memory>
     ensures { OnOk result (productions.new ≡ map (with_prec (Some group.now)) productions.old) }
 {
@@ -446,9 +468,9 @@ fn give_levels(alloc: Global, productions: &mut [Alternative], group: &Ref) -> R
     Ok(())
 }
 
-/// The rule with a group of this level.
-fn levelled_group(alloc: Global, draft: Draft, group: &Ref) -> Result<Rule, Memory>
-    ensures { IfOk result (λ r. r ≡ grouped_with draft group.now) }
+/// The rule with a group that has this level.
+fn levelled_group(alloc: Global, draft: RuleDraft, group: &Ref) -> Result<Rule, Memory>
+    ensures { IfOk result (λ r. r ≡ with_productions_of_prec draft group.now) }
 {
     drop(draft.producers);
     let mut productions = draft.productions.into_vec();
@@ -458,41 +480,41 @@ fn levelled_group(alloc: Global, draft: Draft, group: &Ref) -> Result<Rule, Memo
     }
 }
 
-/// Behind a group's `%prec`.
+/// Takes the name after the `%prec` of a group.
 pub(crate) fn at_group_prec(
     alloc: Global,
     made: Module,
-    draft: Draft,
-    sign: Sign,
+    draft: RuleDraft,
+    sign: TokenKind,
     text: &[u8],
-) -> Result<Reader, Refusal>
-    ensures { Refers (machine.at_group_prec made draft (ref_by sign text.now)) result }
+) -> Result<Parser, ParseFault>
+    ensures { AgreesWithStep (machine.at_group_prec made draft (ref_by sign text.now)) result }
 {
     match reference(alloc, sign, text) {
         Ok(prec) => {
             let group = levelled_group(alloc, draft, &prec);
             drop(prec);
             match group {
-                Ok(rule) => go_to(made, Place::GroupClosed(rule)),
+                Ok(rule) => go_to(made, ParserState::GroupClosed(rule)),
                 Err(_) => no_memory(made),
             }
         }
-        Err(Refusal::Unexpected) => unexpected((made, draft)),
-        Err(Refusal::Memory) => no_memory((made, draft)),
+        Err(ParseFault::Unexpected) => unexpected((made, draft)),
+        Err(ParseFault::Memory) => no_memory((made, draft)),
     }
 }
 
-/// Behind a whole rule, where semicolons may stand.
+/// Takes a lexeme after a whole rule; it may be a semicolon.
 pub(crate) fn at_rule_end(
     alloc: Global,
     made: Module,
-    sign: Sign,
+    sign: TokenKind,
     text: &[u8],
-) -> Result<Reader, Refusal>
-    ensures { Refers (machine.at_rule_end made sign text.now) result }
+) -> Result<Parser, ParseFault>
+    ensures { AgreesWithStep (machine.at_rule_end made sign text.now) result }
 {
     match sign {
-        Sign::Semicolon => go_to(made, Place::RuleEnd),
+        TokenKind::Semicolon => go_to(made, ParserState::RuleEnd),
         _ => in_rules(alloc, made, sign, text),
     }
 }

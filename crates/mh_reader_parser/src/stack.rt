@@ -1,4 +1,4 @@
-//! A stack that contracts see with its newest item first.
+//! A stack whose model in contracts is the list of its items, the newest first.
 ghost use Rattle.std.specs.Prelude.{◌≡◌, ◌∷◌, [], OnOk, MatchOption, length};
 
 use mh_grammar::Memory;
@@ -32,14 +32,14 @@ impl<T> Stack<T> {
         }
     }
 
-    /// How many items there are.
+    /// The number of items.
     pub fn len(&self) -> usize
         ensures { result ≡ length self.now }
     {
         self.items.len()
     }
 
-    /// Takes the newest item, where there is one.
+    /// Removes the newest item and returns it; `None` if there is none.
     pub fn pop(&mut self) -> Option<T>
         ensures { MatchOption result ((self.old ≡ []) × (self.new ≡ [])) (λ item. self.old ≡ item ∷ self.new) }
     {
@@ -48,7 +48,7 @@ impl<T> Stack<T> {
 }
 
 impl<T: Drop> Stack<T> {
-    /// Puts an item on top. Fails for want of memory alone.
+    /// Pushes an item. It fails only for lack of memory.
     pub fn push(&mut self, item: T) -> Result<(), Memory>
         ensures { OnOk result (self.new ≡ item ∷ self.old) }
     {

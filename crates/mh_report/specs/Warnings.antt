@@ -1,4 +1,4 @@
--- The warnings on the conflicts of a table (the texts are this project's own).
+-- The warnings on the conflicts of a table. The texts are this project's own.
 use Rattle.std.specs.Prelude.{List, [], ◌∷◌, ◌++◌}
 use Rattle.mh_grammar.specs.declared.types.Grammar.{Grammar}
 use Rattle.mh_resolve_cells.specs.declared.conflicts.Conflict.{Conflict}

@@ -7,7 +7,7 @@ ghost use Rattle.mh_resolve_cells.specs.declared.kinds.Mode.{Mode as ModeOf};
 ghost use Rattle.mh_resolve_cells.specs.States.{IsTableOf};
 ghost use Rattle.mh_resolve_cells.specs.Names.{mode_name};
 ghost use Rattle.mh_grammar_texts.specs.Productions.{production_text};
-ghost use Rattle.mh_report.specs.Automata.{title, kernel_lines, cell_line, cell_lines, goto_line, goto_lines, head_line, AreActionLines, IsStateText, IsAutomatonText, Adds};
+ghost use Rattle.mh_report.specs.Automata.{title, kernel_lines, cell_line, cell_lines, goto_line, goto_lines, head_line, AreActionLines, IsStateText, IsAutomatonText, AppendsText};
 
 use mh_grammar::{Edge, Grammar, Memory, Symbol, Token, nonterminal_name, token_name};
 use mh_grammar_texts::{write_between, write_production};
@@ -18,7 +18,7 @@ use mh_resolve_settle::holes_of;
 use mh_tables_core::{Action, Fallback, Halting, Table};
 use std::alloc::Global;
 
-/// The name of a mode.
+/// The name of a mode in the text of an automaton.
 pub fn mode_name(mode: Mode) -> &'static [u8]
     ensures { result.now ≡ mode_name mode }
 {
@@ -35,7 +35,7 @@ fn write_title(alloc: Global, text: &mut Vec<u8>, mode: Mode, states: u32) -> Re
     write_between(alloc, text, b": ", states, b" states\n")
 }
 
-/// Writes a name, two spaces in.
+/// Appends a name, indented by two spaces.
 fn write_indented(text: &mut Vec<u8>, name: &[u8]) -> Result<(), Memory>
     ensures { OnOk result (text.new.items ≡ text.old.items ++ (codes "  " ++ name.now)) }
 {
@@ -44,7 +44,7 @@ fn write_indented(text: &mut Vec<u8>, name: &[u8]) -> Result<(), Memory>
     Ok(())
 }
 
-/// A line that ends in a production.
+/// Appends a line that ends with a production.
 fn write_reduction(
     text: &mut Vec<u8>,
     grammar: &Grammar,
@@ -60,7 +60,7 @@ fn write_reduction(
     Ok(())
 }
 
-/// A token with what its cell does.
+/// Appends the line of a token: the action of its cell.
 fn write_cell_line(
     alloc: Global,
     text: &mut Vec<u8>,
@@ -146,7 +146,8 @@ fn write_goto_lines(
     Ok(())
 }
 
-/// The default, or a line for each token that acts or is a hole.
+/// Appends the default of a state, else one line for each token whose cell has an action or is a hole (has lost its
+/// actions by precedence).
 fn write_actions<const W: usize>(
     alloc: Global,
     text: &mut Vec<u8>,
@@ -163,7 +164,7 @@ fn write_actions<const W: usize>(
     requires states { length table.now.states ≡ length automaton.now.kernels }
     requires state { state < length automaton.now.kernels }
     ensures { OnOk result
-        (Adds (AreActionLines grammar.now automaton.now table.now state (fallback_of table.now state))
+        (AppendsText (AreActionLines grammar.now automaton.now table.now state (fallback_of table.now state))
         text.old.items text.new.items) }
 {
     match table.fallback(state) {
@@ -235,7 +236,7 @@ fn write_state<const W: usize>(
     requires states { length table.now.states ≡ length automaton.now.kernels }
     requires state { state < length automaton.now.kernels }
     ensures { OnOk result
-        (Adds (IsStateText grammar.now automaton.now table.now state)
+        (AppendsText (IsStateText grammar.now automaton.now table.now state)
         text.old.items text.new.items) }
 {
     write_head(alloc, text, state)?;
@@ -245,8 +246,9 @@ fn write_state<const W: usize>(
     Ok(())
 }
 
-/// The states of an automaton, each with its kernel, its default or the cells that act or are holes, and its edges on
-/// nonterminals. The table is that of the automaton in the mode. Fails for want of memory alone.
+/// Returns the text of an automaton: for each state its kernel, its default or the cells that have an action or are
+/// holes, and its edges on nonterminals. A hole is a cell whose actions were all removed by precedence. The table must
+/// be the one of this automaton in this mode. Fails only if memory runs out.
 pub fn automaton_text<const W: usize>(
     alloc: Global,
     grammar: &Grammar,

@@ -1,4 +1,4 @@
-//! Texts for people: the automaton with its table, and the warnings on conflicts.
+//! Texts for users: the automaton with its table, and the warnings on conflicts.
 #![tactic(auto)]
 
 mod automata;

@@ -7,8 +7,8 @@ use mh_report_notation::write_warning;
 use mh_resolve_cells::Conflict;
 use std::alloc::Global;
 
-/// A line for each conflict that levels do not solve, in the order of the list. The numbers of tokens are the
-/// grammar's. Fails for want of memory alone.
+/// Returns one line for each conflict that precedence levels do not solve, in the order of the list. The tokens must be
+/// those of the grammar. Fails only if memory runs out.
 pub fn warning_text(
     alloc: Global,
     grammar: &Grammar,

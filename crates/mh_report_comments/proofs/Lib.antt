@@ -1,4 +1,4 @@
-pub mod Suffix
-pub mod OneText
-pub mod Farthest
-pub mod Writing
+pub mod KnownSuffix
+pub mod OneCommentText
+pub mod HasFarthestDot
+pub mod CommentParts

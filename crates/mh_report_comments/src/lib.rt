@@ -1,4 +1,4 @@
-//! The texts on a sentence that fails: the comment lines of messages files, and whole entries.
+//! The texts on a sentence that fails: its comment lines in messages files, and its whole entry.
 #![tactic(auto)]
 
 mod laws;

@@ -1,11 +1,11 @@
-//! The comment lines of a sentence that fails, and the entry that lists it.
+//! The comment lines of a sentence that fails, and its entry in the list of errors.
 ghost use Rattle.std.specs.Prelude.{◌≡◌, ◌<◌, ◌≤◌, ◌^◌, ◌++◌, ℕ, length, take, IfOk, OnOk};
 ghost use Rattle.std.specs.List.{All};
 ghost use Rattle.mh_grammar.specs.Plain.{plain_of, rhs_of};
 ghost use Rattle.mh_items_kernels.specs.Kernels.{IsKernelItem};
 ghost use Rattle.mh_items_kernels.specs.Automaton.{IsAutomaton};
 ghost use Rattle.mh_tables_core.specs.Failing.{Fails};
-ghost use Rattle.mh_report_comments.specs.Comments.{IsFarthest, WritesComments, IsCommentText, IsEntryText, ends_in, suffix_follows, suffix_comment, reduced_comment, reduced_comments, message_here};
+ghost use Rattle.mh_report_comments.specs.Comments.{HasFarthestDot, AppendsComments, IsCommentText, IsEntryText, state_comment, suffix_title, suffix_comment, reduced_comment, reduced_comments, message_placeholder};
 
 use mh_grammar::{Grammar, Memory, Token};
 use mh_grammar_texts::{write_before, write_between, write_production};
@@ -16,9 +16,9 @@ use mh_run::{Verdict, trace};
 use mh_tables_core::Halting;
 use std::alloc::Global;
 
-#[tactic(auto, unfolding(crate::specs::Comments::ends_in))]
+#[tactic(auto, unfolding(crate::specs::Comments::state_comment))]
 fn write_state(alloc: Global, text: &mut Vec<u8>, state: u32) -> Result<(), Memory>
-    ensures { OnOk result (text.new.items ≡ text.old.items ++ ends_in state) }
+    ensures { OnOk result (text.new.items ≡ text.old.items ++ state_comment state) }
 {
     write_between(
         alloc,
@@ -29,15 +29,15 @@ fn write_state(alloc: Global, text: &mut Vec<u8>, state: u32) -> Result<(), Memo
     )
 }
 
-#[tactic(auto, unfolding(crate::specs::Comments::suffix_follows))]
+#[tactic(auto, unfolding(crate::specs::Comments::suffix_title))]
 fn write_suffix_title(text: &mut Vec<u8>) -> Result<(), Memory>
-    ensures { OnOk result (text.new.items ≡ text.old.items ++ suffix_follows) }
+    ensures { OnOk result (text.new.items ≡ text.old.items ++ suffix_title) }
 {
     text.extend_from_slice(b"##\n## The known suffix of the stack is as follows:\n##")?;
     Ok(())
 }
 
-/// Writes the symbols that are known to be on top of the stack: those before a dot in the right side of a production.
+/// Appends the known suffix of the stack: the symbols before the dot in the right side of a production.
 fn write_suffix(
     text: &mut Vec<u8>,
     grammar: &Grammar,
@@ -54,7 +54,7 @@ fn write_suffix(
     Ok(())
 }
 
-#[tactic(auto, unfolding(crate::specs::Comments::reduced_before))]
+#[tactic(auto, unfolding(crate::specs::Comments::reduced_title))]
 fn write_reduced(text: &mut Vec<u8>, grammar: &Grammar, production: u32) -> Result<(), Memory>
     ensures { OnOk result (text.new.items ≡ text.old.items
         ++ reduced_comment grammar.now production) }
@@ -65,7 +65,7 @@ fn write_reduced(text: &mut Vec<u8>, grammar: &Grammar, production: u32) -> Resu
     Ok(())
 }
 
-/// Writes a line for each of the productions that were reduced, in order.
+/// Appends one line for each of the reduced productions, in order.
 fn write_all_reduced(
     text: &mut Vec<u8>,
     grammar: &Grammar,
@@ -80,20 +80,20 @@ fn write_all_reduced(
     Ok(())
 }
 
-/// Writes the line that the user replaces by a message, between two empty lines.
-#[tactic(auto, unfolding(crate::specs::Comments::message_here))]
+/// Appends the line that the user replaces with a message, between two empty lines.
+#[tactic(auto, unfolding(crate::specs::Comments::message_placeholder))]
 fn write_message_place(text: &mut Vec<u8>) -> Result<(), Memory>
-    ensures { OnOk result (text.new.items ≡ text.old.items ++ message_here) }
+    ensures { OnOk result (text.new.items ≡ text.old.items ++ message_placeholder) }
 {
     text.extend_from_slice(b"\n<YOUR SYNTAX ERROR MESSAGE HERE>\n\n")?;
     Ok(())
 }
 
-/// The first item whose dot is as far as any.
+/// The first item whose dot is the farthest to the right.
 fn farthest<const W: usize>(items: &[KernelItem<W>]) -> &KernelItem<W>
     requires few { W ≤ 8 }
     requires some { 0 < length items.now }
-    ensures { IsFarthest items.now result.now }
+    ensures { HasFarthestDot items.now result.now }
 {
     let mut best = &items[0];
     for item in items {
@@ -104,7 +104,7 @@ fn farthest<const W: usize>(items: &[KernelItem<W>]) -> &KernelItem<W>
     best
 }
 
-/// The comment lines of a state with these items, in which these productions were reduced since the last shift.
+/// Appends the comment lines of a state with these items; `reduced` has the productions reduced since the last shift.
 fn write_comments<const W: usize>(
     alloc: Global,
     text: &mut Vec<u8>,
@@ -116,7 +116,7 @@ fn write_comments<const W: usize>(
     requires few { W ≤ 8 }
     requires some { 0 < length items.now }
     requires items { All (IsKernelItem (plain_of grammar.now)) items.now }
-    ensures { OnOk result (WritesComments grammar.now items.now state reduced.now text.old.items text.new.items) }
+    ensures { OnOk result (AppendsComments grammar.now items.now state reduced.now text.old.items text.new.items) }
 {
     let item = farthest(items);
     write_state(alloc, text, state)?;
@@ -126,8 +126,9 @@ fn write_comments<const W: usize>(
     Ok(())
 }
 
-/// The comment lines of a sentence that fails: the state that refuses its last token with the kernel, the symbols that are known
-/// to be on top of the stack, and the productions reduced since the last shift. Fails for want of memory alone.
+/// Returns the comment lines of a sentence that fails: the state that refuses its last token, with its kernel; the
+/// symbols that are known to be on top of the stack; and the productions reduced since the last shift. Fails only if
+/// memory runs out.
 pub fn comment_lines<const W: usize>(
     alloc: Global,
     grammar: &Grammar,
@@ -154,8 +155,8 @@ pub fn comment_lines<const W: usize>(
     Ok(text)
 }
 
-/// The entry of a sentence that fails, as a messages file has it before its message is written: the sentence, its comment lines, an
-/// empty line, a line to write the message in, and an empty line. Fails for want of memory alone.
+/// Returns the entry of a sentence that fails, in the form of a messages file: the sentence, its comment lines, an
+/// empty line, a placeholder for the message, and an empty line. Fails only if memory runs out.
 pub fn entry_text<const W: usize>(
     alloc: Global,
     grammar: &Grammar,

@@ -1,4 +1,4 @@
--- The warning on a conflict of a table (the texts are this project's own).
+-- The warning on a conflict of a table. The texts are this project's own.
 use Rattle.std.specs.Prelude.{ℕ, [], ◌++◌, codes, decimal}
 use Rattle.mh_grammar.specs.declared.types.Grammar.{Grammar}
 use Rattle.mh_grammar.specs.declared.types.Look.{Look}
@@ -7,19 +7,19 @@ use Rattle.mh_resolve_cells.specs.declared.kinds.ConflictKind.TheVariants.{Solve
 use Rattle.mh_grammar.specs.Text.{Text}
 use Rattle.mh_resolve_cells.specs.Names.{look_name}
 
--- how the warning on a conflict of a cell begins: it names the state
+-- The beginning of the warning on a conflict of a cell: it names the state.
 unfoldable pub conflict_place : ℕ → Text
 conflict_place s = codes "menhir: warning: conflict in state " ++ decimal s ++ codes " on "
 
--- the warning on a conflict that no levels solve
+-- The warning on a conflict that precedence levels do not solve.
 abbrev pub unsolved_line : Grammar → ℕ → Look → Text
 unsolved_line g s look = conflict_place s ++ look_name g look ++ codes "\n"
 
--- the warning on an end-of-stream conflict
+-- The warning on an end-of-stream conflict.
 abbrev pub stream_line : ℕ → Text
 stream_line s = codes "menhir: warning: end-of-stream conflict in state " ++ decimal s ++ codes "\n"
 
--- the warning on a conflict; there is none where levels solve it
+-- The warning on a conflict; empty if precedence levels solve the conflict.
 abbrev pub warning_line : Grammar → ℕ → Look → ConflictKind → Text
 warning_line g s look Solved = []
 warning_line g s look Unsolved = unsolved_line g s look

@@ -1,17 +1,17 @@
-//! The texts of items and kernels. Each function adds to the end of a text.
+//! The texts of LR(1) items. Each `write_` function appends to a text.
 ghost use Rattle.std.specs.Prelude.{◌≡◌, ◌≤◌, ◌++◌, codes, OnOk};
 ghost use Rattle.std.specs.List.{All};
 ghost use Rattle.mh_grammar.specs.Plain.{plain_of};
 ghost use Rattle.mh_items_kernels.specs.Kernels.{IsKernelItem};
 ghost use Rattle.mh_resolve_cells.specs.Names.{look_name};
-ghost use Rattle.mh_report_notation.specs.Items.{looks_after, kernel_text, item_line, item_lines};
+ghost use Rattle.mh_report_notation.specs.ItemTexts.{looks_after, item_text, item_line, item_lines};
 
 use mh_grammar::{Grammar, Look, Memory, token_name};
 use mh_grammar_texts::write_sides;
 use mh_items_kernels::KernelItem;
 use mh_sets::TokenSet;
 
-/// The name of a look.
+/// The name of a lookahead symbol: the name of a token, or `#` for the end of the stream.
 pub fn look_name(grammar: &Grammar, look: Look) -> &[u8]
     ensures { result.now ≡ look_name grammar.now look }
 {
@@ -36,7 +36,7 @@ fn write_looks<const W: usize>(
     Ok(())
 }
 
-/// Looks in brackets.
+/// Appends a lookahead set in brackets.
 fn write_brackets<const W: usize>(
     text: &mut Vec<u8>,
     grammar: &Grammar,
@@ -52,7 +52,7 @@ fn write_brackets<const W: usize>(
     Ok(())
 }
 
-/// An item with its looks.
+/// Appends an item with its lookahead set.
 fn write_item<const W: usize>(
     text: &mut Vec<u8>,
     grammar: &Grammar,
@@ -60,7 +60,7 @@ fn write_item<const W: usize>(
 ) -> Result<(), Memory>
     requires few { W ≤ 8 }
     requires item { IsKernelItem (plain_of grammar.now) item.now }
-    ensures { OnOk result (text.new.items ≡ text.old.items ++ kernel_text grammar.now item.now) }
+    ensures { OnOk result (text.new.items ≡ text.old.items ++ item_text grammar.now item.now) }
 {
     write_sides(text, grammar, item.production, Some(item.dot))?;
     write_brackets(text, grammar, &item.looks)
@@ -82,7 +82,8 @@ fn write_item_line<const W: usize>(
     Ok(())
 }
 
-/// Items, each in a line that begins with a front. Fails for want of memory alone; then a front of them may be written.
+/// Appends items, one a line, each with the prefix `front`. Fails only if memory runs out; some of the lines may be
+/// written then.
 pub fn write_item_lines<const W: usize>(
     text: &mut Vec<u8>,
     grammar: &Grammar,

@@ -1,4 +1,4 @@
-//! How items and warnings are written.
+//! The notation of items and of warnings on conflicts.
 #![tactic(auto)]
 
 mod items;

@@ -21,8 +21,8 @@ fn write_place(alloc: Global, text: &mut Vec<u8>, state: u32) -> Result<(), Memo
     )
 }
 
-/// Writes a line for a conflict of this kind, or none where levels solve the conflict. Fails for want of memory alone; then a front
-/// of the line may be written.
+/// Appends the warning on a conflict of this kind, or nothing if precedence levels solve the conflict. Fails only if
+/// memory runs out; a part of the line may be written then.
 pub fn write_warning(
     alloc: Global,
     text: &mut Vec<u8>,

@@ -1,2 +1,2 @@
-pub mod Assembling
-pub mod Same
+pub mod IsResolved
+pub mod EqualRawActions

@@ -1,8 +1,8 @@
-//! The list of conflicts, state after state.
+//! The list of conflicts, state by state.
 ghost use Rattle.std.specs.Prelude.{◌≡◌, ◌<◌, ◌^◌, ◌++◌, length, OnOk, OnErr};
-ghost use Rattle.mh_resolve_cells.specs.code.Listing.{found_on, row_conflicts};
+ghost use Rattle.mh_resolve_cells.specs.code.ConflictList.{found_on, row_conflicts};
 
-use crate::states::Row;
+use crate::states::CellRow;
 use mh_grammar::{Look, Memory};
 use mh_resolve_cells::{Conflict, ConflictKind};
 
@@ -24,7 +24,7 @@ fn add_found(
 }
 
 fn stream_kind(stream: bool) -> Option<ConflictKind>
-    ensures { result ≡ Rattle.mh_resolve_cells.specs.code.Listing.stream_kind stream }
+    ensures { result ≡ Rattle.mh_resolve_cells.specs.code.ConflictList.stream_kind stream }
 {
     if stream {
         Some(ConflictKind::Stream)
@@ -33,11 +33,11 @@ fn stream_kind(stream: bool) -> Option<ConflictKind>
     }
 }
 
-/// Adds the conflicts of a state: by token, at the end of the stream, and the conflict of the end.
+/// Appends the conflicts of a state: by token, then at the end of the stream, and the end-of-stream conflict last.
 pub(crate) fn add_conflicts(
     conflicts: &mut Vec<Conflict>,
     state: u32,
-    row: &Row,
+    row: &CellRow,
 ) -> Result<(), Memory>
     requires { length row.now.cells < 2 ^ 16 }
     ensures { OnOk result (conflicts.new.items ≡ conflicts.old.items ++ row_conflicts state row.now.cells row.now.last row.now.stream) }

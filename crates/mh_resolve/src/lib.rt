@@ -1,4 +1,4 @@
-//! The table of an automaton, with conflicts resolved by levels, and the list of its conflicts.
+//! The table of an automaton, with conflicts resolved by precedence, and the list of its conflicts.
 #![tactic(auto)]
 
 mod found;
@@ -7,6 +7,6 @@ mod states;
 
 pub use mh_resolve_cells::{Conflict, ConflictKind, Mode};
 pub use resolution::{
-    Resolution, conflicts_are_one, conflicts_are_raw, conflicts_tell, resolve, resolve_one,
+    Resolution, conflicts_are_complete, conflicts_are_one, conflicts_are_raw, resolve, resolve_one,
     resolve_states, table_acts, table_is_one,
 };

@@ -1,24 +1,25 @@
 //! The table of an automaton, and its conflicts.
-ghost use Rattle.std.specs.Prelude.{◌≡◌, ◌≤◌, ◌*◌, ◌<◌, ◌↔◌, ℕ, [], length, IfOk, OnOk, Some};
+ghost use Rattle.std.specs.Prelude.{◌≡◌, ◌≤◌, ◌<◌, ◌↔◌, ℕ, [], length, IfOk, OnOk, Some};
 ghost use Rattle.mh_grammar.specs.Costs.{HaveCosts};
-ghost use Rattle.mh_grammar.specs.Plain.{plain_of, IsInRange};
+ghost use Rattle.mh_grammar.specs.Plain.{plain_of};
 ghost use Rattle.mh_grammar.specs.Edges.{IsRising, IsEdgeBefore};
-ghost use Rattle.mh_items.specs.code.Closer.{IsCloser};
+ghost use Rattle.mh_items.specs.Fitting.{FitsSets};
+ghost use Rattle.mh_items.specs.code.ClosureBuilder.{IsClosureBuilder};
 ghost use Rattle.mh_items_kernels.specs.Kernels.{IsItemList};
-ghost use Rattle.mh_items_kernels.specs.code.Empties.{HasComplete};
+ghost use Rattle.mh_items_kernels.specs.code.EmptyMarks.{HasCompleteItems};
 ghost use Rattle.mh_items_kernels.specs.Automaton.{IsAutomaton};
 ghost use Rattle.mh_tables_core.specs.Table.{table_data, state_at};
 ghost use Rattle.mh_tables_core.specs.Facts.{Facts};
 ghost use Rattle.mh_resolve_cells.specs.States.{state_of, closed_state, IsResolved, AreResolved, IsTableOf};
 ghost use Rattle.mh_resolve_cells.specs.Conflicts.{AreConflicts};
-ghost use Rattle.mh_items_kernels.specs.Conflicts.{IsConflicting, IsFaulty};
-ghost use Rattle.mh_resolve_cells.specs.Clear.{HasNoConflicts, HasRawConflict, ActsWithin, ActsClearly};
-ghost use Rattle.mh_resolve_cells.specs.code.Whole.{IsRow, AreEdgesKnown};
+ghost use Rattle.mh_items_kernels.specs.Conflicts.{AutomatonHasConflict, AutomatonHasAnyConflict};
+ghost use Rattle.mh_resolve_cells.specs.NoConflicts.{HasNoConflicts, HasRawConflict, ActsSoundly, ActsCompletely};
+ghost use Rattle.mh_resolve_cells.specs.code.StateResults.{IsCellRow, AreEdgesKnown};
 
 use crate::found::add_conflicts;
-use crate::states::{Listed, Row, parts_of, row_of};
+use crate::states::{CellRow, ListedState, parts_of, row_of};
 use mh_grammar::{Edge, Grammar, Memory};
-use mh_items::Closer;
+use mh_items::ClosureBuilder;
 use mh_items_kernels::{Automaton, Kernel};
 use mh_resolve_cells::{Conflict, Mode};
 use mh_tables_core::{StateParts, Table, table_of};
@@ -27,38 +28,38 @@ use std::alloc::Global;
 /// The states of a table, and the list of its conflicts.
 #[derive(Drop)]
 pub struct Resolution {
+    /// The states of the table, by their numbers.
     pub states: Vec<StateParts>,
+    /// The conflicts, in order.
     pub conflicts: Vec<Conflict>,
 }
 
-/// A state of the table, and what was found of it.
+/// A state of the table, with the row from which it was made.
 #[derive(Drop)]
 struct Resolved {
     parts: StateParts,
-    row: Row,
+    row: CellRow,
 }
 
 fn resolve_state<const W: usize>(
     alloc: Global,
     grammar: &Grammar,
-    closer: &mut Closer<W>,
+    closer: &mut ClosureBuilder<W>,
     kernel: &Kernel<W>,
     edges: &[Edge],
     mode: Mode,
 ) -> Result<Resolved, Memory>
-    requires few { W ≤ 8 }
-    requires width { length grammar.now.tokens ≤ 64 * W }
-    requires range { IsInRange (plain_of grammar.now) }
-    requires closer { IsCloser (plain_of grammar.now) closer.old }
+    requires fits { FitsSets W grammar.now }
+    requires closer { IsClosureBuilder (plain_of grammar.now) closer.old }
     requires kernel { IsItemList (plain_of grammar.now) kernel.now }
     requires rising { IsRising IsEdgeBefore edges.now }
     requires known { AreEdgesKnown (length grammar.now.tokens) edges.now }
     ensures parts { IfOk result (λ r. IsResolved mode (closed_state grammar.now kernel.now edges.now) kernel.now r.parts) }
-    ensures row { IfOk result (λ r. IsRow (closed_state grammar.now kernel.now edges.now) r.row.cells r.row.last r.row.stream) }
-    ensures closer { IfOk result (λ _. IsCloser (plain_of grammar.now) closer.new) }
+    ensures row { IfOk result (λ r. IsCellRow (closed_state grammar.now kernel.now edges.now) r.row.cells r.row.last r.row.stream) }
+    ensures closer { IfOk result (λ _. IsClosureBuilder (plain_of grammar.now) closer.new) }
 {
     if !closer.adds_complete(grammar, kernel) {
-        let state = Listed {
+        let state = ListedState {
             kernel,
             closed: kernel,
             edges,
@@ -66,7 +67,7 @@ fn resolve_state<const W: usize>(
         return resolve_listed(alloc, grammar, &state, mode);
     }
     let closed = closer.close(alloc, grammar, kernel)?;
-    let state = Listed {
+    let state = ListedState {
         kernel,
         closed: &closed,
         edges,
@@ -74,50 +75,48 @@ fn resolve_state<const W: usize>(
     resolve_listed(alloc, grammar, &state, mode)
 }
 
-/// The parts of the table of one state by itself, of its kernel and its edges. Fails for want of memory alone.
+/// Returns the table's state for one kernel and its edges. It fails only if there is no memory.
 pub fn resolve_one<const W: usize>(
     alloc: Global,
     grammar: &Grammar,
-    closer: &mut Closer<W>,
+    closer: &mut ClosureBuilder<W>,
     kernel: &Kernel<W>,
     edges: &[Edge],
     mode: Mode,
 ) -> Result<StateParts, Memory>
-    requires few { W ≤ 8 }
-    requires width { length grammar.now.tokens ≤ 64 * W }
-    requires range { IsInRange (plain_of grammar.now) }
-    requires closer { IsCloser (plain_of grammar.now) closer.old }
+    requires fits { FitsSets W grammar.now }
+    requires closer { IsClosureBuilder (plain_of grammar.now) closer.old }
     requires kernel { IsItemList (plain_of grammar.now) kernel.now }
     requires rising { IsRising IsEdgeBefore edges.now }
     requires known { AreEdgesKnown (length grammar.now.tokens) edges.now }
     ensures parts { IfOk result (IsResolved mode (closed_state grammar.now kernel.now edges.now) kernel.now) }
-    ensures closer { IfOk result (λ _. IsCloser (plain_of grammar.now) closer.new) }
+    ensures closer { IfOk result (λ _. IsClosureBuilder (plain_of grammar.now) closer.new) }
 {
     let resolved = resolve_state(alloc, grammar, closer, kernel, edges, mode)?;
     Ok(resolved.parts)
 }
 
-/// What is found of a state, by a list with the complete items of its closure.
+/// Resolves a state, given a list with the complete items of its closure.
 fn resolve_listed<const W: usize>(
     alloc: Global,
     grammar: &Grammar,
-    state: &Listed<'_, W>,
+    state: &ListedState<'_, W>,
     mode: Mode,
 ) -> Result<Resolved, Memory>
     requires few { W ≤ 8 }
     requires closed { IsItemList (plain_of grammar.now) state.now.closed.now }
-    requires exact { HasComplete (plain_of grammar.now) state.now.kernel.now state.now.closed.now }
+    requires exact { HasCompleteItems (plain_of grammar.now) state.now.kernel.now state.now.closed.now }
     requires rising { IsRising IsEdgeBefore state.now.edges.now }
     requires known { AreEdgesKnown (length grammar.now.tokens) state.now.edges.now }
     ensures parts { IfOk result (λ r. IsResolved mode (closed_state grammar.now state.now.kernel.now state.now.edges.now) state.now.kernel.now r.parts) }
-    ensures row { IfOk result (λ r. IsRow (closed_state grammar.now state.now.kernel.now state.now.edges.now) r.row.cells r.row.last r.row.stream) }
+    ensures row { IfOk result (λ r. IsCellRow (closed_state grammar.now state.now.kernel.now state.now.edges.now) r.row.cells r.row.last r.row.stream) }
 {
     let row = row_of(alloc, grammar, state)?;
     let parts = parts_of(alloc, grammar, state, mode, &row)?;
     Ok(Resolved { parts, row })
 }
 
-/// Both lists, into places that the caller owns.
+/// Fills both lists, which must be empty.
 fn all_states<const W: usize>(
     alloc: Global,
     grammar: &Grammar,
@@ -125,9 +124,7 @@ fn all_states<const W: usize>(
     mode: Mode,
     found: &mut Resolution,
 ) -> Result<(), Memory>
-    requires few { W ≤ 8 }
-    requires width { length grammar.now.tokens ≤ 64 * W }
-    requires range { IsInRange (plain_of grammar.now) }
+    requires fits { FitsSets W grammar.now }
     requires costs { HaveCosts grammar.now.tokens }
     requires automaton { IsAutomaton (plain_of grammar.now) automaton.now }
     requires none { found.old.states.items ≡ [] }
@@ -136,25 +133,23 @@ fn all_states<const W: usize>(
     ensures facts { OnOk result (Facts (table_data grammar.now found.new.states.items)) }
     ensures conflicts { OnOk result (AreConflicts grammar.now automaton.now found.new.conflicts.items) }
 {
-    let mut closer = Closer::new(alloc, grammar)?;
+    let mut closer = ClosureBuilder::new(alloc, grammar)?;
     add_states(alloc, grammar, &mut closer, automaton, mode, found)
 }
 
-/// The same, state after state.
+/// Fills both lists, state by state.
 fn add_states<const W: usize>(
     alloc: Global,
     grammar: &Grammar,
-    closer: &mut Closer<W>,
+    closer: &mut ClosureBuilder<W>,
     automaton: &Automaton<W>,
     mode: Mode,
     found: &mut Resolution,
 ) -> Result<(), Memory>
-    requires few { W ≤ 8 }
-    requires width { length grammar.now.tokens ≤ 64 * W }
-    requires range { IsInRange (plain_of grammar.now) }
+    requires fits { FitsSets W grammar.now }
     requires costs { HaveCosts grammar.now.tokens }
     requires automaton { IsAutomaton (plain_of grammar.now) automaton.now }
-    requires closer { IsCloser (plain_of grammar.now) closer.old }
+    requires closer { IsClosureBuilder (plain_of grammar.now) closer.old }
     requires none { found.old.states.items ≡ [] }
     requires free { found.old.conflicts.items ≡ [] }
     ensures states { OnOk result (AreResolved grammar.now automaton.now mode found.new.states.items) }
@@ -171,17 +166,15 @@ fn add_states<const W: usize>(
     Ok(())
 }
 
-/// The states of the table of an automaton, and the list of its conflicts, as `resolve` gives them. Fails for want of
-/// memory alone.
+/// Returns the states of the table of an automaton and the list of its conflicts, as `resolve` does. It fails only if
+/// there is no memory.
 pub fn resolve_states<const W: usize>(
     alloc: Global,
     grammar: &Grammar,
     automaton: &Automaton<W>,
     mode: Mode,
 ) -> Result<Resolution, Memory>
-    requires few { W ≤ 8 }
-    requires width { length grammar.now.tokens ≤ 64 * W }
-    requires range { IsInRange (plain_of grammar.now) }
+    requires fits { FitsSets W grammar.now }
     requires costs { HaveCosts grammar.now.tokens }
     requires automaton { IsAutomaton (plain_of grammar.now) automaton.now }
     ensures states { IfOk result (λ r. AreResolved grammar.now automaton.now mode r.states.items) }
@@ -196,20 +189,18 @@ pub fn resolve_states<const W: usize>(
     Ok(found)
 }
 
-/// The table of an automaton, with conflicts resolved by levels, and the list of its conflicts: by state, then by token
-/// with the end of the stream after the tokens; a conflict of the end of the stream comes last in its state.
+/// Returns the table of an automaton, with conflicts resolved by precedence, and the list of its conflicts: by state,
+/// then by look with the end of the stream after the tokens; an end-of-stream conflict is the last of its state.
 ///
-/// The rules are those of yacc's precedence (Johnson 1975) as the Menhir manual gives them; what it leaves open is this
-/// project's profile. Fails for want of memory alone.
+/// The rules are those of yacc's precedence (Johnson 1975) with the additions of the Menhir manual; what they leave
+/// open is this project's own. It fails only if there is no memory.
 pub fn resolve<const W: usize>(
     alloc: Global,
     grammar: &Grammar,
     automaton: &Automaton<W>,
     mode: Mode,
 ) -> Result<(Table, Vec<Conflict>), Memory>
-    requires few { W ≤ 8 }
-    requires width { length grammar.now.tokens ≤ 64 * W }
-    requires range { IsInRange (plain_of grammar.now) }
+    requires fits { FitsSets W grammar.now }
     requires costs { HaveCosts grammar.now.tokens }
     requires automaton { IsAutomaton (plain_of grammar.now) automaton.now }
     ensures table { IfOk result (λ r. IsTableOf grammar.now automaton.now mode r.0) }
@@ -219,7 +210,7 @@ pub fn resolve<const W: usize>(
     Ok((table_of(alloc, grammar, states)?, conflicts))
 }
 
-/// An automaton has one table in each mode: an empty call that says so to contracts.
+/// Law: an automaton has at most one table in each mode. The body is empty; only the contract matters.
 pub fn table_is_one<const W: usize>(
     grammar: &Grammar,
     automaton: &Automaton<W>,
@@ -238,7 +229,7 @@ pub fn table_is_one<const W: usize>(
     let _right = right;
 }
 
-/// An automaton has one list of conflicts: an empty call that says so to contracts.
+/// Law: an automaton has at most one list of conflicts. The body is empty; only the contract matters.
 pub fn conflicts_are_one<const W: usize>(
     grammar: &Grammar,
     automaton: &Automaton<W>,
@@ -255,8 +246,9 @@ pub fn conflicts_are_one<const W: usize>(
     let _right = right;
 }
 
-/// The list of conflicts is empty exactly where no state has one: an empty call that says so to contracts.
-pub fn conflicts_tell<const W: usize>(
+/// Law: the list of conflicts is empty exactly if no state has a conflict. The body is empty; only the contract
+/// matters.
+pub fn conflicts_are_complete<const W: usize>(
     grammar: &Grammar,
     automaton: &Automaton<W>,
     conflicts: &[Conflict],
@@ -269,19 +261,19 @@ pub fn conflicts_tell<const W: usize>(
     let _conflicts = conflicts;
 }
 
-/// The states of an automaton have conflicts exactly where the item sets of their kernels do: an empty call that says
-/// so to contracts.
+/// Law: the states of an automaton have conflicts exactly if the item sets of their kernels have. The body is empty;
+/// only the contract matters.
 pub fn conflicts_are_raw<const W: usize>(grammar: &Grammar, automaton: &Automaton<W>)
     requires { IsAutomaton (plain_of grammar.now) automaton.now }
-    ensures none { HasNoConflicts grammar.now automaton.now ↔ (IsFaulty (plain_of grammar.now) automaton.now → ⊥) }
-    ensures raw { HasRawConflict grammar.now automaton.now ↔ IsConflicting (plain_of grammar.now) automaton.now }
+    ensures none { HasNoConflicts grammar.now automaton.now ↔ (AutomatonHasAnyConflict (plain_of grammar.now) automaton.now → ⊥) }
+    ensures raw { HasRawConflict grammar.now automaton.now ↔ AutomatonHasConflict (plain_of grammar.now) automaton.now }
 {
     let _grammar = grammar;
     let _automaton = automaton;
 }
 
-/// A table shifts along its automaton's edges and reduces what is complete; without conflicts it takes every raw
-/// action: an empty call that says so to contracts.
+/// Law: a table shifts along its automaton's edges and reduces complete productions; without conflicts it takes each
+/// raw action. The body is empty; only the contract matters.
 pub fn table_acts<const W: usize>(
     grammar: &Grammar,
     automaton: &Automaton<W>,
@@ -290,8 +282,8 @@ pub fn table_acts<const W: usize>(
 )
     requires automaton { IsAutomaton (plain_of grammar.now) automaton.now }
     requires table { IsTableOf grammar.now automaton.now mode table.now }
-    ensures within { (s : ℕ) → s < length automaton.now.kernels → ActsWithin (state_of grammar.now automaton.now s) (state_at table.now s) }
-    ensures clearly { HasNoConflicts grammar.now automaton.now → (s : ℕ) → s < length automaton.now.kernels → ActsClearly (state_of grammar.now automaton.now s) (state_at table.now s) }
+    ensures within { (s : ℕ) → s < length automaton.now.kernels → ActsSoundly (state_of grammar.now automaton.now s) (state_at table.now s) }
+    ensures clearly { HasNoConflicts grammar.now automaton.now → (s : ℕ) → s < length automaton.now.kernels → ActsCompletely (state_of grammar.now automaton.now s) (state_at table.now s) }
 {
     let _grammar = grammar;
     let _automaton = automaton;

@@ -1,63 +1,70 @@
-//! The parts of a state of the table.
+//! The computation of a state of the table.
 ghost use Rattle.std.specs.Prelude.{◌≡◌, ◌<◌, ◌≤◌, length, map, IfOk, []};
 ghost use Rattle.std.specs.List.{All};
 ghost use Rattle.mh_grammar.specs.Plain.{plain_of};
 ghost use Rattle.mh_grammar.specs.Edges.{IsRising, IsEdgeBefore};
 ghost use Rattle.mh_items_kernels.specs.Kernels.{IsItemList};
-ghost use Rattle.mh_items_kernels.specs.code.Empties.{HasComplete};
-ghost use Rattle.mh_resolve_cells.specs.States.{closed_state, place_of, IsResolved};
-ghost use Rattle.mh_resolve_cells.specs.code.Rows.{listed, IsLooked};
-ghost use Rattle.mh_resolve_cells.specs.code.Whole.{kept_of, IsFiller, filled_with, fallback_for, AreEdgesKnown, IsRow};
+ghost use Rattle.mh_items_kernels.specs.code.EmptyMarks.{HasCompleteItems};
+ghost use Rattle.mh_resolve_cells.specs.States.{closed_state, core_item_of, IsResolved};
+ghost use Rattle.mh_resolve_cells.specs.code.CellRows.{state_of_items, HasSomeLook};
+ghost use Rattle.mh_resolve_cells.specs.code.StateResults.{kept_of, IsFiller, filled_with, fallback_for, AreEdgesKnown, IsCellRow};
 
 use mh_grammar::{Edge, Grammar, Memory, Sequence};
 use mh_items_kernels::{Closure, Kernel, KernelItem};
 use mh_resolve_cells::{Cell, Mode};
 use mh_resolve_settle::{
-    cell_of, cells_of, default_of, for_errors, is_stream_conflict, shifts_of, tallies_of,
+    cell_of, cells_of, default_of, is_stream_conflict, on_error_production, shifts_of, tallies_of,
 };
-use mh_tables_core::{Action, CoreItem, Fallback, StateParts};
+use mh_tables_core::{Action, Fallback, Place, StateParts};
 use std::alloc::Global;
 
-/// What a state is resolved by: its kernel, a list with the complete items of its closure, and its edges.
+/// The input of the resolution of a state: its kernel, a list with the complete items of its closure, and its edges.
 #[derive(Clone, Copy)]
-pub(crate) struct Listed<'a, const W: usize> {
+pub(crate) struct ListedState<'a, const W: usize> {
     pub kernel: &'a Kernel<W>,
+    /// A list with the complete items of the closure.
     pub closed: &'a Closure<W>,
+    /// The edges, in the order of their symbols.
     pub edges: &'a [Edge],
 }
 
-/// What was found of a state: the cells of the tokens and of the end of the stream, and whether they conflict.
+/// The cells of a state: those of the tokens, that of the end of the stream, and whether there is an end-of-stream
+/// conflict.
 #[derive(Drop)]
-pub(crate) struct Row {
+pub(crate) struct CellRow {
+    /// The cell of each token.
     pub cells: Sequence<Cell>,
+    /// The cell of the end of the stream.
     pub last: Cell,
+    /// Whether there is an end-of-stream conflict.
     pub stream: bool,
 }
 
-/// The action at the end of the stream, which is dropped where it conflicts with that of a token.
+/// The action at the end of the stream, which an end-of-stream conflict drops.
 fn kept_action(stream: bool, last: Action) -> Action
     ensures { result ≡ kept_of stream last }
 {
     if stream { Action::Refuse } else { last }
 }
 
-/// The production that fills the cells without raw action, if there is one; none where the state has a default.
+/// The production that fills the cells without raw actions, if there is one; there is none if the state has a default.
 fn filler_of<const W: usize>(
     grammar: &Grammar,
     items: &[KernelItem<W>],
     default: Option<u32>,
 ) -> Option<u32>
     requires few { W ≤ 8 }
-    requires items { All IsLooked items.now }
-    ensures { IsFiller (listed grammar.now items.now []) default result }
+    requires items { All HasSomeLook items.now }
+    ensures { IsFiller (state_of_items grammar.now items.now []) default result }
 {
     match default {
         Some(_) => None,
-        None => for_errors(grammar, items),
+        None => on_error_production(grammar, items),
     }
 }
 
-/// What a cell does, once those without raw action are filled: where no production fills them, they refuse.
+/// The action of a cell after filling: a cell without raw actions reduces the filling production, or refuses if there
+/// is none.
 fn action_of(cell: &Cell, filler: Option<u32>) -> Action
     ensures { result ≡ filled_with filler cell.now }
 {
@@ -80,18 +87,18 @@ fn actions_of(alloc: Global, cells: &[Cell], filler: Option<u32>) -> Result<Vec<
     Ok(actions)
 }
 
-fn place<const W: usize>(item: &KernelItem<W>) -> CoreItem
-    ensures { result ≡ place_of item.now }
+fn place<const W: usize>(item: &KernelItem<W>) -> Place
+    ensures { result ≡ core_item_of item.now }
 {
-    CoreItem {
+    Place {
         production: item.production,
         dot: item.dot,
     }
 }
 
-fn core_of<const W: usize>(alloc: Global, items: &[KernelItem<W>]) -> Result<Vec<CoreItem>, Memory>
+fn core_of<const W: usize>(alloc: Global, items: &[KernelItem<W>]) -> Result<Vec<Place>, Memory>
     requires few { W ≤ 8 }
-    ensures { IfOk result (λ core. core.items ≡ map place_of items.now) }
+    ensures { IfOk result (λ core. core.items ≡ map core_item_of items.now) }
 {
     let mut core = Vec::with_capacity(alloc, items.len())?;
     for item in items {
@@ -100,7 +107,7 @@ fn core_of<const W: usize>(alloc: Global, items: &[KernelItem<W>]) -> Result<Vec
     Ok(core)
 }
 
-/// The default of a state: to reduce a start production is to accept.
+/// The default of a state: the reduction of a start production is acceptance.
 pub(crate) fn fallback_of(grammar: &Grammar, default: Option<u32>) -> Option<Fallback>
     ensures { result ≡ fallback_for (length grammar.now.starts) default }
 {
@@ -116,18 +123,18 @@ pub(crate) fn fallback_of(grammar: &Grammar, default: Option<u32>) -> Option<Fal
     }
 }
 
-/// The row of a state.
+/// Computes the cells of a state.
 pub(crate) fn row_of<const W: usize>(
     alloc: Global,
     grammar: &Grammar,
-    state: &Listed<'_, W>,
-) -> Result<Row, Memory>
+    state: &ListedState<'_, W>,
+) -> Result<CellRow, Memory>
     requires few { W ≤ 8 }
     requires kernel { IsItemList (plain_of grammar.now) state.now.closed.now }
-    requires exact { HasComplete (plain_of grammar.now) state.now.kernel.now state.now.closed.now }
+    requires exact { HasCompleteItems (plain_of grammar.now) state.now.kernel.now state.now.closed.now }
     requires rising { IsRising IsEdgeBefore state.now.edges.now }
     requires known { AreEdgesKnown (length grammar.now.tokens) state.now.edges.now }
-    ensures { IfOk result (λ row. IsRow (closed_state grammar.now state.now.kernel.now state.now.edges.now) row.cells row.last row.stream) }
+    ensures { IfOk result (λ row. IsCellRow (closed_state grammar.now state.now.kernel.now state.now.edges.now) row.cells row.last row.stream) }
 {
     let items = state.closed.items.as_slice();
     let shifts = shifts_of(alloc, grammar.tokens.len(), state.edges)?;
@@ -135,25 +142,25 @@ pub(crate) fn row_of<const W: usize>(
     let cells = cells_of(alloc, tallies.tokens.as_slice(), shifts.as_slice())?;
     let last = cell_of(tallies.last, None);
     let stream = is_stream_conflict(cells.as_slice(), last.action);
-    Ok(Row {
+    Ok(CellRow {
         cells: Sequence::from_vec(cells),
         last,
         stream,
     })
 }
 
-/// The parts of a state, from its row.
+/// Computes a state of the table from its cells.
 pub(crate) fn parts_of<const W: usize>(
     alloc: Global,
     grammar: &Grammar,
-    state: &Listed<'_, W>,
+    state: &ListedState<'_, W>,
     mode: Mode,
-    row: &Row,
+    row: &CellRow,
 ) -> Result<StateParts, Memory>
     requires few { W ≤ 8 }
     requires closed { IsItemList (plain_of grammar.now) state.now.closed.now }
-    requires exact { HasComplete (plain_of grammar.now) state.now.kernel.now state.now.closed.now }
-    requires row { IsRow (closed_state grammar.now state.now.kernel.now state.now.edges.now) row.now.cells row.now.last row.now.stream }
+    requires exact { HasCompleteItems (plain_of grammar.now) state.now.kernel.now state.now.closed.now }
+    requires row { IsCellRow (closed_state grammar.now state.now.kernel.now state.now.edges.now) row.now.cells row.now.last row.now.stream }
     ensures { IfOk result (IsResolved mode (closed_state grammar.now state.now.kernel.now state.now.edges.now) state.now.kernel.now) }
 {
     let cells = row.cells.as_slice();

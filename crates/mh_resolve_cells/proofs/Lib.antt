@@ -1,8 +1,8 @@
-pub mod Bridging
-pub mod Clear
-pub mod Closed
-pub mod Listing
-pub mod Once
-pub mod Resolving
-pub mod Stating
-pub mod Tabled
+pub mod ConflictsAgree
+pub mod ActsCompletely
+pub mod ClosureItems
+pub mod ConflictList
+pub mod OneResolution
+pub mod AreResolved
+pub mod IsResolved
+pub mod TableFacts

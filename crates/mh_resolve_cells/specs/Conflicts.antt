@@ -1,26 +1,27 @@
--- The list of conflicts, those of the Menhir manual; their order is this project's own.
+-- The list of conflicts. The conflicts are those of the Menhir manual; their order is this project's own.
 use Rattle.std.specs.Prelude.{◌≡◌, ◌<◌, ◌⊎◌, ◌↔◌, List, length}
 use Rattle.std.specs.List.{Contains}
 use Rattle.mh_grammar.specs.declared.types.Grammar.{Grammar}
-use Rattle.mh_items_kernels.specs.Shapes.{Automaton}
+use Rattle.mh_items_kernels.specs.KernelTypes.{Automaton}
 use Rattle.mh_grammar.specs.Edges.{IsRising, IsLookBefore}
 use Rattle.mh_resolve_cells.specs.declared.kinds.ConflictKind.{ConflictKind}
 use Rattle.mh_resolve_cells.specs.declared.kinds.ConflictKind.TheVariants.{Stream}
 use Rattle.mh_resolve_cells.specs.declared.conflicts.Conflict.{Conflict}
-use Rattle.mh_resolve_cells.specs.States.{state_of, HasConflict}
+use Rattle.mh_resolve_cells.specs.States.{state_of, HasConflictOn}
 
--- a state of the automaton has this conflict
+-- The conflict is one of a state of the automaton.
 abbrev pub IsConflictOf : Grammar → Automaton → Conflict → Type 0
-IsConflictOf g a c = (c.state < length a.kernels) × HasConflict (state_of g a c.state) c.look c.kind
+IsConflictOf g a c = (c.state < length a.kernels) × HasConflictOn (state_of g a c.state) c.look c.kind
 
--- by state, then by look, the conflict of the end of the stream last
+-- The order of kinds for one state and look: an end-of-stream conflict is last.
 abbrev pub IsKindBefore : ConflictKind → ConflictKind → Type 0
 IsKindBefore k l = (k ≡ Stream → ⊥) × (l ≡ Stream)
 
+-- The order of conflicts: by state, then by look, then by kind.
 abbrev pub IsConflictBefore : Conflict → Conflict → Type 0
 IsConflictBefore c d = (c.state < d.state) ⊎ ((c.state ≡ d.state) × (IsLookBefore c.look d.look ⊎ ((c.look ≡ d.look) × IsKindBefore c.kind d.kind)))
 
--- the conflicts, each once, in order
+-- The list holds the conflicts of the automaton, each once, by state, then by look, then by kind.
 pub record AreConflicts (g : Grammar) (a : Automaton) (conflicts : List Conflict) : Type 0 where
   pub members : (c : Conflict) → Contains conflicts c ↔ IsConflictOf g a c
   pub order : IsRising IsConflictBefore conflicts

@@ -1,8 +1,8 @@
 pub mod code
 pub mod Cells
-pub mod Clear
+pub mod NoConflicts
 pub mod Conflicts
 pub mod Holes
-pub mod Levels
+pub mod Precedence
 pub mod Names
 pub mod States

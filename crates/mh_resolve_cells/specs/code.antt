@@ -1,5 +1,5 @@
-pub mod Listing
-pub mod Counting
-pub mod Rows
+pub mod ConflictList
+pub mod LookTallies
+pub mod CellRows
 pub mod Tallies
-pub mod Whole
+pub mod StateResults

@@ -1,37 +1,49 @@
-//! What is known of a cell, and what is counted for it.
+//! Types for cells and their tallies.
 use crate::kinds::ConflictKind;
 use mh_tables_core::Action;
 
-/// What a cell does, whether it has a raw action, and its conflict.
+/// A cell: its action, whether it has a raw action, and its conflict.
 #[derive(Clone, Copy)]
 pub struct Cell {
+    /// The action that precedence chooses, or `Refuse`.
     pub action: Action,
+    /// Whether the cell has a raw action.
     pub raw: bool,
+    /// The kind of its conflict, if it has one.
     pub kind: Option<ConflictKind>,
 }
 
-/// What was seen of a cell's reductions: the lowest that stays, whether there is one at all, whether two stay, whether
-/// each lets the shift stay, and whether one has no comparable level.
+/// A tally of the reductions in a cell: the lowest production that wins its comparison, whether there is any reduction,
+/// whether two win, whether all of them let the shift remain, and whether some comparison has no comparable levels.
 #[derive(Clone, Copy)]
 pub struct Tally {
+    /// The lowest production that wins its comparison, if there is one.
     pub lowest: Option<u32>,
+    /// Whether there is any reduction.
     pub some: bool,
+    /// Whether two reductions win their comparisons.
     pub two: bool,
+    /// Whether all comparisons let the shift remain.
     pub shifts: bool,
+    /// Whether some comparison has no comparable levels.
     pub unknown: bool,
 }
 
 /// The tallies of the tokens and of the end of the stream.
 #[derive(Drop)]
 pub struct Tallies {
+    /// The tally of each token.
     pub tokens: Vec<Tally>,
+    /// The tally of the end of the stream.
     pub last: Tally,
 }
 
-/// The candidate of the lowest rank, and whether another has that rank.
+/// The candidate with the lowest rank, and whether another candidate has the same rank.
 #[derive(Clone, Copy)]
-pub struct Best {
+pub struct BestCandidate {
     pub rank: u64,
+    /// The production of the candidate.
     pub production: u32,
+    /// Whether a candidate of another production has the same rank.
     pub tied: bool,
 }

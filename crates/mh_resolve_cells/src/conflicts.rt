@@ -1,14 +1,14 @@
-//! The conflicts of states.
+//! The type of conflicts.
 use crate::kinds::ConflictKind;
 use mh_grammar::Look;
 
 /// A conflict of a state, on a token or at the end of the stream.
 #[derive(Clone, Copy, PartialEq, Eq)]
 pub struct Conflict {
-    /// The state's number, below the count of the automaton's states.
+    /// The number of the state, below the number of states of the automaton.
     pub state: u32,
-    /// The token on which actions compete, or the end of the stream.
+    /// The token on which the actions conflict, or the end of the stream.
     pub look: Look,
-    /// How it ended.
+    /// The outcome of the conflict.
     pub kind: ConflictKind,
 }

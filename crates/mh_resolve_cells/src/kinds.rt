@@ -1,22 +1,22 @@
-//! The names of what resolution speaks of.
+//! Modes of automata and kinds of conflicts.
 
-/// Which automaton a table is made of. In canonical mode a state has a default only where it has that action at the end
-/// of the stream too.
+/// The kind of the automaton from which a table is made. In canonical mode a state has a default only if it has the
+/// same action at the end of the stream.
 #[derive(Clone, Copy, PartialEq, Eq)]
 pub enum Mode {
-    /// States were merged (Pager 1977).
+    /// States are merged (Pager 1977).
     Merged,
-    /// No states were merged (Knuth 1965).
+    /// No states are merged (Knuth 1965).
     Canonical,
 }
 
-/// How a conflict ended.
+/// The outcome of a conflict.
 #[derive(Clone, Copy, Debug, PartialEq, Eq)]
 pub enum ConflictKind {
-    /// Levels decided it, whatever they left.
+    /// Precedence levels decided it, for an action or for none.
     Solved,
-    /// A level was missing or could not be compared, or two reductions stayed.
+    /// A level was missing or the levels were not comparable, or two reductions remained.
     Unsolved,
-    /// There was an action at the end of the stream and another one on a token: the first is dropped.
+    /// The state has an action at the end of the stream and another action on a token; the first is dropped.
     Stream,
 }

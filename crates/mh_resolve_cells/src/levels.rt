@@ -1,13 +1,13 @@
-//! How a reduction compares with a shift, by their levels.
-/// What the levels of a production and of a token say of reducing against shifting.
+//! The type of comparisons of a reduction with a shift.
+/// The result of comparing the level of a production with the level of a token.
 #[derive(Clone, Copy)]
 pub enum Comparison {
-    /// The reduction is taken.
+    /// The reduction remains.
     Reduces,
-    /// The shift is taken.
+    /// The shift remains.
     Shifts,
-    /// Neither is: the levels are equal, and not associative.
+    /// Neither remains: the levels are equal and nonassociative.
     Neither,
-    /// A level is missing, or the two are not comparable: the shift is taken.
+    /// A level is missing, or the levels are not comparable: the shift remains.
     Unknown,
 }

@@ -1,5 +1,5 @@
-//! What the cells of a state do, with conflicts resolved by levels, and which table an automaton has: types,
-//! definitions and laws.
+//! Types, definitions and laws for the actions of states, for the resolution of conflicts by precedence, and for the
+//! table of an automaton.
 #![tactic(auto)]
 
 mod cells;
@@ -7,7 +7,7 @@ mod conflicts;
 mod kinds;
 mod levels;
 
-pub use cells::{Best, Cell, Tallies, Tally};
+pub use cells::{BestCandidate, Cell, Tallies, Tally};
 pub use conflicts::Conflict;
 pub use kinds::{ConflictKind, Mode};
 pub use levels::Comparison;

@@ -1,7 +1,7 @@
-pub mod Counted
-pub mod Deciding
-pub mod Ranking
-pub mod Refusing
-pub mod Rowing
-pub mod Shifting
-pub mod Tallying
+pub mod AreTallied
+pub mod IsDecided
+pub mod IsErrorReduction
+pub mod AreHoles
+pub mod AreCells
+pub mod AreShifts
+pub mod IsTally

@@ -1,14 +1,14 @@
-//! One cell of a state.
+//! The computation of one cell.
 ghost use Rattle.std.specs.Prelude.{◌≡◌};
-ghost use Rattle.mh_resolve_cells.specs.Levels.{compared};
-ghost use Rattle.mh_resolve_cells.specs.code.Tallies.{lower, empty_tally, is_other, tally_with, weighed, cell_from};
+ghost use Rattle.mh_resolve_cells.specs.Precedence.{comparison_on};
+ghost use Rattle.mh_resolve_cells.specs.code.Tallies.{lower_production, empty_tally, is_another_production, tally_with, comparison_with_shift, cell_from};
 
 use crate::levels::compare_on;
 use mh_grammar::{Grammar, Look};
 use mh_resolve_cells::{Cell, Comparison, ConflictKind, Tally};
 use mh_tables_core::Action;
 
-/// The tally of no reduction.
+/// The tally of no reductions.
 pub fn new_tally() -> Tally
     ensures { result ≡ empty_tally }
 {
@@ -21,9 +21,9 @@ pub fn new_tally() -> Tally
     }
 }
 
-/// The lowest production, with one more.
+/// The lower of a production and the lowest one so far.
 fn lower_of(lowest: Option<u32>, production: u32) -> u32
-    ensures { result ≡ lower lowest production }
+    ensures { result ≡ lower_production lowest production }
 {
     match lowest {
         None => production,
@@ -37,9 +37,9 @@ fn lower_of(lowest: Option<u32>, production: u32) -> u32
     }
 }
 
-/// Whether there is a lowest one, and this production is another.
+/// True if there is a lowest production and it is not this one.
 fn is_another(lowest: Option<u32>, production: u32) -> bool
-    ensures { result ≡ is_other lowest production }
+    ensures { result ≡ is_another_production lowest production }
 {
     match lowest {
         None => false,
@@ -47,7 +47,7 @@ fn is_another(lowest: Option<u32>, production: u32) -> bool
     }
 }
 
-/// One more reduction, with how it compares.
+/// The tally with one more reduction, which has this comparison with the shift.
 fn count(tally: Tally, production: u32, comparison: Comparison) -> Tally
     ensures { result ≡ tally_with tally production comparison }
 {
@@ -74,9 +74,9 @@ fn count(tally: Tally, production: u32, comparison: Comparison) -> Tally
     }
 }
 
-/// How a reduction compares with the shift on a look; without a shift it stays.
+/// The comparison of a reduction with the shift on a look; without a shift the reduction remains.
 fn weigh(grammar: &Grammar, look: Look, shift: Option<u32>, production: u32) -> Comparison
-    ensures { result ≡ weighed (compared grammar.now look) shift production }
+    ensures { result ≡ comparison_with_shift (comparison_on grammar.now look) shift production }
 {
     match shift {
         None => Comparison::Reduces,
@@ -84,7 +84,7 @@ fn weigh(grammar: &Grammar, look: Look, shift: Option<u32>, production: u32) -> 
     }
 }
 
-/// The tally with one more reduction on a look, on which the state has this shift.
+/// The tally with one more reduction on a look, if the state has this shift on the look.
 pub fn add_reduction(
     tally: Tally,
     grammar: &Grammar,
@@ -92,12 +92,12 @@ pub fn add_reduction(
     shift: Option<u32>,
     production: u32,
 ) -> Tally
-    ensures { result ≡ tally_with tally production (weighed (compared grammar.now look) shift production) }
+    ensures { result ≡ tally_with tally production (comparison_with_shift (comparison_on grammar.now look) shift production) }
 {
     count(tally, production, weigh(grammar, look, shift, production))
 }
 
-/// The cell of a tally.
+/// The cell of a tally and a shift.
 pub fn cell_of(tally: Tally, shift: Option<u32>) -> Cell
     ensures { result ≡ cell_from tally shift }
 {

@@ -1,14 +1,14 @@
-//! The reductions of a state, counted on all looks at once, so that each item is read once.
+//! The tallies of a state's reductions on all looks at once, so that each item is read once.
 ghost use Rattle.std.specs.Prelude.{◌≡◌, ◌≤◌, List, length, IfOk};
 ghost use Rattle.std.specs.List.{All};
 ghost use Rattle.mh_grammar.specs.Plain.{plain_of, rhs_of, IsLookBelow};
 ghost use Rattle.mh_grammar.specs.Edges.{IsRising, IsEdgeBefore};
-ghost use Rattle.mh_items_kernels.specs.Shapes.{KernelItem as Item};
+ghost use Rattle.mh_items_kernels.specs.KernelTypes.{KernelItem as Item};
 ghost use Rattle.mh_items_kernels.specs.Kernels.{Holds};
-ghost use Rattle.mh_resolve_cells.specs.Levels.{compared};
-ghost use Rattle.mh_resolve_cells.specs.code.Tallies.{tally_with, weighed};
-ghost use Rattle.mh_resolve_cells.specs.code.Whole.{AreEdgesKnown};
-ghost use Rattle.mh_resolve_cells.specs.code.Counting.{AreShifts, shift_in, tally_on, IsChanged, AreTallied, AreLooksKnown, With};
+ghost use Rattle.mh_resolve_cells.specs.Precedence.{comparison_on};
+ghost use Rattle.mh_resolve_cells.specs.code.Tallies.{tally_with, comparison_with_shift};
+ghost use Rattle.mh_resolve_cells.specs.code.StateResults.{AreEdgesKnown};
+ghost use Rattle.mh_resolve_cells.specs.code.LookTallies.{AreShifts, shift_in, tally_on, IsChanged, AreTallied, AreLooksKnown, WithItem};
 
 use crate::cells::{add_reduction, new_tally};
 use crate::levels::length_of;
@@ -17,7 +17,7 @@ use mh_items_kernels::KernelItem;
 use mh_resolve_cells::{Tallies, Tally};
 use std::alloc::Global;
 
-/// The target of the edge on each token. Fails for want of memory alone.
+/// Returns the target of the edge on each token. It fails only if there is no memory.
 pub fn shifts_of(alloc: Global, tokens: usize, edges: &[Edge]) -> Result<Vec<Option<u32>>, Memory>
     requires rising { IsRising IsEdgeBefore edges.now }
     requires known { AreEdgesKnown tokens edges.now }
@@ -32,7 +32,7 @@ pub fn shifts_of(alloc: Global, tokens: usize, edges: &[Edge]) -> Result<Vec<Opt
     Ok(shifts)
 }
 
-/// Counts a reduction on a look.
+/// Counts a reduction on one look.
 fn add(
     tallies: &mut Tallies,
     grammar: &Grammar,
@@ -42,7 +42,7 @@ fn add(
 )
     requires look { IsLookBelow (length tallies.old.tokens.items) look }
     requires len { length shifts.now ≡ length tallies.old.tokens.items }
-    ensures { IsChanged look (tally_with (tally_on tallies.old look) production (weighed (compared grammar.now look) (shift_in shifts.now look) production)) tallies.old tallies.new }
+    ensures { IsChanged look (tally_with (tally_on tallies.old look) production (comparison_with_shift (comparison_on grammar.now look) (shift_in shifts.now look) production)) tallies.old tallies.new }
 {
     match look {
         Look::Token(token) => {
@@ -75,7 +75,7 @@ fn add_item<const W: usize>(
     requires size { length tallies.old.tokens.items ≡ length grammar.now.tokens }
     ensures size { length tallies.new.tokens.items ≡ length grammar.now.tokens }
     ensures tallied { (xs : List Item) → AreTallied grammar.now (Holds (record { items = xs })) shifts.now tallies.old
-        → AreTallied grammar.now (With (Holds (record { items = xs })) item.now item.now.looks) shifts.now tallies.new }
+        → AreTallied grammar.now (WithItem (Holds (record { items = xs })) item.now item.now.looks) shifts.now tallies.new }
 {
     let mut left = item.looks.copied();
     'looks: while let Some(look) = left.take_first() {
@@ -83,7 +83,7 @@ fn add_item<const W: usize>(
     }
 }
 
-/// The tallies of all looks. Fails for want of memory alone.
+/// Returns the tallies of all looks. It fails only if there is no memory.
 pub fn tallies_of<const W: usize>(
     alloc: Global,
     grammar: &Grammar,

@@ -1,15 +1,15 @@
-//! The production that a state reduces where it has no action.
+//! The production that `%on_error_reduce` reduces in a state.
 ghost use Rattle.std.specs.Prelude.{◌≡◌, ◌<◌, ◌≤◌, ℕ, [], length, MatchOption};
 ghost use Rattle.std.specs.List.{All};
-ghost use Rattle.mh_resolve_cells.specs.States.{IsForErrors};
-ghost use Rattle.mh_resolve_cells.specs.code.Rows.{listed, rank_in, best_with, IsLooked};
+ghost use Rattle.mh_resolve_cells.specs.States.{IsErrorReduction};
+ghost use Rattle.mh_resolve_cells.specs.code.CellRows.{state_of_items, rank_in, best_with, HasSomeLook};
 
 use crate::levels::{length_of, rank_of};
 use mh_grammar::Grammar;
 use mh_items_kernels::KernelItem;
-use mh_resolve_cells::Best;
+use mh_resolve_cells::BestCandidate;
 
-/// The rank of an item that is a candidate.
+/// The rank of an item for `%on_error_reduce`, if its production is complete.
 fn rank_of_item<const W: usize>(grammar: &Grammar, item: &KernelItem<W>) -> Option<u64>
     ensures { result ≡ rank_in grammar.now item.now }
 {
@@ -20,18 +20,18 @@ fn rank_of_item<const W: usize>(grammar: &Grammar, item: &KernelItem<W>) -> Opti
     }
 }
 
-fn better(best: Option<Best>, production: u32, rank: u64) -> Best
+fn better(best: Option<BestCandidate>, production: u32, rank: u64) -> BestCandidate
     ensures { result ≡ best_with best production rank }
 {
     match best {
-        None => Best {
+        None => BestCandidate {
             rank,
             production,
             tied: false,
         },
         Some(old) => {
             if rank < old.rank {
-                Best {
+                BestCandidate {
                     rank,
                     production,
                     tied: false,
@@ -39,7 +39,7 @@ fn better(best: Option<Best>, production: u32, rank: u64) -> Best
             } else if old.rank < rank {
                 old
             } else {
-                Best {
+                BestCandidate {
                     tied: old.tied || production != old.production,
                     ..old
                 }
@@ -48,11 +48,14 @@ fn better(best: Option<Best>, production: u32, rank: u64) -> Best
     }
 }
 
-/// The production of the only candidate of the lowest rank.
-pub fn for_errors<const W: usize>(grammar: &Grammar, items: &[KernelItem<W>]) -> Option<u32>
+/// The production of the only candidate with the lowest rank, if there is exactly one.
+pub fn on_error_production<const W: usize>(
+    grammar: &Grammar,
+    items: &[KernelItem<W>],
+) -> Option<u32>
     requires few { W ≤ 8 }
-    requires items { All IsLooked items.now }
-    ensures { MatchOption result ((p : ℕ) → IsForErrors (listed grammar.now items.now []) p → ⊥) (IsForErrors (listed grammar.now items.now [])) }
+    requires items { All HasSomeLook items.now }
+    ensures { MatchOption result ((p : ℕ) → IsErrorReduction (state_of_items grammar.now items.now []) p → ⊥) (IsErrorReduction (state_of_items grammar.now items.now [])) }
 {
     let mut best = None;
     for item in items {

@@ -1,11 +1,11 @@
-//! The holes of a state: cells with actions of which none is left.
+//! The holes of a state: cells with raw actions of which none remains.
 ghost use Rattle.std.specs.Prelude.{◌≡◌, ◌≤◌, ◌<◌, ◌&&◌, length, is_some, IfOk};
 ghost use Rattle.mh_grammar.specs.Plain.{plain_of, IsInRange};
 ghost use Rattle.mh_items_kernels.specs.Automaton.{IsAutomaton};
 ghost use Rattle.mh_resolve_cells.specs.declared.kinds.Mode.{Mode};
 ghost use Rattle.mh_resolve_cells.specs.States.{state_of, IsTableOf};
 ghost use Rattle.mh_resolve_cells.specs.Holes.{AreHoles};
-ghost use Rattle.mh_resolve_cells.specs.code.Rows.{refuses};
+ghost use Rattle.mh_resolve_cells.specs.code.CellRows.{refuses};
 
 use crate::counting::shifts_of;
 use mh_grammar::{Grammar, Memory, Token};
@@ -13,15 +13,16 @@ use mh_items_kernels::Automaton;
 use mh_tables_core::{Action, Table};
 use std::alloc::Global;
 
-/// Whether a cell is a hole: where the state has no edge on the token, a reduction would be left.
+/// True if a cell is a hole: it refuses, but the state has an edge on the token. Without an edge some reduction would
+/// remain.
 fn is_hole(shift: Option<u32>, action: Action) -> bool
     ensures { result ≡ (is_some shift && refuses action) }
 {
     shift.is_some() && matches!(action, Action::Refuse)
 }
 
-/// For each token, whether its cell in this state is a hole: it has actions, and levels refuse them all. The table is
-/// that of the automaton. Fails for want of memory alone.
+/// Returns for each token whether its cell in this state is a hole: it has raw actions, and precedence leaves none. The
+/// table must be that of the automaton. It fails only if there is no memory.
 pub fn holes_of<const W: usize>(
     alloc: Global,
     grammar: &Grammar,

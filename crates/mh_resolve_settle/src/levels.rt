@@ -1,12 +1,12 @@
-//! Levels of precedence, and how a reduction compares with a shift.
+//! Precedence levels, and the comparison of a reduction with a shift.
 ghost use Rattle.std.specs.Prelude.{◌≡◌, length};
 ghost use Rattle.mh_grammar.specs.Plain.{plain_of, rhs_of};
-ghost use Rattle.mh_resolve_cells.specs.Levels.{production_level, look_level, comparison, compared, error_rank};
+ghost use Rattle.mh_resolve_cells.specs.Precedence.{production_level, look_level, comparison, comparison_on, error_rank};
 
 use mh_grammar::{Assoc, Grammar, Level, Look};
 use mh_resolve_cells::Comparison;
 
-#[tactic(auto, unfolding(mh_resolve_cells::specs::Levels::production_level))]
+#[tactic(auto, unfolding(mh_resolve_cells::specs::Precedence::production_level))]
 fn level_of_production(grammar: &Grammar, production: u32) -> Option<Level>
     ensures { result ≡ production_level grammar.now production }
 {
@@ -33,7 +33,7 @@ fn level_of_look(grammar: &Grammar, look: Look) -> Option<Level>
     }
 }
 
-/// How reducing by a production of one level compares with shifting a token of the other.
+/// The comparison of reducing a production of the first level with shifting a token of the second.
 fn compare(production: Option<Level>, token: Option<Level>) -> Comparison
     ensures { result ≡ comparison production token }
 {
@@ -57,9 +57,9 @@ fn compare(production: Option<Level>, token: Option<Level>) -> Comparison
     }
 }
 
-/// How reducing a production compares with shifting a look.
+/// The comparison of reducing a production with shifting a look.
 pub fn compare_on(grammar: &Grammar, look: Look, production: u32) -> Comparison
-    ensures { result ≡ compared grammar.now look production }
+    ensures { result ≡ comparison_on grammar.now look production }
 {
     compare(
         level_of_production(grammar, production),
@@ -67,8 +67,8 @@ pub fn compare_on(grammar: &Grammar, look: Look, production: u32) -> Comparison
     )
 }
 
-/// The rank of a production's left side among those that states reduce on errors, if it has one.
-#[tactic(auto, unfolding(mh_resolve_cells::specs::Levels::error_rank))]
+/// The rank of a production for `%on_error_reduce`, if a declaration names its left side.
+#[tactic(auto, unfolding(mh_resolve_cells::specs::Precedence::error_rank))]
 pub fn rank_of(grammar: &Grammar, production: u32) -> Option<u64>
     ensures { result ≡ error_rank grammar.now production }
 {
@@ -86,7 +86,7 @@ pub fn rank_of(grammar: &Grammar, production: u32) -> Option<u64>
     }
 }
 
-/// The length of a production's right side; that of a start production is 1.
+/// The length of a production's right side; 1 for a start production.
 #[tactic(auto, unfolding(mh_grammar::specs::Plain::rhs_of))]
 pub fn length_of(grammar: &Grammar, production: u32) -> usize
     ensures { result ≡ length (rhs_of (plain_of grammar.now) production) }

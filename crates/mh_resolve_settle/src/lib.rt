@@ -1,5 +1,5 @@
-//! What the cells of a state do, computed: the reductions of a state are counted on all looks, levels settle each cell,
-//! and the default and the production reduced where there is no action are taken of those.
+//! The computation of a state's actions: its reductions are tallied on all looks, precedence decides each cell, and the
+//! default and the reduction for `%on_error_reduce` follow from the cells.
 #![tactic(auto)]
 
 mod cells;
@@ -11,6 +11,6 @@ mod row;
 
 pub use cells::cell_of;
 pub use counting::{shifts_of, tallies_of};
-pub use errors::for_errors;
+pub use errors::on_error_production;
 pub use holes::holes_of;
 pub use row::{cells_of, default_of, is_stream_conflict};

@@ -1,7 +1,7 @@
-//! The cells of a state together: the end of the stream, and the default.
+//! All cells of a state together: end-of-stream conflicts, and the default.
 ghost use Rattle.std.specs.Prelude.{◌≡◌, ◌≢◌, ◌<◌, ◌↔◌, ℕ, length, IsTrue, IfOk, MatchOption};
 ghost use Rattle.std.specs.List.{All};
-ghost use Rattle.mh_resolve_cells.specs.code.Rows.{AreSettled, IsStreamIn, IsChoice, IsDefaultIn, IsOtherwise, HasReduction, IsFit};
+ghost use Rattle.mh_resolve_cells.specs.code.CellRows.{AreCellsOfTallies, HasStreamConflictIn, IsDefaultChoice, IsDefaultIn, ActsOtherwise, HasReduction, FitsDefault};
 
 use crate::cells::cell_of;
 use mh_grammar::Memory;
@@ -9,14 +9,14 @@ use mh_resolve_cells::{Cell, Mode, Tally};
 use mh_tables_core::Action;
 use std::alloc::Global;
 
-/// The cells of the tokens. Fails for want of memory alone.
+/// Returns the cells of the tokens. It fails only if there is no memory.
 pub fn cells_of(
     alloc: Global,
     tallies: &[Tally],
     shifts: &[Option<u32>],
 ) -> Result<Vec<Cell>, Memory>
     requires { length shifts.now ≡ length tallies.now }
-    ensures { IfOk result (λ cells. AreSettled tallies.now shifts.now cells.items) }
+    ensures { IfOk result (λ cells. AreCellsOfTallies tallies.now shifts.now cells.items) }
 {
     let mut cells = Vec::with_capacity(alloc, tallies.len())?;
     for token in 0..tallies.len() {
@@ -31,16 +31,16 @@ fn is_same(left: Action, right: Action) -> bool
     left == right
 }
 
-/// Whether a cell acts, and otherwise than the end of the stream.
+/// True if the cell has an action, and not that at the end of the stream.
 fn acts_otherwise(cell: &Cell, last: Action) -> bool
-    ensures { IsTrue result ↔ IsOtherwise last cell.now }
+    ensures { IsTrue result ↔ ActsOtherwise last cell.now }
 {
     !is_same(cell.action, Action::Refuse) && !is_same(cell.action, last)
 }
 
-/// Whether the end of the stream has an action and a token another one.
+/// True if the end of the stream has an action and some token has another one.
 pub fn is_stream_conflict(cells: &[Cell], last: Action) -> bool
-    ensures { IsTrue result ↔ IsStreamIn last cells.now }
+    ensures { IsTrue result ↔ HasStreamConflictIn last cells.now }
 {
     !is_same(last, Action::Refuse) && cells.iter().any(|cell| acts_otherwise(cell, last))
 }
@@ -66,9 +66,10 @@ fn first_reduction(cells: &[Cell]) -> Option<u32>
     None
 }
 
-/// Whether a cell reduces this production, or has no raw action. A hole does neither.
+/// True if the cell reduces this production, or has no raw action. False for a hole, which is a cell whose raw actions
+/// were all dropped by precedence.
 fn is_fit(cell: &Cell, production: u32) -> bool
-    ensures { IsTrue result ↔ IsFit production cell.now }
+    ensures { IsTrue result ↔ FitsDefault production cell.now }
 {
     match cell.action {
         Action::Reduce(reduced) => reduced == production,
@@ -78,14 +79,14 @@ fn is_fit(cell: &Cell, production: u32) -> bool
 }
 
 fn all_fit(cells: &[Cell], production: u32) -> bool
-    ensures { IsTrue result ↔ All (IsFit production) cells.now }
+    ensures { IsTrue result ↔ All (FitsDefault production) cells.now }
 {
     cells.iter().all(|cell| is_fit(cell, production))
 }
 
 /// The only production that a default may reduce.
 fn only_choice(cells: &[Cell], kept: Action, mode: Mode) -> Option<u32>
-    ensures { MatchOption result ((p : ℕ) → IsChoice kept mode cells.now p → ⊥) (IsChoice kept mode cells.now) }
+    ensures { MatchOption result ((p : ℕ) → IsDefaultChoice kept mode cells.now p → ⊥) (IsDefaultChoice kept mode cells.now) }
 {
     match (kept, mode) {
         (Action::Reduce(production), _) => Some(production),
@@ -94,7 +95,7 @@ fn only_choice(cells: &[Cell], kept: Action, mode: Mode) -> Option<u32>
     }
 }
 
-/// The production of the default, where the end of the stream keeps an action.
+/// The production of the default, given the action that is kept at the end of the stream.
 pub fn default_of(cells: &[Cell], kept: Action, mode: Mode) -> Option<u32>
     ensures { MatchOption result ((p : ℕ) → IsDefaultIn kept mode cells.now p → ⊥) (IsDefaultIn kept mode cells.now) }
 {

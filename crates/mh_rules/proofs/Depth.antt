@@ -1,4 +1,4 @@
--- The depth of an actual by those of its arguments, and theirs by its.
+-- Lemmas on the depth of actuals: a bound on an actual from its arguments, and on the arguments from the actual.
 use Rattle.std.proofs.Common.{◌≡◌, ◌≤◌, ℕ, suc, max, List, [], ◌∷◌, map, arith}
 use Rattle.std.specs.List.{All, AllByRecursion}
 use Rattle.std.proofs.Math.Nat.{le-max_left, le-max_right, le_trans, max-le}
@@ -25,7 +25,7 @@ module _ {X : Type 0} (f : X → ℕ) (n : ℕ) where
 pub depth_of : (r : Ref) (ks : List Actual) → actual_depth (applied r ks) ≡ suc (greatest (map actual_depth ks))
 depth_of r ks = fold-roll-Actual ℕ actual_depth_step (record { head = r; args = ks })
 
--- one more than what bounds its arguments
+-- The depth of an actual is at most one more than a bound of its arguments' depths.
 pub depth_within : (n : ℕ) (r : Ref) (ks : List Actual) → AllByRecursion (λ k. actual_depth k ≤ n) ks → actual_depth (applied r ks) ≤ suc n
 depth_within n r ks h =
     let args : greatest (map actual_depth ks) ≤ n = greatest_within actual_depth n ks h in

@@ -1,4 +1,4 @@
--- Modules and their parts, made from what they hold.
+-- Constructors of modules and their parts.
 use Rattle.std.specs.Prelude.{List, [], Option}
 use Rattle.mh_rules.specs.declared.modules.Ref.{Ref}
 use Rattle.mh_rules.specs.declared.modules.Actual.{Actual, roll-Actual}

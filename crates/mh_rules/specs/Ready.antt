@@ -1,4 +1,5 @@
--- What each stage gives the next: of the modules that are read, of the joined rules, and of the instances.
+-- The conditions that the result of each stage of the front end meets for the next stage: modules, joined rules, and
+-- instances.
 use Rattle.std.specs.Prelude.{◌<◌, ◌≤◌, ◌≢◌, ℕ, List, length, AllPairs, IfSome}
 use Rattle.std.specs.List.{All}
 use Rattle.mh_grammar.specs.declared.types.TheConstants.{MAX_NUMBERED}
@@ -21,13 +22,13 @@ use Rattle.mh_rules.specs.declared.instances.Instance.{Instance}
 use Rattle.mh_rules.specs.declared.instances.Expanded.{Expanded}
 use Rattle.mh_rules.specs.Depth.{IsActualShallow, AreProducersShallow, IsAppliedShallow, AreJoinedShallow}
 
--- MODULES
+-- Conditions on modules.
 
--- the cost of a token, where it is given, is in range
+-- The token's cost, if one is given, is in range.
 abbrev pub IsTokenReady : TokenDecl → Type 0
 IsTokenReady t = IfSome t.cost IsCost
 
--- each rule has an alternative, costs are in range, and no actual is too deep
+-- Each rule has an alternative, costs are in range, and no actual is too deep.
 pub record IsModuleReady (m : Module) : Type 0 where
   pub alternatives : All (λ (r : Rule). 0 < length r.alternatives) m.rules
   pub costs : All IsTokenReady m.tokens
@@ -37,27 +38,27 @@ pub record IsModuleReady (m : Module) : Type 0 where
 abbrev pub AreModulesReady : List Module → Type 0
 AreModulesReady modules = All IsModuleReady modules
 
--- JOINED RULES
+-- Conditions on joined rules.
 
--- a formal, a token or a rule that is there, of so many
+-- The head's number is below the number of formals, tokens or rules.
 abbrev pub IsHeadBelow : ℕ → ℕ → ℕ → Head → Type 0
 IsHeadBelow formals tokens rules (heads.Formal n) = n < formals
 IsHeadBelow formals tokens rules (heads.Token n) = n < tokens
 IsHeadBelow formals tokens rules (heads.Rule n) = n < rules
 
--- each head in an applied head is there
+-- Each head in the applied head is in range.
 abbrev pub IsAppliedBelow : ℕ → ℕ → ℕ → Applied → Type 0
 IsAppliedBelow formals tokens rules = every-Applied (λ a. IsHeadBelow formals tokens rules a.head)
 
--- a rule has an alternative, the heads in it are there, and nothing in it is too deep
+-- The rule has an alternative, its heads are in range, and no producer is too deep.
 pub record IsRuleReady (tokens rules : ℕ) (r : JoinedRule) : Type 0 where
   pub has_some : 0 < length r.alternatives
   pub heads_below : All (λ a. All (IsAppliedBelow r.formals tokens rules) a.producers) r.alternatives
   pub shallow : AreJoinedShallow r
 
--- All numbers and costs are in range, each rule has an alternative, no start stands twice, there are not too many tokens, and
--- nothing is too deep.
-pub record IsReady (j : Joined) : Type 0 where
+-- All numbers and costs are in range, each rule has an alternative, the starts are distinct, there are at most
+-- `MAX_TOKENS` tokens, and nothing is too deep.
+pub record IsJoinedReady (j : Joined) : Type 0 where
   pub few_tokens : length j.tokens ≤ MAX_TOKENS
   pub costs : HaveCosts j.tokens
   pub starts_below : All (λ s. s < length j.rules) j.starts
@@ -66,18 +67,19 @@ pub record IsReady (j : Joined) : Type 0 where
   pub on_error_shallow : All (All IsAppliedShallow) j.on_error
   pub rules_ready : All (IsRuleReady (length j.tokens) (length j.rules)) j.rules
 
--- INSTANCES
+-- Conditions on instances.
 
 abbrev pub IsPartBelow : ℕ → ℕ → Part → Type 0
 IsPartBelow tokens instances (parts.Token z) = z < tokens
 IsPartBelow tokens instances (parts.Instance n) = n < instances
 
--- an instance has an alternative, and the parts in it are there
+-- The instance has an alternative, and the parts of its alternatives are in range.
 pub record IsInstanceReady (tokens instances : ℕ) (i : Instance) : Type 0 where
   pub has_some : 0 < length i.productions
   pub parts_below : All (λ (p : InstanceProduction). All (IsPartBelow tokens instances) p.rhs) i.productions
 
--- All numbers and costs are in range, each instance has an alternative, no start stands twice, and there are few tokens and instances.
+-- All numbers and costs are in range, each instance has an alternative, the starts are distinct, and the counts of
+-- tokens and instances are within their limits.
 pub record IsExpandedReady (e : Expanded) : Type 0 where
   pub few_tokens : length e.tokens ≤ MAX_NUMBERED
   pub costs : HaveCosts e.tokens

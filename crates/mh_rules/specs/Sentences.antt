@@ -16,6 +16,6 @@ abbrev pub PartProduces : Expanded → Part → List Part → Type 0
 PartProduces e (parts.Token y) rhs = ⊥
 PartProduces e (parts.Instance n) rhs = (i : Instance) × (p : InstanceProduction) × (slice_get e.instances n ≡ Some i) × Contains i.productions p × (p.rhs ≡ rhs)
 
--- the start symbol with this instance derives the word
+-- The start symbol with this instance derives the word.
 abbrev pub IsInstanceSentence : Expanded → ℕ → List ℕ → Type 0
 IsInstanceSentence e n w = Derivation IsTokenPart (PartProduces e) (parts.Instance n) w

@@ -1,11 +1,11 @@
-//! Rules without formals: each applied rule that is reached is one of its own.
+//! Instances: rules without formals, one for each rule with actuals that the starts reach.
 use crate::joined::Prec;
 use mh_grammar::{Name, Sequence, Token, TokenInfo};
 
-/// The most instances that a grammar may have.
+/// The greatest number of instances of a grammar, a limit of this project.
 pub const MAX_INSTANCES: usize = 20_000;
 
-/// A producer: a token, or an instance by its number, each from 0.
+/// A symbol of an instance's right side: the number of a token or of an instance, from 0.
 #[derive(Clone, Copy)]
 pub enum Part {
     Token(Token),
@@ -15,26 +15,26 @@ pub enum Part {
 /// An alternative of an instance.
 #[derive(Drop)]
 pub struct InstanceProduction {
-    /// The number of its file: the files count from 1, and the prelude is file 0.
+    /// The number of its file: files are counted from 1, and the prelude is file 0.
     pub file: u64,
-    /// Its place among all alternatives of that file, from 0.
+    /// Its index among all alternatives of the file, from 0.
     pub place: u64,
     pub rhs: Sequence<Part>,
     pub prec: Prec,
 }
 
-/// A rule applied to actuals.
+/// An instance: a rule applied to actuals.
 #[derive(Drop)]
 pub struct Instance {
-    /// Its rule's printed name, with its arguments in `(`, `,` and `)` where it has some; at most 1,000 bytes.
+    /// The printed name of its rule, followed by its arguments in `(`, `,` and `)`, if it has any; at most 1,000 bytes.
     pub name: Name,
     pub inlined: bool,
-    /// The rank of the first `%on_error_reduce` declaration that names it: its place among those of all files, from 0.
+    /// The index, from 0, among the `%on_error_reduce` declarations of all files, of the first that names the instance.
     pub on_error: Option<u64>,
     pub productions: Sequence<InstanceProduction>,
 }
 
-/// The instances in order of finding, the starts by their numbers, and the tokens.
+/// The instances in the order in which they are found, the numbers of the starts among them, and the tokens.
 #[derive(Drop)]
 pub struct Expanded {
     pub tokens: Sequence<TokenInfo>,

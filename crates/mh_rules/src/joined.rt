@@ -1,11 +1,11 @@
-//! What several files give together.
+//! The joined rules of several files.
 use mh_grammar::{Level, Name, Sequence, Token, TokenInfo};
 
-/// The most tokens that a grammar may have.
+/// The greatest number of tokens of a grammar, a limit of this project.
 pub const MAX_TOKENS: usize = 512;
 
-/// What a name stands for: a formal of its rule by its place, a token, or a rule by its place in the list of rules, each
-/// from 0.
+/// The meaning of a name: a formal of its rule by its index, a token by its number, or a rule by its index in the list
+/// of rules. All count from 0.
 #[derive(Clone, Copy, PartialEq, Eq, Hash)]
 pub enum Head {
     Formal(u64),
@@ -13,36 +13,36 @@ pub enum Head {
     Rule(u64),
 }
 
-/// A head with actual arguments, as deep as the actual that it stands for.
+/// A head with actual arguments. It is as deep as the actual from which it is made.
 #[derive(Drop)]
 pub struct Applied {
     pub head: Head,
     pub args: Sequence<Applied>,
 }
 
-/// Whether a production has a `%prec`, and the level of its name, where that has one.
+/// The `%prec` of a production: absent, or given, with the level of its name if the name has one.
 #[derive(Clone, Copy)]
 pub enum Prec {
     Absent,
     Given(Option<Level>),
 }
 
-/// An alternative, with what its names stand for.
+/// An alternative whose names are resolved.
 #[derive(Drop)]
 pub struct JoinedAlternative {
-    /// The number of its file: the files count from 1, and the prelude is file 0.
+    /// The number of its file: files are counted from 1, and the prelude is file 0.
     pub file: u64,
-    /// Its place among all alternatives of that file, from 0.
+    /// Its index among all alternatives of the file, from 0.
     pub place: u64,
     pub producers: Sequence<Applied>,
     pub prec: Prec,
 }
 
-/// A rule with how many formals it has, and the alternatives of all its definitions in order of files and text.
+/// A rule with the number of its formals, and the alternatives of all its definitions in order of files and text.
 #[derive(Drop)]
 pub struct JoinedRule {
-    /// The name as it is printed: with `@k` behind it for a rule of file k's own where another file defines that name too,
-    /// and with `@0` for a rule of the prelude where a file defines its name.
+    /// The printed name. `@k` follows the name of a private rule of file k if another file also defines the name, and
+    /// `@0` follows the name of a rule of the prelude if a file defines the name.
     pub name: Name,
     pub inlined: bool,
     pub formals: u64,
@@ -52,12 +52,13 @@ pub struct JoinedRule {
 /// The tokens, starts, on-error declarations and rules of all files.
 #[derive(Drop)]
 pub struct Joined {
-    /// In order of first declaration; a level has the number of its file, from 1, and its rank there, from 0.
+    /// The tokens in order of first declaration. A level has the number of its file, from 1, and its rank in the file,
+    /// from 0.
     pub tokens: Sequence<TokenInfo>,
-    /// The place of each start among the rules, in order of first naming.
+    /// The index of each start in the list of rules, in the order in which the starts are first named.
     pub starts: Sequence<u64>,
-    /// The `%on_error_reduce` declarations in order of files and text: the rank of one is its place, from 0.
+    /// The `%on_error_reduce` declarations in order of files and text. The rank of a declaration is its index, from 0.
     pub on_error: Sequence<Sequence<Applied>>,
-    /// In order of first definitions, those of the prelude last.
+    /// The rules in order of their first definitions; those of the prelude come last.
     pub rules: Sequence<JoinedRule>,
 }

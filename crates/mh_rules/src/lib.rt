@@ -1,5 +1,5 @@
-//! The rules of a grammar at each stage: as modules spell them, as they are joined, and as instances. The crates for these
-//! stages stand on the types alone, and not on each other.
+//! The rules of a grammar at each stage: as modules spell them, as joined rules, and as instances. The crates of the
+//! stages depend on these types, and not on each other.
 #![tactic(auto)]
 
 mod instances;

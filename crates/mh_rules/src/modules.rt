@@ -1,25 +1,26 @@
-//! What a grammar file spells. Code and types leave nothing here, and of attributes only the costs of tokens do.
+//! The content of a grammar file. It has no code and no types, and of the attributes only the costs of tokens.
 use mh_grammar::{Assoc, Name, Sequence};
 
-/// The greatest depth of an actual: 1 without arguments, else one more than the deepest of them.
+/// The greatest depth of an actual: 1 without arguments, or one more than its deepest argument.
 pub const MAX_DEPTH: usize = 1000;
 
-/// A name, or a string that is to be an alias: the bytes between its quotes.
+/// A name, or a string that should be an alias, without its quotes.
 #[derive(Drop)]
 pub enum Ref {
     Plain(Name),
     Alias(Name),
 }
 
-/// A name or an alias with actual arguments. `X?`, `X*` and `X+` are `option`, `list` and `nonempty_list` of `X`. What goes
-/// over all that it holds calls itself as often as it is deep, so the public calls that do ask for at most `MAX_DEPTH`.
+/// A name or an alias with actual arguments. `X?`, `X*` and `X+` are `option`, `list` and `nonempty_list` of `X`. A
+/// recursive call over an actual is as deep as the actual; so public calls that recurse ask for a depth of at most
+/// `MAX_DEPTH`.
 #[derive(Drop)]
 pub struct Actual {
     pub head: Ref,
     pub args: Sequence<Actual>,
 }
 
-/// A production: its producers, and its `%prec` or that of its group.
+/// A production: its producers, and its own `%prec` or else that of its group.
 #[derive(Drop)]
 pub struct Alternative {
     pub producers: Sequence<Actual>,
@@ -36,12 +37,12 @@ pub struct Rule {
     pub alternatives: Sequence<Alternative>,
 }
 
-/// A token with its alias and its cost, where they are given.
+/// The declaration of a token, with its alias and its cost, if they are given.
 #[derive(Drop)]
 pub struct TokenDecl {
     pub name: Name,
     pub alias: Option<Name>,
-    /// From 1 to 1,000.
+    /// The cost, from 1 to 1,000.
     pub cost: Option<u32>,
 }
 
@@ -52,7 +53,7 @@ pub struct LevelDecl {
     pub names: Sequence<Ref>,
 }
 
-/// A file: its declarations of each kind in order, and its rules.
+/// A grammar file: its declarations of each kind in order, and its rules.
 #[derive(Drop)]
 pub struct Module {
     pub tokens: Sequence<TokenDecl>,

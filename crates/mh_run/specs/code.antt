@@ -1,2 +1,2 @@
-pub mod Following
-pub mod Settled
+pub mod Observers
+pub mod Reductions

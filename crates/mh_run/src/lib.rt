@@ -1,10 +1,10 @@
 //! Verdicts of sentences on a table, and the reductions that a run made since its last shift.
 #![tactic(auto)]
 
-mod follow;
+mod observer;
 mod outcome;
+mod reductions;
 mod runs;
-mod settle;
 mod tracing;
 
 pub use outcome::Verdict;

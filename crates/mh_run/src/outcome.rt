@@ -1,11 +1,11 @@
-//! How a run ends.
-/// How the run of a sentence ends.
+//! The verdict on a sentence.
+/// The end of the run on a sentence.
 #[derive(Clone, Copy, Debug, PartialEq, Eq)]
 pub enum Verdict {
-    /// A state accepts after `read` tokens were shifted; more tokens may follow.
+    /// A state accepts after `read` tokens have been shifted; more tokens may follow.
     Accept { read: u32 },
-    /// This state asks for a token where none is left.
+    /// This state needs another token, but the sentence is at its end.
     Overshoot { state: u32 },
-    /// This state refuses the token at this place, counted from 0.
+    /// This state refuses the token with index `at`, from 0.
     Reject { at: u32, state: u32 },
 }

@@ -1,9 +1,9 @@
-//! The productions that a run reduced since its last shift.
+//! The productions that a run has reduced since its last shift.
 ghost use Rattle.std.specs.Prelude.{◌≡◌, ◌<◌, ◌^◌, length, IfOk, All};
 ghost use Rattle.mh_run.specs.Trace.{TraceOf};
 ghost use Rattle.mh_run.specs.Verdicts.{ending_for};
 
-use crate::follow::Follow;
+use crate::observer::RunObserver;
 use crate::outcome::Verdict;
 use crate::runs::run;
 use mh_grammar::{Memory, Token};
@@ -11,7 +11,7 @@ use mh_tables_core::Halting;
 use std::alloc::Global;
 use std::marker::Model;
 
-/// The productions that were reduced since the last shift.
+/// The observer that collects the productions reduced since the last shift.
 #[derive(Drop)]
 struct SinceShift {
     productions: Vec<u32>,
@@ -25,7 +25,7 @@ impl Model for SinceShift {
     ghost view = { λ s. s.productions.items };
 }
 
-impl Follow for SinceShift {
+impl RunObserver for SinceShift {
     ghost use Rattle.std.specs.Prelude.{[], ◌∷◌, ◌++◌};
 
     ghost following = { record { shifted = λ ps z. []; reduced = λ ps m p. ps ++ p ∷ [] } };
@@ -41,8 +41,8 @@ impl Follow for SinceShift {
     }
 }
 
-/// The verdict of a start, by its number, on a sentence of fewer than 2^32 tokens, and the productions that were reduced
-/// since the last shift, in order. Fails for want of memory alone.
+/// The verdict on a sentence of fewer than 2^32 tokens from the start symbol with this number, and the productions
+/// reduced since the last shift, in order. Fails only if memory runs out.
 pub fn trace(
     alloc: Global,
     table: &Halting,

@@ -1,4 +1,4 @@
--- The example meets the premises of the exact verdicts.
+-- Proves that the example satisfies the premises of the laws on exact verdicts.
 use Rattle.std.proofs.Common.{◌≡◌, ℕ, zero, suc, ◌<◌, ◌≤◌, List, [], ◌∷◌, length, drop, map, get_or, Some, None, false, refl, ap, sym, subst, arith, ◌∙◌, inl, inr, rules}
 use Rattle.std.proofs.lemmas.Bool.Decides.{nat_tests}
 use Rattle.std.proofs.lemmas.List.{get_or_past}
@@ -16,23 +16,23 @@ use Rattle.mh_grammar.specs.First.{FirstOf}
 use Rattle.mh_grammar.specs.ItemSets as items
 use Rattle.mh_grammar.specs.ItemSets.{Close, given, added, Moved, moved, MayBegin}
 use Rattle.mh_grammar.specs.Plain.{PlainGrammar, plain_of, rhs_of, lhs_of, IsProductionFor, Derives, IsInRange}
-use Rattle.mh_items_kernels.specs.Shapes.{Kernel}
-use Rattle.mh_items_kernels.specs.Kernels.{Holds, HasPlace, IsItemList}
-use Rattle.mh_items_kernels.specs.Automaton.{IsAutomaton, Moves, IsTarget, kernel_at, edges_at, kernel_of, closure_of, move_of, leads_to, no_kernel, start_kernel}
+use Rattle.mh_items_kernels.specs.KernelTypes.{Kernel}
+use Rattle.mh_items_kernels.specs.Kernels.{Holds, HasCoreItem, IsItemList}
+use Rattle.mh_items_kernels.specs.Automaton.{IsAutomaton, HasMove, IsTarget, kernel_at, edges_at, kernel_of, closure_of, move_of, leads_to, no_kernel, start_kernel}
 use Rattle.mh_tables_core.specs.declared.parts.Action.{Action}
 use Rattle.mh_tables_core.specs.declared.parts.Action.TheVariants.{Shift, Reduce, Refuse}
 use Rattle.mh_tables_core.specs.Table.{no_state}
 use Rattle.mh_resolve_cells.specs.declared.kinds.Mode.TheVariants.{Canonical}
-use Rattle.mh_resolve_cells.specs.States.{State, state_of, Raw, Keeps, HasDefault, IsCell, IsResolved, AreResolved, place_of}
-use Rattle.mh_resolve_cells.specs.Clear.{IsClear}
-use Rattle.mh_resolve_cells.proofs.Clear.{kept_raw}
-use Rattle.mh_resolve_cells.proofs.Closed.{came_from, closure_within}
-use Rattle.mh_resolve_cells.proofs.Once.{raw_taken}
-use Rattle.mh_resolve_cells.proofs.Stating.{takes_raw, takes_stays}
-use Rattle.mh_resolve_cells.proofs.Tabled.{facts}
+use Rattle.mh_resolve_cells.specs.States.{State, state_of, Raw, IsKeptOn, HasDefault, IsCell, IsResolved, AreResolved, core_item_of}
+use Rattle.mh_resolve_cells.specs.NoConflicts.{IsConflictFreeState}
+use Rattle.mh_resolve_cells.proofs.ActsCompletely.{kept_raw}
+use Rattle.mh_resolve_cells.proofs.ClosureItems.{move_origin, closure_within}
+use Rattle.mh_resolve_cells.proofs.OneResolution.{raw_is_chosen}
+use Rattle.mh_resolve_cells.proofs.IsResolved.{chosen_is_raw, chosen_remains}
+use Rattle.mh_resolve_cells.proofs.TableFacts.{facts}
 use Rattle.mh_run_exact.specs.Exactness.{AllProductive}
 use Rattle.mh_run_exact.specs.Example.{one_grammar, one_automaton, one_states, one_table, MeetsPremises}
-use Rattle.mh_run_exact.proofs.Standing.{IsAlone, kernel_with, with_holds, place_only, with_only}
+use Rattle.mh_run_exact.proofs.TableEdges.{IsSingleItem, kernel_with, Holds-kernel_with, HasCoreItem-kernel_with, Holds-kernel_with_only}
 
 abbrev g : PlainGrammar
 g = plain_of one_grammar
@@ -84,7 +84,7 @@ edges_past : (s : ℕ) → edges_at one_automaton (suc (suc (suc s))) ≡ []
 unfolding edges_at
 edges_past s = get_or_past one_automaton.edges (suc (suc (suc s))) [] (omega arith)
 
--- the closure of the first state
+-- The closure of the start state.
 data InFirst : ℕ → ℕ → Look → Type 0 where
   begin : InFirst 0 0 End
   next : InFirst 1 0 End
@@ -109,14 +109,14 @@ first_adds p d n q y from look begin e i b =
 first_adds p d n q y from look next e i b = let rest : T 0 ∷ [] ≡ N n ∷ y = sym rhs_1 ∙ e in cc
 
 first_closed : (p d : ℕ) (look : Look) → Close g (Holds (kernel_with 0 0)) p d look → InFirst p d look
-first_closed p d look (given k) = let x = with_only 0 0 p d look k in rw (x.production, x.dot, x.at_end) begin
+first_closed p d look (given k) = let x = Holds-kernel_with_only 0 0 p d look k in rw (x.production, x.dot, x.at_end) begin
 first_closed p d look (added {p = p'} {d = d'} {n} {y = y} {a = from} c e i b) = first_adds p' d' n p y from look (first_closed p' d' from c) e i b
 
 in_first : (p d : ℕ) (look : Look) → closure_of g one_automaton 0 p d look → InFirst p d look
 in_first p d look c = first_closed p d look (subst (λ (k : Kernel). Close g (Holds k) p d look) kernel_0 c)
 
 has_begin : closure_of g one_automaton 0 0 0 End
-has_begin = given (subst (λ (k : Kernel). Holds k 0 0 End) (sym kernel_0) (with_holds 0 0))
+has_begin = given (subst (λ (k : Kernel). Holds k 0 0 End) (sym kernel_0) (Holds-kernel_with 0 0))
 
 one_is_for : IsProductionFor g 0 1
 one_is_for = record { ordinary = omega arith; known = omega arith; lhs = lhs_1 }
@@ -124,9 +124,9 @@ one_is_for = record { ordinary = omega arith; known = omega arith; lhs = lhs_1 }
 has_next : closure_of g one_automaton 0 1 0 End
 has_next = added has_begin rhs_0 one_is_for (items.MayBegin.passes trees.Derivations.none)
 
--- the others close nothing
-done_closed : (q : ℕ) → drop 1 (rhs_of g q) ≡ [] → (p d : ℕ) (look : Look) → Close g (Holds (kernel_with q 1)) p d look → IsAlone q 1 p d look
-done_closed q h p d look (given k) = with_only q 1 p d look k
+-- The closures of the other states add no items.
+done_closed : (q : ℕ) → drop 1 (rhs_of g q) ≡ [] → (p d : ℕ) (look : Look) → Close g (Holds (kernel_with q 1)) p d look → IsSingleItem q 1 p d look
+done_closed q h p d look (given k) = Holds-kernel_with_only q 1 p d look k
 done_closed q h p d look (added {p = p'} {d = d'} {n} {y = y} {a = from} c e i b) =
     let x = done_closed q h p' d' from c in
     let before : drop 1 (rhs_of g q) ≡ N n ∷ y = rw (x.production, x.dot) at e in
@@ -138,10 +138,10 @@ done_0 = ap (drop 1) rhs_0
 done_1 : drop 1 (rhs_of g 1) ≡ []
 done_1 = ap (drop 1) rhs_1
 
-in_done : (s q : ℕ) → kernel_at one_automaton s ≡ kernel_with q 1 → drop 1 (rhs_of g q) ≡ [] → (p d : ℕ) (look : Look) → closure_of g one_automaton s p d look → IsAlone q 1 p d look
+in_done : (s q : ℕ) → kernel_at one_automaton s ≡ kernel_with q 1 → drop 1 (rhs_of g q) ≡ [] → (p d : ℕ) (look : Look) → closure_of g one_automaton s p d look → IsSingleItem q 1 p d look
 in_done s q k h p d look c = done_closed q h p d look (subst (λ (i : Kernel). Close g (Holds i) p d look) k c)
 
--- each state has one raw action, on one look
+-- The state has only this raw action, on this look.
 abbrev OnlyRaw : State → Look → Action → Type 0
 OnlyRaw s look a = (l : Look) (b : Action) → Raw s l b → (l ≡ look) × (b ≡ a)
 
@@ -181,30 +181,30 @@ raw_done s q k es h (Token z) (Shift j) r = absurd (let e : None ≡ Some j = ap
 raw_done s q k es h End (Shift j) r = absurd (let e : None ≡ Some j = r in cc)
 raw_done s q k es h look Refuse r = absurd r
 
-clear_by : (s : State) (look : Look) (a : Action) → OnlyRaw s look a → IsClear s
-clear_by s look a h = record {
+conflict_free_by : (s : State) (look : Look) (a : Action) → OnlyRaw s look a → IsConflictFreeState s
+conflict_free_by s look a h = record {
   one = λ l c. c.two ((h l c.one c.raw_one).1 ∙ sym (h l c.other c.raw_other).1);
-  stream = λ x. (let no : End ≡ Token x.token = (h End x.last (takes_raw s End x.last x.takes_last)).0 ∙ sym (h (Token x.token) x.other (takes_raw s (Token x.token) x.other x.takes_other)).0 in cc);
+  stream = λ x. (let no : End ≡ Token x.token = (h End x.last (chosen_is_raw s End x.last x.takes_last)).0 ∙ sym (h (Token x.token) x.other (chosen_is_raw s (Token x.token) x.other x.takes_other)).0 in cc);
 }
 
--- the state reduces p by its default
+-- The state reduces p by default.
 module _ (s : State) (p : ℕ) (h : OnlyRaw s End (Reduce p)) (r : Raw s End (Reduce p)) where
-  keeps : Keeps s End (Reduce p)
-  keeps = let clear = clear_by s End (Reduce p) h in (raw_taken s End (clear.one End) (Reduce p) r, clear.stream)
+  keeps : IsKeptOn s End (Reduce p)
+  keeps = let clear = conflict_free_by s End (Reduce p) h in (raw_is_chosen s End (clear.one End) (Reduce p) r, clear.stream)
 
   defaults : HasDefault Canonical s p
   defaults =
-      let clear = clear_by s End (Reduce p) h in
+      let clear = conflict_free_by s End (Reduce p) h in
       record {
         look = End;
         some = keeps;
         all = λ l a k. (h l a (kept_raw s l a k)).1;
-        no_hole = λ l x. x.none_stays x.action (takes_stays s l x.action (raw_taken s l (clear.one l) x.action x.raw));
+        no_hole = λ l x. x.none_stays x.action (chosen_remains s l x.action (raw_is_chosen s l (clear.one l) x.action x.raw));
         canonical = λ e. keeps;
       }
 
   refuses : (z : ℕ) → IsCell Canonical s z Refuse
-  refuses z = inr (refl, λ b f. elim f [ inl t ↦ (let no : Token z ≡ End = (h (Token z) b (takes_raw s (Token z) b t)).0 in cc) | inr x ↦ x.1 p defaults ])
+  refuses z = inr (refl, λ b f. elim f [ inl t ↦ (let no : Token z ≡ End = (h (Token z) b (chosen_is_raw s (Token z) b t)).0 in cc) | inr x ↦ x.1 p defaults ])
 
 refuse_at : (P : Action → Type 0) (z : ℕ) → P Refuse → P (get_or (Refuse ∷ []) z Refuse)
 refuse_at P zero h = h
@@ -227,17 +227,17 @@ only_2 = raw_done 2 0 kernel_2 edges_2 done_0
 
 reduce_1 : Raw s_1 End (Reduce 1)
 reduce_1 = let l : 1 ≡ length (rhs_of g 1) = ap length (sym rhs_1) in
-    subst (λ (d : ℕ). closure_of g one_automaton 1 1 d End) l (given (subst (λ (k : Kernel). Holds k 1 1 End) (sym kernel_1) (with_holds 1 1)))
+    subst (λ (d : ℕ). closure_of g one_automaton 1 1 d End) l (given (subst (λ (k : Kernel). Holds k 1 1 End) (sym kernel_1) (Holds-kernel_with 1 1)))
 
 reduce_2 : Raw s_2 End (Reduce 0)
 reduce_2 = let l : 1 ≡ length (rhs_of g 0) = ap length (sym rhs_0) in
-    subst (λ (d : ℕ). closure_of g one_automaton 2 0 d End) l (given (subst (λ (k : Kernel). Holds k 0 1 End) (sym kernel_2) (with_holds 0 1)))
+    subst (λ (d : ℕ). closure_of g one_automaton 2 0 d End) l (given (subst (λ (k : Kernel). Holds k 0 1 End) (sym kernel_2) (Holds-kernel_with 0 1)))
 
 shift_0 : Raw s_0 (Token 0) (Shift 1)
 shift_0 = ap (λ (es : List Edge). find_edge es (T 0)) edges_0
 
 cell_0 : (z : ℕ) → z < 1 → IsCell Canonical s_0 z (get_or (Shift 1 ∷ []) z Refuse)
-cell_0 zero lt = inl (inl (raw_taken s_0 (Token 0) ((clear_by s_0 (Token 0) (Shift 1) raw_0).one (Token 0)) (Shift 1) shift_0))
+cell_0 zero lt = inl (inl (raw_is_chosen s_0 (Token 0) ((conflict_free_by s_0 (Token 0) (Shift 1) raw_0).one (Token 0)) (Shift 1) shift_0))
 cell_0 (suc z) lt = absurd (omega arith)
 
 no_default_0 : (p : ℕ) → HasDefault Canonical s_0 p → ⊥
@@ -249,7 +249,7 @@ resolved_0 = record {
   cells = cell_0;
   fallback = no_default_0;
   edges = sym edges_0;
-  core = sym (ap (λ (k : Kernel). map place_of k.items) kernel_0);
+  core = sym (ap (λ (k : Kernel). map core_item_of k.items) kernel_0);
 }
 
 resolved_1 : IsResolved Canonical s_1 (kernel_at one_automaton 1) (get_or one_states 1 no_state)
@@ -258,7 +258,7 @@ resolved_1 = record {
   cells = λ z lt. refuse_at (IsCell Canonical s_1 z) z (refuses s_1 1 only_1 reduce_1 z);
   fallback = (omega arith, defaults s_1 1 only_1 reduce_1);
   edges = sym edges_1;
-  core = sym (ap (λ (k : Kernel). map place_of k.items) kernel_1);
+  core = sym (ap (λ (k : Kernel). map core_item_of k.items) kernel_1);
 }
 
 resolved_2 : IsResolved Canonical s_2 (kernel_at one_automaton 2) (get_or one_states 2 no_state)
@@ -267,7 +267,7 @@ resolved_2 = record {
   cells = λ z lt. refuse_at (IsCell Canonical s_2 z) z (refuses s_2 0 only_2 reduce_2 z);
   fallback = (0, omega arith, defaults s_2 0 only_2 reduce_2);
   edges = sym edges_2;
-  core = sym (ap (λ (k : Kernel). map place_of k.items) kernel_2);
+  core = sym (ap (λ (k : Kernel). map core_item_of k.items) kernel_2);
 }
 
 each_resolved : (s : ℕ) → s < 3 → IsResolved Canonical (state_of one_grammar one_automaton s) (kernel_at one_automaton s) (get_or one_states s no_state)
@@ -279,13 +279,13 @@ each_resolved (suc (suc (suc s))) lt = absurd (omega arith)
 are_resolved : AreResolved one_grammar one_automaton Canonical one_states
 are_resolved = record { count = refl; each = each_resolved }
 
-each_clear : (s : ℕ) → s < 3 → IsClear (state_of one_grammar one_automaton s)
-each_clear zero lt = clear_by s_0 (Token 0) (Shift 1) raw_0
-each_clear (suc zero) lt = clear_by s_1 End (Reduce 1) only_1
-each_clear (suc (suc zero)) lt = clear_by s_2 End (Reduce 0) only_2
-each_clear (suc (suc (suc s))) lt = absurd (omega arith)
+each_conflict_free : (s : ℕ) → s < 3 → IsConflictFreeState (state_of one_grammar one_automaton s)
+each_conflict_free zero lt = conflict_free_by s_0 (Token 0) (Shift 1) raw_0
+each_conflict_free (suc zero) lt = conflict_free_by s_1 End (Reduce 1) only_1
+each_conflict_free (suc (suc zero)) lt = conflict_free_by s_2 End (Reduce 0) only_2
+each_conflict_free (suc (suc (suc s))) lt = absurd (omega arith)
 
--- the automaton
+-- The automaton of the example is an automaton.
 is_kernel : (q e : ℕ) → q < 2 → e ≤ length (rhs_of g q) → IsItemList g (kernel_with q e)
 is_kernel q e lt le = record {
   items = (record { production = omega arith; dot = omega arith; looks = (tt, tt); rising = (tt, tt); some = omega arith }, tt);
@@ -309,16 +309,16 @@ each_filled (suc (suc zero)) lt = subst (λ (k : Kernel). 0 < length k.items) (s
 each_filled (suc (suc (suc s))) lt = absurd (omega arith)
 
 each_end : (s p d : ℕ) (look : Look) → s < 3 → kernel_of one_automaton s p d look → look ≡ End
-each_end zero p d look lt h = (with_only 0 0 p d look (subst (λ (k : Kernel). Holds k p d look) kernel_0 h)).at_end
-each_end (suc zero) p d look lt h = (with_only 1 1 p d look (subst (λ (k : Kernel). Holds k p d look) kernel_1 h)).at_end
-each_end (suc (suc zero)) p d look lt h = (with_only 0 1 p d look (subst (λ (k : Kernel). Holds k p d look) kernel_2 h)).at_end
+each_end zero p d look lt h = (Holds-kernel_with_only 0 0 p d look (subst (λ (k : Kernel). Holds k p d look) kernel_0 h)).at_end
+each_end (suc zero) p d look lt h = (Holds-kernel_with_only 1 1 p d look (subst (λ (k : Kernel). Holds k p d look) kernel_1 h)).at_end
+each_end (suc (suc zero)) p d look lt h = (Holds-kernel_with_only 0 1 p d look (subst (λ (k : Kernel). Holds k p d look) kernel_2 h)).at_end
 each_end (suc (suc (suc s))) p d look lt h = absurd (omega arith)
 
-each_moved : (s p d : ℕ) → 1 ≤ s → HasPlace (kernel_at one_automaton s) p d → 0 < d
+each_moved : (s p d : ℕ) → 1 ≤ s → HasCoreItem (kernel_at one_automaton s) p d → 0 < d
 each_moved zero p d le h = absurd (omega arith)
-each_moved (suc zero) p d le h = let x = (place_only 1 1 p d (subst (λ (k : Kernel). HasPlace k p d) kernel_1 h)).1 in omega arith
-each_moved (suc (suc zero)) p d le h = let x = (place_only 0 1 p d (subst (λ (k : Kernel). HasPlace k p d) kernel_2 h)).1 in omega arith
-each_moved (suc (suc (suc s))) p d le h = let x = subst (λ (k : Kernel). HasPlace k p d) (kernel_past s) h in absurd (omega (arith, x.1.1))
+each_moved (suc zero) p d le h = let x = (HasCoreItem-kernel_with 1 1 p d (subst (λ (k : Kernel). HasCoreItem k p d) kernel_1 h)).1 in omega arith
+each_moved (suc (suc zero)) p d le h = let x = (HasCoreItem-kernel_with 0 1 p d (subst (λ (k : Kernel). HasCoreItem k p d) kernel_2 h)).1 in omega arith
+each_moved (suc (suc (suc s))) p d le h = let x = subst (λ (k : Kernel). HasCoreItem k p d) (kernel_past s) h in absurd (omega (arith, x.1.1))
 
 each_order : (s : ℕ) → s < 3 → IsRising IsEdgeBefore (edges_at one_automaton s)
 each_order zero lt = subst (IsRising IsEdgeBefore) (sym edges_0) ((tt, tt), (tt, tt))
@@ -336,73 +336,73 @@ first_leads : (p d : ℕ) (look : Look) (X : Symbol) (rest : List Symbol) → In
 first_leads p d look X rest begin e = let at : N 0 ∷ [] ≡ X ∷ rest = sym rhs_0 ∙ e in let same : X ≡ N 0 = cc in rw same (2, lead_N)
 first_leads p d look X rest next e = let at : T 0 ∷ [] ≡ X ∷ rest = sym rhs_1 ∙ e in let same : X ≡ T 0 = cc in rw same (1, lead_T)
 
-none_behind : (q : ℕ) → drop 1 (rhs_of g q) ≡ [] → (p d : ℕ) (look : Look) (X : Symbol) (rest : List Symbol) → IsAlone q 1 p d look → drop d (rhs_of g p) ≡ X ∷ rest → ⊥
-none_behind q h p d look X rest x e =
+nothing_after_dot : (q : ℕ) → drop 1 (rhs_of g q) ≡ [] → (p d : ℕ) (look : Look) (X : Symbol) (rest : List Symbol) → IsSingleItem q 1 p d look → drop d (rhs_of g p) ≡ X ∷ rest → ⊥
+nothing_after_dot q h p d look X rest x e =
     let before : drop 1 (rhs_of g q) ≡ X ∷ rest = rw (x.production, x.dot) at e in
     let no : [] ≡ X ∷ rest = sym h ∙ before in cc
 
-done_still : (s q : ℕ) → kernel_at one_automaton s ≡ kernel_with q 1 → drop 1 (rhs_of g q) ≡ [] → (X : Symbol) → Moves g one_automaton s X → ⊥
+done_still : (s q : ℕ) → kernel_at one_automaton s ≡ kernel_with q 1 → drop 1 (rhs_of g q) ≡ [] → (X : Symbol) → HasMove g one_automaton s X → ⊥
 done_still s q k h X m =
-    let c = came_from g (closure_of g one_automaton s) X m.production m.dot m.look m.moves in
-    none_behind q h m.production c.place m.look X c.rest (in_done s q k h m.production c.place m.look c.there) c.before
+    let c = move_origin g (closure_of g one_automaton s) X m.production m.dot m.look m.moves in
+    nothing_after_dot q h m.production c.place m.look X c.rest (in_done s q k h m.production c.place m.look c.there) c.before
 
-each_edge : (s : ℕ) (X : Symbol) → s < 3 → Moves g one_automaton s X → (u : ℕ) × (leads_to one_automaton s X ≡ Some u)
+each_edge : (s : ℕ) (X : Symbol) → s < 3 → HasMove g one_automaton s X → (u : ℕ) × (leads_to one_automaton s X ≡ Some u)
 each_edge zero X lt m =
-    let c = came_from g (closure_of g one_automaton 0) X m.production m.dot m.look m.moves in
+    let c = move_origin g (closure_of g one_automaton 0) X m.production m.dot m.look m.moves in
     first_leads m.production c.place m.look X c.rest (in_first m.production c.place m.look c.there) c.before
 each_edge (suc zero) X lt m = absurd (done_still 1 1 kernel_1 done_1 X m)
 each_edge (suc (suc zero)) X lt m = absurd (done_still 2 0 kernel_2 done_0 X m)
 each_edge (suc (suc (suc s))) X lt m = absurd (omega arith)
 
--- what the edges of the first state carry
+-- The items that the edges of the start state move.
 over_T : move_of g one_automaton 0 (T 0) 1 1 End
 over_T = moved has_next rhs_1
 
 over_N : move_of g one_automaton 0 (N 0) 0 1 End
 over_N = moved has_begin rhs_0
 
-first_over_T : (p d : ℕ) (look : Look) (rest : List Symbol) → InFirst p d look → drop d (rhs_of g p) ≡ T 0 ∷ rest → IsAlone 1 0 p d look
+first_over_T : (p d : ℕ) (look : Look) (rest : List Symbol) → InFirst p d look → drop d (rhs_of g p) ≡ T 0 ∷ rest → IsSingleItem 1 0 p d look
 first_over_T p d look rest begin e = let at : N 0 ∷ [] ≡ T 0 ∷ rest = sym rhs_0 ∙ e in cc
 first_over_T p d look rest next e = record { production = refl; dot = refl; at_end = refl }
 
-first_over_N : (p d : ℕ) (look : Look) (rest : List Symbol) → InFirst p d look → drop d (rhs_of g p) ≡ N 0 ∷ rest → IsAlone 0 0 p d look
+first_over_N : (p d : ℕ) (look : Look) (rest : List Symbol) → InFirst p d look → drop d (rhs_of g p) ≡ N 0 ∷ rest → IsSingleItem 0 0 p d look
 first_over_N p d look rest begin e = record { production = refl; dot = refl; at_end = refl }
 first_over_N p d look rest next e = let at : T 0 ∷ [] ≡ N 0 ∷ rest = sym rhs_1 ∙ e in cc
 
-holds_1 : (p d : ℕ) (look : Look) → IsAlone 1 1 p d look → kernel_of one_automaton 1 p d look
-holds_1 p d look x = rw (x.production, x.dot, x.at_end) (subst (λ (k : Kernel). Holds k 1 1 End) (sym kernel_1) (with_holds 1 1))
+holds_1 : (p d : ℕ) (look : Look) → IsSingleItem 1 1 p d look → kernel_of one_automaton 1 p d look
+holds_1 p d look x = rw (x.production, x.dot, x.at_end) (subst (λ (k : Kernel). Holds k 1 1 End) (sym kernel_1) (Holds-kernel_with 1 1))
 
-holds_2 : (p d : ℕ) (look : Look) → IsAlone 0 1 p d look → kernel_of one_automaton 2 p d look
-holds_2 p d look x = rw (x.production, x.dot, x.at_end) (subst (λ (k : Kernel). Holds k 0 1 End) (sym kernel_2) (with_holds 0 1))
+holds_2 : (p d : ℕ) (look : Look) → IsSingleItem 0 1 p d look → kernel_of one_automaton 2 p d look
+holds_2 p d look x = rw (x.production, x.dot, x.at_end) (subst (λ (k : Kernel). Holds k 0 1 End) (sym kernel_2) (Holds-kernel_with 0 1))
 
-carried_T : (p d : ℕ) (look : Look) → move_of g one_automaton 0 (T 0) p d look → IsAlone 1 1 p d look
+carried_T : (p d : ℕ) (look : Look) → move_of g one_automaton 0 (T 0) p d look → IsSingleItem 1 1 p d look
 carried_T p d look m =
-    let c = came_from g (closure_of g one_automaton 0) (T 0) p d look m in
+    let c = move_origin g (closure_of g one_automaton 0) (T 0) p d look m in
     let x = first_over_T p c.place look c.rest (in_first p c.place look c.there) c.before in
     record { production = x.production; dot = c.dot ∙ ap suc x.dot; at_end = x.at_end }
 
-carried_N : (p d : ℕ) (look : Look) → move_of g one_automaton 0 (N 0) p d look → IsAlone 0 1 p d look
+carried_N : (p d : ℕ) (look : Look) → move_of g one_automaton 0 (N 0) p d look → IsSingleItem 0 1 p d look
 carried_N p d look m =
-    let c = came_from g (closure_of g one_automaton 0) (N 0) p d look m in
+    let c = move_origin g (closure_of g one_automaton 0) (N 0) p d look m in
     let x = first_over_N p c.place look c.rest (in_first p c.place look c.there) c.before in
     record { production = x.production; dot = c.dot ∙ ap suc x.dot; at_end = x.at_end }
 
 target_T : IsTarget g one_automaton 0 (T 0) 1
 target_T = record {
   known = omega arith;
-  core = λ p d h. (let x = place_only 1 1 p d (subst (λ (k : Kernel). HasPlace k p d) kernel_1 h) in (End, rw (x.0, x.1) over_T));
+  core = λ p d h. (let x = HasCoreItem-kernel_with 1 1 p d (subst (λ (k : Kernel). HasCoreItem k p d) kernel_1 h) in (End, rw (x.0, x.1) over_T));
   looks = λ p d look m. holds_1 p d look (carried_T p d look m);
 }
 
 target_N : IsTarget g one_automaton 0 (N 0) 2
 target_N = record {
   known = omega arith;
-  core = λ p d h. (let x = place_only 0 1 p d (subst (λ (k : Kernel). HasPlace k p d) kernel_2 h) in (End, rw (x.0, x.1) over_N));
+  core = λ p d h. (let x = HasCoreItem-kernel_with 0 1 p d (subst (λ (k : Kernel). HasCoreItem k p d) kernel_2 h) in (End, rw (x.0, x.1) over_N));
   looks = λ p d look m. holds_2 p d look (carried_N p d look m);
 }
 
 abbrev Carries : ℕ → Symbol → ℕ → Type 0
-Carries s X u = Moves g one_automaton s X × IsTarget g one_automaton s X u
+Carries s X u = HasMove g one_automaton s X × IsTarget g one_automaton s X u
 
 first_target : (X : Symbol) (u : ℕ) → find_edge first_edges X ≡ Some u → Carries 0 X u
 first_target (T z) u e = let x = first_shift z u e in rw (x.0, x.1) (record { production = 1; dot = 1; look = End; moves = over_T }, target_T)
@@ -438,7 +438,7 @@ in_range = search rules
 have_costs : HaveCosts one_grammar.tokens
 have_costs = All-cons (λ (token : TokenInfo). IsCost token.cost) (record { name = 65 ∷ []; level = None; cost = 1 }) [] (omega arith, omega arith) (All-nil (λ (token : TokenInfo). IsCost token.cost))
 
--- its one sentence is A
+-- The word A is a sentence of the example.
 one_sentence : Derives g (N 0) (0 ∷ [])
 one_sentence = trees.Derivation.node (1, one_is_for, rhs_1) (trees.Derivations.more refl (trees.Derivation.leaf refl) trees.Derivations.none)
 
@@ -446,13 +446,13 @@ all_productive : AllProductive g
 all_productive zero lt = (0 ∷ [], one_sentence)
 all_productive (suc n) lt = absurd (omega arith)
 
-pub meets : MeetsPremises one_grammar one_automaton Canonical one_table
-meets = record {
+pub example_meets_premises : MeetsPremises one_grammar one_automaton Canonical one_table
+example_meets_premises = record {
   range = in_range;
   facts = facts one_grammar one_automaton Canonical one_states (record { range = in_range; costs = have_costs; automaton = is_automaton; resolved = are_resolved });
   automaton = is_automaton;
   table = record { grammar = refl; costs = refl; states = are_resolved };
-  clear = each_clear;
+  clear = each_conflict_free;
   productive = all_productive;
   sentence = one_sentence;
 }

@@ -1,9 +1,9 @@
 pub mod AcceptedSentence
-pub mod Begun
-pub mod Clearly
-pub mod Complete
-pub mod Derived
-pub mod Exact
+pub mod OvershotBegins
+pub mod RawActions
+pub mod SentencesAccepted
+pub mod TreesDerive
+pub mod ExactVerdicts
 pub mod Example
-pub mod Standing
-pub mod Telling
+pub mod TableEdges
+pub mod ExactnessLaws

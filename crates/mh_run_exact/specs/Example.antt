@@ -1,10 +1,11 @@
--- A grammar of one production with its automaton and its table: the premises of the exact verdicts can be met.
+-- A grammar of one production with its automaton and its table. The example shows that the premises of the laws on
+-- exact verdicts can be satisfied.
 use Rattle.std.specs.Prelude.{List, [], ◌∷◌, Some, None}
 use Rattle.mh_grammar.specs.declared.types.Symbol.TheVariants.{T, N}
 use Rattle.mh_grammar.specs.declared.types.Look.TheVariants.{End}
 use Rattle.mh_grammar.specs.declared.types.Grammar.{Grammar}
 use Rattle.mh_grammar.specs.Plain.{plain_of, IsInRange, IsSentence}
-use Rattle.mh_items_kernels.specs.Shapes.{Automaton}
+use Rattle.mh_items_kernels.specs.KernelTypes.{Automaton}
 use Rattle.mh_items_kernels.specs.Automaton.{IsAutomaton}
 use Rattle.mh_tables_core.specs.declared.parts.Action.TheVariants.{Shift, Refuse}
 use Rattle.mh_tables_core.specs.declared.parts.Fallback.TheVariants as fallbacks
@@ -13,10 +14,10 @@ use Rattle.mh_tables_core.specs.Table.{TableData, table_data}
 use Rattle.mh_tables_core.specs.Facts.{Facts}
 use Rattle.mh_resolve_cells.specs.declared.kinds.Mode.{Mode}
 use Rattle.mh_resolve_cells.specs.States.{IsTableOf}
-use Rattle.mh_resolve_cells.specs.Clear.{HasNoConflicts}
+use Rattle.mh_resolve_cells.specs.NoConflicts.{HasNoConflicts}
 use Rattle.mh_run_exact.specs.Exactness.{AllProductive}
 
--- `s: A`
+-- The grammar with the production `s: A`.
 abbrev pub one_grammar : Grammar
 one_grammar = record {
   tokens = record { name = 65 ∷ []; level = None; cost = 1 } ∷ [];
@@ -25,7 +26,7 @@ one_grammar = record {
   starts = 0 ∷ [];
 }
 
--- behind nothing, behind A, behind s
+-- Its automaton. The states are the start state, the state after A and the state after s.
 abbrev pub one_automaton : Automaton
 one_automaton = record {
   kernels =
@@ -51,7 +52,7 @@ one_states =
 abbrev pub one_table : TableData
 one_table = table_data one_grammar one_states
 
--- all that the laws of exact verdicts ask for, of a grammar that has a start and a sentence
+-- All premises of the laws on exact verdicts, for a grammar that has a start symbol and a sentence.
 pub record MeetsPremises (g : Grammar) (a : Automaton) (mode : Mode) (t : TableData) : Type 0 where
   pub range : IsInRange (plain_of g)
   pub facts : Facts t

@@ -1,14 +1,15 @@
-//! What the verdicts of a table say of the grammar's sentences (Knuth 1965): empty calls that tell it to contracts.
+//! Laws on the verdicts of a table and the sentences of its grammar (Knuth 1965). Each is the contract of an empty
+//! function.
 ghost use Rattle.std.specs.Prelude.{◌≡◌, ◌↔◌, ◌<◌, ◌+◌, List, ℕ, length, take};
 ghost use Rattle.mh_grammar.specs.declared.types.Grammar.{Grammar};
-ghost use Rattle.mh_items_kernels.specs.Shapes.{Automaton as AutomatonOf};
+ghost use Rattle.mh_items_kernels.specs.KernelTypes.{Automaton as AutomatonOf};
 ghost use Rattle.mh_tables_core.specs.Table.{TableData};
 ghost use Rattle.mh_resolve_cells.specs.declared.kinds.Mode.{Mode};
 ghost use Rattle.mh_run_exact.specs.Example.{MeetsPremises};
 ghost use Rattle.mh_grammar.specs.declared.types.Symbol.{Symbol};
 ghost use Rattle.mh_grammar.specs.Plain.{PlainGrammar, plain_of, Derives, IsSentence, BeginsSentence};
 ghost use Rattle.mh_items_kernels.specs.Automaton.{IsAutomaton};
-ghost use Rattle.mh_resolve_cells.specs.Clear.{HasNoConflicts};
+ghost use Rattle.mh_resolve_cells.specs.NoConflicts.{HasNoConflicts};
 ghost use Rattle.mh_resolve_cells.specs.States.{IsTableOf};
 ghost use Rattle.mh_tables_core.specs.Run.{VerdictOf, Accepted, Overshot, Rejected};
 ghost use Rattle.mh_grammar.specs.Trees.{SyntaxTree, IsTreeFor, yield_of};
@@ -20,8 +21,8 @@ use mh_items_kernels::Automaton;
 use mh_resolve_cells::Mode;
 use mh_tables_core::Table;
 
-/// Where the run of a start accepts, on any table, its one tree is a derivation's tree for the symbol of the start, and
-/// the tokens that were read are a sentence.
+/// Law: if a run accepts, on any table, then it has one tree, which is a tree of the start symbol for the tokens read,
+/// and these tokens are a sentence.
 pub fn accepts_with_tree(table: &Table)
     ensures tree { (start : ℕ) (w : List ℕ) (read : ℕ) → start < length table.now.grammar.starts → VerdictOf table.now start w (Accepted read) → (tree : SyntaxTree) × IsTreeOfRead table.now start w read tree }
     ensures sentence { (start : ℕ) (w : List ℕ) (read : ℕ) → start < length table.now.grammar.starts → VerdictOf table.now start w (Accepted read) → IsPrefixSentence table.now.grammar start w read }
@@ -29,13 +30,13 @@ pub fn accepts_with_tree(table: &Table)
     table.facts();
 }
 
-/// A tree of a grammar for a symbol is a derivation of its yield from that symbol.
+/// Law: a tree of a grammar for a symbol is a derivation of its yield from the symbol.
 pub fn trees_derive()
     ensures { (g : PlainGrammar) (tree : SyntaxTree) (x : Symbol) → IsTreeFor g x tree → Derives g x (yield_of tree) }
 {}
 
-/// On the table of an automaton, with conflicts or without, where each nonterminal derives some word: where the run of a
-/// start overshoots, some sentence begins with the tokens.
+/// Law: if a table belongs to an automaton, with or without conflicts, and each nonterminal derives some word, then the
+/// tokens of each run that overshoots begin a sentence.
 pub fn overshoots_in_sentences<const W: usize>(
     grammar: &Grammar,
     automaton: &Automaton<W>,
@@ -53,9 +54,9 @@ pub fn overshoots_in_sentences<const W: usize>(
     table.facts();
 }
 
-/// Without conflicts the verdicts are exact: a start accepts the whole list of tokens exactly where it is a sentence,
-/// and after some of them exactly where those are one; there is at most one such front; and no sentence begins with
-/// the tokens up to a refused one.
+/// Law: the verdicts on a table without conflicts are exact. A run accepts all tokens if and only if they are a
+/// sentence, and accepts after the first n tokens if and only if these are a sentence. At most one prefix of the tokens
+/// is a sentence. The tokens up to and including a refused one begin no sentence.
 pub fn verdicts_are_exact<const W: usize>(
     grammar: &Grammar,
     automaton: &Automaton<W>,
@@ -76,8 +77,8 @@ pub fn verdicts_are_exact<const W: usize>(
     table.facts();
 }
 
-/// The premises of these laws can be met: there is a grammar, with its automaton and its table, that has a sentence and
-/// no conflicts.
+/// Law: the premises of these laws can be satisfied. There is a grammar with an automaton and a table that has a
+/// sentence and no conflicts.
 pub fn some_clean_table()
     ensures { (g : Grammar) × (a : AutomatonOf) × (mode : Mode) × (t : TableData) × MeetsPremises g a mode t }
 {}

@@ -1,4 +1,4 @@
-//! What the verdicts of a table say of the sentences of its grammar: laws alone, each the contract of an empty function.
+//! Laws on the verdicts of a table and the sentences of its grammar. Each is the contract of an empty function.
 #![tactic(auto)]
 
 mod exactness;

@@ -1,3 +1,3 @@
-pub mod Fronts
-pub mod Judged
-pub mod Once
+pub mod TextsInParts
+pub mod Verdicts
+pub mod SampleLineUnique

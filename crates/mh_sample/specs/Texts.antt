@@ -1,37 +1,37 @@
--- The sample: for each number a grammar of expressions with so many levels, and sentences of it, of which a part lacks its last
--- parenthesis. All of it is this project's own.
+-- The definition of samples: for each number a grammar of expressions with several levels, and sentences of it, some of
+-- which lack the last parenthesis. Samples are this project's own.
 use Rattle.std.specs.Prelude.{ℕ, zero, suc, ◌+◌, ◌-◌, ◌*◌, ◌%◌, nat_eq, if◌then◌else◌, List, [], ◌∷◌, ◌++◌, codes, decimal}
 use Rattle.mh_sample.specs.declared.texts.TheConstants.{SENTENCES}
 use Rattle.mh_grammar.specs.Text.{Text}
 
--- a text so many times
-unfoldable pub times : ℕ → Text → Text
-times zero text = []
-times (suc count) text = text ++ times count text
+-- The text repeated so many times.
+unfoldable pub repeated_text : ℕ → Text → Text
+repeated_text zero text = []
+repeated_text (suc count) text = text ++ repeated_text count text
 
--- what so many numbers, from one on, give
+-- The lists that `f` gives for `count` numbers from `number` up, one after another.
 unfoldable pub each_from : {A : Type 0} → (ℕ → List A) → ℕ → ℕ → List A
 each_from f number zero = []
 each_from f number (suc count) = f number ++ each_from f (number + 1) count
 
--- ---- the grammar
+-- The grammar.
 
--- how many operators the grammar of a number has: from 2 to 31
+-- The number of operators of a sample's grammar, from 2 to 31.
 abbrev pub operators_of : ℕ → ℕ
 operators_of number = 2 + number % 30
 
 unfoldable pub token_line : ℕ → Text
 token_line j = codes "%token OP" ++ decimal j ++ codes "\n"
 
--- the beginning of a level's rule: its operator has the level before it
+-- The beginning of the rule of level `j`: the left operand is of the same level.
 unfoldable pub left_text : ℕ → Text
 left_text j = codes "e" ++ decimal j ++ codes ": e" ++ decimal j ++ codes " OP" ++ decimal j ++ codes " "
 
--- the end of a level's rule: an operand after the operator, or alone
+-- The end of a level's rule: the right operand of the operator, or a single operand.
 unfoldable pub right_text : Text → Text
 right_text operand = operand ++ codes " {} | " ++ operand ++ codes " {}\n"
 
--- the operands of a level are the next one, those of the last level are atoms
+-- The operands of a level are the expressions of the next level; those of the last level are atoms.
 abbrev pub level_line : ℕ → Text
 level_line j = left_text j ++ right_text (codes "e" ++ decimal (j + 1))
 
@@ -43,32 +43,32 @@ grammar_text number =
     codes "%token EOF LP RP INT\n" ++ each_from token_line 1 (operators_of number) ++ codes "%start main\n%%\nmain: e1 EOF {}\n"
     ++ each_from level_line 1 (operators_of number - 1) ++ last_level_line (operators_of number) ++ codes "a: INT {} | LP e1 RP {}\n"
 
--- ---- the sentences
+-- The sentences.
 
--- the operator at a place of a sentence, counted from 1
+-- The operator at a place of a sentence. Both are counted from 1.
 abbrev pub operator_at : ℕ → ℕ → ℕ → ℕ
 operator_at operators sentence place = 1 + (sentence * place) % operators
 
--- how many parentheses a sentence opens
-abbrev pub opened : ℕ → ℕ
-opened sentence = sentence % 17
+-- How many parentheses a sentence opens.
+abbrev pub opened_parentheses : ℕ → ℕ
+opened_parentheses sentence = sentence % 17
 
--- how many parentheses a sentence closes: in each third sentence one too few, where it opens any
-abbrev pub closed : ℕ → ℕ
-closed sentence = if nat_eq (sentence % 3) 0 then opened sentence - 1 else opened sentence
+-- How many parentheses a sentence closes: as many as it opens, but one fewer in every third sentence that opens any.
+abbrev pub closed_parentheses : ℕ → ℕ
+closed_parentheses sentence = if nat_eq (sentence % 3) 0 then opened_parentheses sentence - 1 else opened_parentheses sentence
 
 unfoldable pub operand_text : ℕ → Text
 operand_text operator = codes " OP" ++ decimal operator ++ codes " INT"
 
--- names with one space between them
+-- The names of a sentence, with one space between them.
 unfoldable pub sentence_text : ℕ → ℕ → Text
 sentence_text operators sentence =
-    times (opened sentence) (codes "LP ") ++ codes "INT" ++ each_from (λ place. operand_text (operator_at operators sentence place)) 1 (sentence % 5)
-    ++ times (closed sentence) (codes " RP") ++ codes " EOF"
+    repeated_text (opened_parentheses sentence) (codes "LP ") ++ codes "INT" ++ each_from (λ place. operand_text (operator_at operators sentence place)) 1 (sentence % 5)
+    ++ repeated_text (closed_parentheses sentence) (codes " RP") ++ codes " EOF"
 
 abbrev pub sentence_line : ℕ → ℕ → Text
 sentence_line operators sentence = sentence_text operators sentence ++ 10 ∷ []
 
--- 3,000 of them
+-- The lines of all sentences of a sample.
 unfoldable pub sentences_text : ℕ → Text
 sentences_text number = each_from (sentence_line (operators_of number)) 0 SENTENCES

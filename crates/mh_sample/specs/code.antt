@@ -1,1 +1,1 @@
-pub mod Speaking
+pub mod SampleLexicon

@@ -1,4 +1,4 @@
-//! What a table makes of the sentences of a sample, counted.
+//! Counts how a table parses the sentences of a sample.
 ghost use Rattle.std.specs.Prelude.{◌≡◌, ◌<◌, ◌≤◌, ◌^◌, ◌∷◌, ◌++◌, [], List, length, map, count_by, decimal, IfOk, OnOk};
 ghost use Rattle.std.specs.List.{All};
 ghost use Rattle.mh_grammar.specs.Plain.{plain_of, IsInRange};
@@ -8,7 +8,7 @@ ghost use Rattle.mh_msgfile.specs.Sentences.{vocabulary_in, sentence_in};
 ghost use Rattle.mh_sample.specs.declared.texts.TheConstants.{SENTENCES};
 ghost use Rattle.mh_sample.specs.Texts.{each_from};
 ghost use Rattle.mh_sample.specs.Counts.{HaveEndings, IsSampleLine, counts_line as counts_text, endings_text, grammar_sizes, table_sizes, is_accepted, is_overshot, is_rejected, sample_sentences, sentences_of, sentences_at};
-ghost use Rattle.mh_sample.specs.code.Speaking.{SpeaksOf};
+ghost use Rattle.mh_sample.specs.code.SampleLexicon.{HasNamesOf};
 
 use crate::texts::{SENTENCES, operators, write_sentence};
 use mh_grammar::{Grammar, Memory, Sentence};
@@ -17,7 +17,7 @@ use mh_run::{Verdict, verdict};
 use mh_tables_core::{Halting, Table};
 use std::alloc::Global;
 
-/// Puts in the verdict of a sentence.
+/// Appends the verdict of a sentence.
 fn put_verdict(
     alloc: Global,
     table: &Halting,
@@ -34,7 +34,7 @@ fn put_verdict(
     Ok(())
 }
 
-/// Puts in the verdict of a line, if it is a sentence.
+/// Appends the verdict of a line, if the line is a sentence.
 fn judge_line(
     alloc: Global,
     lexicon: &Lexicon,
@@ -43,7 +43,7 @@ fn judge_line(
     verdicts: &mut Vec<Verdict>,
 ) -> Result<(), Memory>
     requires short { length line.now < 2 ^ 32 }
-    requires speaks { SpeaksOf lexicon.now table.now }
+    requires speaks { HasNamesOf lexicon.now table.now }
     ensures { OnOk result ((done : List Sentence') → HaveEndings table.now done (map ending_for verdicts.old.items) → HaveEndings table.now (done ++ sentences_of (sentence_in (vocabulary_in lexicon.now) line.now)) (map ending_for verdicts.new.items)) }
 {
     match lexicon.read(alloc, line) {
@@ -56,7 +56,7 @@ fn judge_line(
     }
 }
 
-/// Puts in the verdict of a sentence of the sample.
+/// Appends the verdict of a sentence of the sample, given by its number.
 fn judge_sentence(
     alloc: Global,
     lexicon: &Lexicon,
@@ -68,7 +68,7 @@ fn judge_sentence(
     requires some { 0 < operators }
     requires few { operators < 32 }
     requires sentence { sentence < SENTENCES }
-    requires speaks { SpeaksOf lexicon.now table.now }
+    requires speaks { HasNamesOf lexicon.now table.now }
     ensures { OnOk result ((done : List Sentence') → HaveEndings table.now done (map ending_for verdicts.old.items) → HaveEndings table.now (done ++ sentences_at (vocabulary_in lexicon.now) operators sentence) (map ending_for verdicts.new.items)) }
 {
     let mut line = Vec::new(alloc);
@@ -76,7 +76,7 @@ fn judge_sentence(
     judge_line(alloc, lexicon, table, line.as_slice(), verdicts)
 }
 
-/// The verdicts of the first sentences of a sample.
+/// The verdicts of the first `count` sentences of a sample.
 fn judge_sentences(
     alloc: Global,
     lexicon: &Lexicon,
@@ -87,7 +87,7 @@ fn judge_sentences(
     requires some { 0 < operators }
     requires few { operators < 32 }
     requires count { count ≤ SENTENCES }
-    requires speaks { SpeaksOf lexicon.now table.now }
+    requires speaks { HasNamesOf lexicon.now table.now }
     ensures { IfOk result (λ verdicts. HaveEndings table.now (each_from (sentences_at (vocabulary_in lexicon.now) operators) 0 count) (map ending_for verdicts.items)) }
 {
     let mut verdicts = Vec::new(alloc);
@@ -139,7 +139,7 @@ fn count_rejects(verdicts: &[Verdict]) -> usize
         .count()
 }
 
-/// Writes words and a count.
+/// Appends some words and a count.
 fn write_count(alloc: Global, text: &mut Vec<u8>, words: &[u8], count: usize) -> Result<(), Memory>
     ensures { OnOk result (text.new.items ≡ text.old.items ++ words.now ++ decimal count) }
 {
@@ -149,7 +149,7 @@ fn write_count(alloc: Global, text: &mut Vec<u8>, words: &[u8], count: usize) ->
     Ok(())
 }
 
-/// Writes the number, and the sizes of the grammar.
+/// Appends the number of the sample and the sizes of its grammar.
 #[tactic(auto, unfolding(crate::specs::Counts::grammar_sizes))]
 fn write_grammar_sizes(
     alloc: Global,
@@ -165,7 +165,7 @@ fn write_grammar_sizes(
     Ok(())
 }
 
-/// Writes the sizes of the table and of the catalogue.
+/// Appends the sizes of the table and of the catalogue.
 #[tactic(auto, unfolding(crate::specs::Counts::table_sizes))]
 fn write_table_sizes(
     alloc: Global,
@@ -179,7 +179,7 @@ fn write_table_sizes(
     write_count(alloc, text, b", listed ", listed)
 }
 
-/// Writes how many sentences end in each way.
+/// Appends how many sentences end in each of the three ways.
 #[tactic(auto, unfolding(crate::specs::Counts::endings_text))]
 fn write_endings(alloc: Global, text: &mut Vec<u8>, verdicts: &[Verdict]) -> Result<(), Memory>
     ensures { OnOk result (text.new.items ≡ text.old.items ++ endings_text (map ending_for verdicts.now)) }
@@ -189,7 +189,7 @@ fn write_endings(alloc: Global, text: &mut Vec<u8>, verdicts: &[Verdict]) -> Res
     write_count(alloc, text, b", reject ", count_rejects(verdicts))
 }
 
-/// The line that gives the counts.
+/// The line of all counts.
 fn counts_line(
     alloc: Global,
     number: u32,
@@ -208,8 +208,8 @@ fn counts_line(
     Ok(text)
 }
 
-/// The line that a sample comes to: how many tokens, productions and states there are, how many states the catalogue lists, and how
-/// many of the sentences are accepted, overshot and refused. Fails for want of memory alone.
+/// The line of counts of a sample: its numbers of tokens, productions and states, the number of states in the catalogue
+/// (`listed`), and how many sentences are accepted, overshot and rejected. Fails only if memory runs out.
 pub fn sample_line(
     alloc: Global,
     number: u32,

@@ -1,4 +1,4 @@
-//! What readers may rely on of samples. The call does nothing; its clause is a theorem.
+//! The law of samples, as a call without effect whose contract other crates can use.
 ghost use Rattle.std.specs.Prelude.{◌≡◌, List, ℕ};
 ghost use Rattle.mh_grammar.specs.Plain.{plain_of};
 ghost use Rattle.mh_grammar.specs.declared.types.Grammar.{Grammar};
@@ -6,7 +6,7 @@ ghost use Rattle.mh_sample.specs.Counts.{IsSampleLine};
 
 use mh_tables_core::Halting;
 
-/// By a grammar, its table and the size of the catalogue a sample has one line.
+/// For a grammar, its table and a number of listed states, the line of a sample exists and is unique.
 pub fn sample_line_is_one(table: &Halting)
     ensures some { (g : Grammar) → table.now.grammar ≡ plain_of g → (number listed : ℕ) → (text : List ℕ) × IsSampleLine g table.now number listed text }
     ensures once { (g : Grammar) (number listed : ℕ) (x y : List ℕ) → IsSampleLine g table.now number listed x → IsSampleLine g table.now number listed y → x ≡ y }

@@ -1,5 +1,5 @@
-//! The program's own benchmark: a large valid grammar for each number, with sentences of it, and the counts of what its table makes of
-//! them.
+//! The program's own benchmark: for each number a large valid grammar with sentences, and the counts of how its table
+//! parses them.
 #![tactic(auto)]
 
 mod counting;

@@ -1,12 +1,12 @@
-//! The grammar and the sentences of a number.
+//! Writes the grammar and the sentences of a sample.
 ghost use Rattle.std.specs.Prelude.{◌≡◌, ◌<◌, ◌≤◌, ◌+◌, ◌-◌, ◌%◌, ◌++◌, IfOk, OnOk};
 ghost use Rattle.mh_sample.specs.declared.texts.TheConstants.{SENTENCES};
-ghost use Rattle.mh_sample.specs.Texts.{operators_of, times, each_from, token_line, left_text, right_text, level_line, last_level_line, grammar_text, operator_at, operand_text, closed, sentence_text, sentence_line, sentences_text};
+ghost use Rattle.mh_sample.specs.Texts.{operators_of, repeated_text, each_from, token_line, left_text, right_text, level_line, last_level_line, grammar_text, operator_at, operand_text, closed_parentheses, sentence_text, sentence_line, sentences_text};
 
 use mh_grammar::Memory;
 use std::alloc::Global;
 
-/// How many sentences a sample has.
+/// The number of sentences of a sample.
 pub const SENTENCES: u32 = 3_000;
 
 /// A grammar file and its sentences, one a line.
@@ -16,7 +16,7 @@ pub struct Sample {
     pub sentences: Vec<u8>,
 }
 
-/// How many operators the grammar of a number has.
+/// The number of operators of a sample's grammar, from 2 to 31.
 pub(crate) fn operators(number: u32) -> u32
     ensures { result ≡ operators_of number }
 {
@@ -32,7 +32,7 @@ fn write_token(alloc: Global, text: &mut Vec<u8>, operator: u32) -> Result<(), M
     Ok(())
 }
 
-/// Writes the declarations of the operators.
+/// Appends the declarations of the operators.
 fn write_tokens(alloc: Global, text: &mut Vec<u8>, operators: u32) -> Result<(), Memory>
     requires { operators < 32 }
     ensures { OnOk result (text.new.items ≡ text.old.items ++ each_from token_line 1 operators) }
@@ -43,7 +43,7 @@ fn write_tokens(alloc: Global, text: &mut Vec<u8>, operators: u32) -> Result<(),
     Ok(())
 }
 
-/// Writes the beginning of a level's rule: its operator has the level before it.
+/// Appends the beginning of a level's rule: the left operand is of the same level.
 #[tactic(auto, unfolding(crate::specs::Texts::left_text))]
 fn write_left(alloc: Global, text: &mut Vec<u8>, level: u32) -> Result<(), Memory>
     ensures { OnOk result (text.new.items ≡ text.old.items ++ left_text level) }
@@ -53,7 +53,7 @@ fn write_left(alloc: Global, text: &mut Vec<u8>, level: u32) -> Result<(), Memor
     Ok(())
 }
 
-/// Writes the end of a level's rule: an operand after the operator, or alone.
+/// Appends the end of a level's rule: the right operand of the operator, or a single operand.
 #[tactic(auto, unfolding(crate::specs::Texts::right_text))]
 fn write_right(text: &mut Vec<u8>, operand: &[u8]) -> Result<(), Memory>
     ensures { OnOk result (text.new.items ≡ text.old.items ++ right_text operand.now) }
@@ -65,7 +65,7 @@ fn write_right(text: &mut Vec<u8>, operand: &[u8]) -> Result<(), Memory>
     Ok(())
 }
 
-/// Writes the rule of a level, with the next one for its operands.
+/// Appends the rule of a level whose operands are the expressions of the next level.
 fn write_level(alloc: Global, text: &mut Vec<u8>, level: u32) -> Result<(), Memory>
     requires { level < 32 }
     ensures { OnOk result (text.new.items ≡ text.old.items ++ level_line level) }
@@ -76,7 +76,7 @@ fn write_level(alloc: Global, text: &mut Vec<u8>, level: u32) -> Result<(), Memo
     write_right(text, operand.as_bytes())
 }
 
-/// Writes the rules of all levels but the last.
+/// Appends the rules of all levels but the last.
 fn write_levels(alloc: Global, text: &mut Vec<u8>, levels: u32) -> Result<(), Memory>
     requires { levels < 32 }
     ensures { OnOk result (text.new.items ≡ text.old.items ++ each_from level_line 1 levels) }
@@ -87,7 +87,7 @@ fn write_levels(alloc: Global, text: &mut Vec<u8>, levels: u32) -> Result<(), Me
     Ok(())
 }
 
-/// Writes the rule of the last level, whose operands are no level.
+/// Appends the rule of the last level, whose operands are atoms.
 fn write_last_level(alloc: Global, text: &mut Vec<u8>, level: u32) -> Result<(), Memory>
     ensures { OnOk result (text.new.items ≡ text.old.items ++ last_level_line level) }
 {
@@ -95,7 +95,7 @@ fn write_last_level(alloc: Global, text: &mut Vec<u8>, level: u32) -> Result<(),
     write_right(text, b"a")
 }
 
-/// The grammar file of a number. Fails for want of memory alone.
+/// The grammar file of a sample. Fails only if memory runs out.
 pub fn sample_grammar(alloc: Global, number: u32) -> Result<Vec<u8>, Memory>
     ensures { IfOk result (λ text. text.items ≡ grammar_text number) }
 {
@@ -109,9 +109,9 @@ pub fn sample_grammar(alloc: Global, number: u32) -> Result<Vec<u8>, Memory>
     Ok(text)
 }
 
-/// Writes a text so many times.
+/// Appends a text several times.
 fn write_times(text: &mut Vec<u8>, piece: &[u8], count: u32) -> Result<(), Memory>
-    ensures { OnOk result (text.new.items ≡ text.old.items ++ times count piece.now) }
+    ensures { OnOk result (text.new.items ≡ text.old.items ++ repeated_text count piece.now) }
 {
     for _ in 0..count {
         text.extend_from_slice(piece)?;
@@ -119,7 +119,7 @@ fn write_times(text: &mut Vec<u8>, piece: &[u8], count: u32) -> Result<(), Memor
     Ok(())
 }
 
-/// Writes an operator and an operand.
+/// Appends an operator and an operand.
 #[tactic(auto, unfolding(crate::specs::Texts::operand_text))]
 fn write_operand(alloc: Global, text: &mut Vec<u8>, operator: u32) -> Result<(), Memory>
     ensures { OnOk result (text.new.items ≡ text.old.items ++ operand_text operator) }
@@ -129,7 +129,7 @@ fn write_operand(alloc: Global, text: &mut Vec<u8>, operator: u32) -> Result<(),
     Ok(())
 }
 
-/// Writes the operators of a sentence with their operands.
+/// Appends the operators of a sentence, each with its right operand.
 fn write_operands(
     alloc: Global,
     text: &mut Vec<u8>,
@@ -147,9 +147,9 @@ fn write_operands(
     Ok(())
 }
 
-/// How many parentheses a sentence closes: one too few in each third, where it opens any.
+/// How many parentheses a sentence closes: as many as it opens, but one fewer in every third sentence that opens any.
 fn count_closed(sentence: u32) -> u32
-    ensures { result ≡ closed sentence }
+    ensures { result ≡ closed_parentheses sentence }
 {
     let count = sentence % 17;
     if sentence % 3 == 0 {
@@ -159,7 +159,7 @@ fn count_closed(sentence: u32) -> u32
     }
 }
 
-/// Writes a sentence without an LF.
+/// Appends a sentence without LF.
 #[tactic(auto, unfolding(crate::specs::Texts::sentence_text))]
 pub(crate) fn write_sentence(
     alloc: Global,
@@ -196,7 +196,7 @@ fn write_line(
     Ok(())
 }
 
-/// Writes the first sentences, each with an LF after it.
+/// Appends the first `count` sentences, each with LF at the end.
 fn write_sentences(
     alloc: Global,
     text: &mut Vec<u8>,
@@ -214,7 +214,7 @@ fn write_sentences(
     Ok(())
 }
 
-/// The sentences of a number, one a line.
+/// The sentences of a sample, one a line.
 #[tactic(auto, unfolding(crate::specs::Texts::sentences_text))]
 pub(crate) fn sample_sentences(alloc: Global, number: u32) -> Result<Vec<u8>, Memory>
     ensures { IfOk result (λ text. text.items ≡ sentences_text number) }

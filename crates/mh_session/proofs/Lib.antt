@@ -1,7 +1,7 @@
-pub mod Known
-pub mod ValuesByName
-pub mod Serving
-pub mod Spelling
-pub mod Stepping
-pub mod Telling
-pub mod LinesAnswered
+pub mod IsCommandOf
+pub mod ChangesName
+pub mod IsServed
+pub mod HasForm
+pub mod StepClauses
+pub mod AnswerAll
+pub mod IsLineAnswered

@@ -1,5 +1,5 @@
-pub mod Moments
-pub mod Standing
+pub mod SessionState
+pub mod Represents
 pub mod Served
-pub mod Told
+pub mod LineAnswers
 pub mod code

@@ -1,3 +1,3 @@
-pub mod Puts
+pub mod ChangesName
 pub mod Forms
-pub mod Worded
+pub mod AnswerTexts

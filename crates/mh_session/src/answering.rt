@@ -1,11 +1,11 @@
-//! The answer to a line.
+//! The answer to a session line.
 ghost use Rattle.std.specs.Prelude.{◌≡◌};
 ghost use Rattle.mh_grammar.specs.Plain.{plain_of};
 ghost use Rattle.mh_msgfile.specs.Sentences.{vocabulary_in, vocabulary_of};
-ghost use Rattle.mh_session_branches.specs.Answers.{IsKnown};
-ghost use Rattle.mh_session_branches.specs.Lines.{Asks};
-ghost use Rattle.mh_session.specs.Told.{ToldLine};
-ghost use Rattle.mh_session.specs.code.Worded.{ToldSaid};
+ghost use Rattle.mh_session_branches.specs.Answers.{IsCommandOf};
+ghost use Rattle.mh_session_branches.specs.LineForms.{Asks};
+ghost use Rattle.mh_session.specs.LineAnswers.{IsLineAnswered};
+ghost use Rattle.mh_session.specs.code.AnswerTexts.{IsMeaningAnswered};
 
 use crate::naming::replying;
 use crate::reading::read_command_by;
@@ -17,24 +17,24 @@ use mh_msgfile::Lexicon;
 use mh_session_branches::Command;
 use std::alloc::Global;
 
-/// The answer to a command.
+/// Makes the session execute a command, and returns the text of its answer.
 fn serve(
     alloc: Global,
     grammar: &Grammar,
     session: &mut Session<'_>,
     command: &Command,
 ) -> Result<Vec<u8>, Memory>
-    requires { IsKnown session.old.table command.now }
-    ensures told { ToldSaid grammar.now (Asks command.now) session.old session.new result }
+    requires { IsCommandOf session.old.table command.now }
+    ensures told { IsMeaningAnswered grammar.now (Asks command.now) session.old session.new result }
     ensures table { session.new.table ≡ session.old.table }
 {
     let answer = session.step(command);
     answer_text(alloc, grammar, replying(command), &answer)
 }
 
-/// The text that answers a line of a session on a grammar's table, by the names of that grammar. Whatever branches the session
-/// represents, the text is that of their histories, and afterwards the session represents the branches after that line. Fails for want
-/// of memory alone.
+/// Returns the text that answers a line of a session on the table of a grammar; `lexicon` has the names of this
+/// grammar. For all branches that the session represents, the text is computed from their histories, and then the
+/// session represents the branches after the line. Fails only if memory runs out.
 pub fn answer_line(
     alloc: Global,
     grammar: &Grammar,
@@ -44,7 +44,7 @@ pub fn answer_line(
 ) -> Result<Vec<u8>, Memory>
     requires names { vocabulary_in lexicon.now ≡ vocabulary_of grammar.now }
     requires same { session.old.table.grammar ≡ plain_of grammar.now }
-    ensures told { ToldLine grammar.now line.now session.old session.new result }
+    ensures told { IsLineAnswered grammar.now line.now session.old session.new result }
     ensures table { session.new.table ≡ session.old.table }
 {
     match read_command_by(alloc, lexicon, line) {

@@ -1,8 +1,6 @@
-//! Sessions: branches of runs on one table, each with a name, and the lines that command them.
+//! Sessions: named branches of runs of one table, controlled line by line.
 //!
-//! The texts of what sessions answer: replies, why commands are refused, and why lines are no commands.
-//!
-//! The texts that answer the lines of a session.
+//! A line is read as a command, the session executes the command, and the text of its reply or fault answers the line.
 #![tactic(auto)]
 
 mod answering;

@@ -1,10 +1,10 @@
-//! Whom replies name.
+//! The name that a reply begins with.
 ghost use Rattle.std.specs.Prelude.{◌≡◌};
-ghost use Rattle.mh_session_branches.specs.Replies.{replying as replying_of};
+ghost use Rattle.mh_session_branches.specs.Replies.{replied_name as replying_of};
 
 use mh_session_branches::Command;
 
-/// The name that a reply begins with: behind a fork that of the fresh branch.
+/// The name that a reply begins with: for a fork the fresh name, else the name in the command.
 pub(crate) fn replying(command: &Command) -> &[u8]
     ensures { result.now ≡ replying_of command.now }
 {

@@ -1,12 +1,12 @@
-//! Session lines.
+//! The reader of session lines.
 ghost use Rattle.std.specs.Prelude.{◌≡◌, ◌∷◌, true};
 ghost use Rattle.mh_lex_bytes.specs.Words.{is_word as is_word_text};
 ghost use Rattle.mh_grammar.specs.Plain.{plain_of, IsInRange};
 ghost use Rattle.mh_msgfile.specs.Sentences.{pieces, vocabulary_in, vocabulary_of};
 ghost use Rattle.mh_session_branches.specs.Names.{same};
-ghost use Rattle.mh_session_branches.specs.Lines.{ReadsCommand, said_by};
-ghost use Rattle.mh_session_branches.specs.Forms.{of_one, of_two, form_by, form_of};
-ghost use Rattle.mh_session.specs.code.Forms.{as_form, as_forms, FirstWord, ReadsSaid};
+ghost use Rattle.mh_session_branches.specs.LineForms.{ReadsCommand, meaning_of_form};
+ghost use Rattle.mh_session_branches.specs.FormOfLine.{form_with_one_name, form_with_two_names, form_of_pieces, form_of};
+ghost use Rattle.mh_session.specs.code.Forms.{as_form, as_forms, FirstWord, IsResultOfMeaning};
 
 use mh_grammar::{Grammar, from_bytes};
 use mh_lex_bytes::is_word;
@@ -14,9 +14,9 @@ use mh_msgfile::{Lexicon, first_piece};
 use mh_session_branches::{Command, CommandFault};
 use std::alloc::Global;
 
-/// What a line says, its names not looked up yet.
+/// The form of a line, with names that are not looked up yet.
 #[derive(Clone, Copy)]
-enum Spelled<'a> {
+enum LineForm<'a> {
     BeginOnly { name: &'a [u8] },
     BeginAt { name: &'a [u8], start: &'a [u8] },
     Offer { name: &'a [u8], token: &'a [u8] },
@@ -33,43 +33,43 @@ fn is_text(word: &[u8], text: &[u8]) -> bool
     word == text
 }
 
-/// What a line of two words says, by its first word and the name after it.
-#[tactic(auto, unfolding(mh_session_branches::specs::Forms::of_one))]
-fn with_one<'a>(verb: &[u8], name: &'a [u8]) -> Option<Spelled<'a>>
-    ensures { as_forms result ≡ of_one verb.now name.now }
+/// The form of a line of two words: a verb and a name.
+#[tactic(auto, unfolding(mh_session_branches::specs::FormOfLine::form_with_one_name))]
+fn with_one<'a>(verb: &[u8], name: &'a [u8]) -> Option<LineForm<'a>>
+    ensures { as_forms result ≡ form_with_one_name verb.now name.now }
 {
     if is_text(verb, b"begin") {
-        Some(Spelled::BeginOnly { name })
+        Some(LineForm::BeginOnly { name })
     } else if is_text(verb, b"resume") {
-        Some(Spelled::Resume { name })
+        Some(LineForm::Resume { name })
     } else if is_text(verb, b"show") {
-        Some(Spelled::Show { name })
+        Some(LineForm::Show { name })
     } else if is_text(verb, b"tree") {
-        Some(Spelled::Tree { name })
+        Some(LineForm::Tree { name })
     } else if is_text(verb, b"forget") {
-        Some(Spelled::Forget { name })
+        Some(LineForm::Forget { name })
     } else {
         None
     }
 }
 
-/// What a line of three words says, by its first word and the two names after it.
-#[tactic(auto, unfolding(mh_session_branches::specs::Forms::of_two))]
-fn with_two<'a>(verb: &[u8], name: &'a [u8], other: &'a [u8]) -> Option<Spelled<'a>>
-    ensures { as_forms result ≡ of_two verb.now name.now other.now }
+/// The form of a line of three words: a verb and two names.
+#[tactic(auto, unfolding(mh_session_branches::specs::FormOfLine::form_with_two_names))]
+fn with_two<'a>(verb: &[u8], name: &'a [u8], other: &'a [u8]) -> Option<LineForm<'a>>
+    ensures { as_forms result ≡ form_with_two_names verb.now name.now other.now }
 {
     if is_text(verb, b"begin") {
-        Some(Spelled::BeginAt { name, start: other })
+        Some(LineForm::BeginAt { name, start: other })
     } else if is_text(verb, b"offer") {
-        Some(Spelled::Offer { name, token: other })
+        Some(LineForm::Offer { name, token: other })
     } else if is_text(verb, b"fork") {
-        Some(Spelled::Fork { name, fresh: other })
+        Some(LineForm::Fork { name, fresh: other })
     } else {
         None
     }
 }
 
-/// The first word of a line, with the rest of the line.
+/// The first piece of a line, if it is a word, with the rest of the line.
 fn first_word(line: &[u8]) -> Option<(&[u8], &[u8])>
     ensures { FirstWord line.now result }
 {
@@ -85,11 +85,11 @@ fn first_word(line: &[u8]) -> Option<(&[u8], &[u8])>
     }
 }
 
-/// What a line says, by its first two words and the rest of the line.
-fn with_rest<'a>(verb: &[u8], name: &'a [u8], rest: &'a [u8]) -> Option<Spelled<'a>>
+/// The form of a line, given its first two words and the rest of the line.
+fn with_rest<'a>(verb: &[u8], name: &'a [u8], rest: &'a [u8]) -> Option<LineForm<'a>>
     requires verb { is_word_text verb.now ≡ true }
     requires name { is_word_text name.now ≡ true }
-    ensures { as_forms result ≡ form_by (verb.now ∷ name.now ∷ pieces rest.now) }
+    ensures { as_forms result ≡ form_of_pieces (verb.now ∷ name.now ∷ pieces rest.now) }
 {
     let Some((other, more)) = first_piece(rest) else {
         return with_one(verb, name);
@@ -100,8 +100,8 @@ fn with_rest<'a>(verb: &[u8], name: &'a [u8], rest: &'a [u8]) -> Option<Spelled<
     with_two(verb, name, other)
 }
 
-/// What a line says.
-fn form_in(line: &[u8]) -> Option<Spelled<'_>>
+/// The form of a line, if it has one.
+fn form_in(line: &[u8]) -> Option<LineForm<'_>>
     ensures { as_forms result ≡ form_of line.now }
 {
     let Some((verb, behind)) = first_word(line) else {
@@ -113,23 +113,23 @@ fn form_in(line: &[u8]) -> Option<Spelled<'_>>
     with_rest(verb, name, rest)
 }
 
-/// The command of what a line says.
+/// The command of a form, or the first name in it that the grammar does not have.
 fn command_of(
     alloc: Global,
     lexicon: &Lexicon,
-    spelled: Spelled<'_>,
+    spelled: LineForm<'_>,
 ) -> Result<Command, CommandFault>
-    ensures { ReadsSaid (said_by (vocabulary_in lexicon.now) (as_form spelled.entry)) result }
+    ensures { IsResultOfMeaning (meaning_of_form (vocabulary_in lexicon.now) (as_form spelled.entry)) result }
 {
     match spelled {
-        Spelled::BeginOnly { name } => match lexicon.only_start() {
+        LineForm::BeginOnly { name } => match lexicon.only_start() {
             Some(start) => Ok(Command::Begin {
                 name: from_bytes(alloc, name)?,
                 start,
             }),
             None => Err(CommandFault::MissingStart),
         },
-        Spelled::BeginAt { name, start } => match lexicon.start(start) {
+        LineForm::BeginAt { name, start } => match lexicon.start(start) {
             Some(number) => Ok(Command::Begin {
                 name: from_bytes(alloc, name)?,
                 start: number,
@@ -138,7 +138,7 @@ fn command_of(
                 name: from_bytes(alloc, start)?,
             }),
         },
-        Spelled::Offer { name, token } => match lexicon.token(token) {
+        LineForm::Offer { name, token } => match lexicon.token(token) {
             Some(number) => Ok(Command::Offer {
                 name: from_bytes(alloc, name)?,
                 token: number,
@@ -147,26 +147,26 @@ fn command_of(
                 name: from_bytes(alloc, token)?,
             }),
         },
-        Spelled::Resume { name } => Ok(Command::Resume {
+        LineForm::Resume { name } => Ok(Command::Resume {
             name: from_bytes(alloc, name)?,
         }),
-        Spelled::Fork { name, fresh } => Ok(Command::Fork {
+        LineForm::Fork { name, fresh } => Ok(Command::Fork {
             name: from_bytes(alloc, name)?,
             fresh: from_bytes(alloc, fresh)?,
         }),
-        Spelled::Show { name } => Ok(Command::Show {
+        LineForm::Show { name } => Ok(Command::Show {
             name: from_bytes(alloc, name)?,
         }),
-        Spelled::Tree { name } => Ok(Command::Tree {
+        LineForm::Tree { name } => Ok(Command::Tree {
             name: from_bytes(alloc, name)?,
         }),
-        Spelled::Forget { name } => Ok(Command::Forget {
+        LineForm::Forget { name } => Ok(Command::Forget {
             name: from_bytes(alloc, name)?,
         }),
     }
 }
 
-/// The command of a line, as `read_command` has it, by names that were collected once.
+/// Reads the command of a line like `read_command`, with the names of the grammar already collected in a lexicon.
 pub(crate) fn read_command_by(
     alloc: Global,
     lexicon: &Lexicon,
@@ -180,10 +180,11 @@ pub(crate) fn read_command_by(
     }
 }
 
-/// The command of a line: `begin NAME`, `begin NAME START`, `offer NAME TOKEN`, `resume NAME`, `fork NAME NAME`,
-/// `show NAME`, `tree NAME` or `forget NAME`, with blanks between and round these words. `Unreadable` comes for another
-/// form, then `MissingStart` or `UnknownStart`, and `UnknownToken`. `Memory` only where there was none. For many lines of
-/// one grammar, `read_command_by` collects its names only once.
+/// Reads the command of a line: `begin NAME`, `begin NAME START`, `offer NAME TOKEN`, `resume NAME`, `fork NAME NAME`,
+/// `show NAME`, `tree NAME` or `forget NAME`, with blanks between and around these words. Fails with `Unreadable` for
+/// any other form, with `MissingStart` or `UnknownStart` for the start, with `UnknownToken` for the token, and with
+/// `Memory` only if memory runs out. It collects the names of the grammar on each call; `answer_line` takes a lexicon
+/// that is made once for many lines.
 pub fn read_command(alloc: Global, grammar: &Grammar, line: &[u8]) -> Result<Command, CommandFault>
     requires { IsInRange (plain_of grammar.now) }
     ensures { ReadsCommand (vocabulary_of grammar.now) line.now result }

@@ -1,12 +1,12 @@
-//! The texts for lines that are no commands.
+//! The texts that answer lines that are no commands.
 ghost use Rattle.std.specs.Prelude.{◌≡◌, ◌++◌, codes, IfOk};
-ghost use Rattle.mh_session.specs.code.Worded.{IsRefusal};
+ghost use Rattle.mh_session.specs.code.AnswerTexts.{IsCommandFaultText};
 
 use mh_grammar::Memory;
 use mh_session_branches::CommandFault;
 use std::alloc::Global;
 
-/// `error: `, some words and a name.
+/// The given words, a name and a line feed.
 fn error_on(alloc: Global, words: &[u8], name: &[u8]) -> Result<Vec<u8>, Memory>
     ensures { IfOk result (λ text. text.items ≡ words.now ++ name.now ++ codes "\n") }
 {
@@ -16,9 +16,10 @@ fn error_on(alloc: Global, words: &[u8], name: &[u8]) -> Result<Vec<u8>, Memory>
     Ok(text)
 }
 
-/// The text for a line that is no command. Fails for want of memory alone, also where the fault is that.
+/// The text that answers a line that is no command. Fails only if memory runs out, or if the fault is that memory ran
+/// out.
 pub(crate) fn command_refusal(alloc: Global, fault: &CommandFault) -> Result<Vec<u8>, Memory>
-    ensures { IfOk result (λ text. IsRefusal fault.now text.items) }
+    ensures { IfOk result (λ text. IsCommandFaultText fault.now text.items) }
 {
     match fault {
         CommandFault::Unreadable => Ok(b"error: unreadable\n".to_vec(alloc)?),

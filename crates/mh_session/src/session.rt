@@ -1,13 +1,13 @@
-//! Sessions.
+//! Sessions: named checkpoints of one table.
 ghost use Rattle.std.specs.Prelude.{◌≡◌, ◌↔◌, ◌<◌, IsTrue, [], length, IfOk, IfErr, IfSome, OnOk, OnErr, Some, Ok, Err, ◌⊎◌};
 ghost use Rattle.std.specs.Option.{option_copied};
-ghost use Rattle.mh_engine.specs.Phases.{phase_of, CanGoOn};
+ghost use Rattle.mh_engine.specs.Phases.{phase_of, CanResume};
 ghost use Rattle.mh_session_branches.specs.declared.reply.Reply.TheVariants as replies;
 ghost use Rattle.mh_session_branches.specs.declared.reply.SessionFault.TheVariants as faults;
 ghost use Rattle.mh_session_branches.specs.Names.{at_name};
-ghost use Rattle.mh_session.specs.code.Puts.{Puts};
-ghost use Rattle.mh_session_branches.specs.Answers.{IsKnown, Branches, answer, next};
-ghost use Rattle.mh_session.specs.Standing.{StandsFor};
+ghost use Rattle.mh_session.specs.code.ChangesName.{ChangesName};
+ghost use Rattle.mh_session_branches.specs.Answers.{IsCommandOf, Branches, answer, next};
+ghost use Rattle.mh_session.specs.Represents.{Represents};
 ghost use Rattle.mh_session.specs.Served.{IsServed};
 ghost use Rattle.mh_session_branches.specs.declared.command.Command.TheVariants as commands;
 
@@ -19,7 +19,7 @@ use std::alloc::Global;
 use std::collections::HashMap;
 use std::marker::Model;
 
-/// Branches of runs on one table, each with a name.
+/// A session: branches of runs of one table, each with a name.
 #[derive(Drop)]
 pub struct Session<'t> {
     alloc: Global,
@@ -28,9 +28,9 @@ pub struct Session<'t> {
 }
 
 impl<'t> Model for Session<'t> {
-    ghost use Rattle.mh_session.specs.Moments.{Moment};
+    ghost use Rattle.mh_session.specs.SessionState.{SessionState};
 
-    ghost Value = { Moment };
+    ghost Value = { SessionState };
 
     ghost use Rattle.mh_engine.specs.code.Pairs.{pairs_code};
     ghost use Rattle.std.specs.Coded.{codes};
@@ -39,13 +39,13 @@ impl<'t> Model for Session<'t> {
 
     ghost view = { λ s. record { table = s.table.now; held = s.branches.entries } };
 
-    ghost use Rattle.mh_session.specs.code.Puts.{AreOf};
+    ghost use Rattle.mh_session.specs.code.ChangesName.{HaveTable};
 
-    ghost invariant = { λ s. AreOf s.table.now s.branches.entries };
+    ghost invariant = { λ s. HaveTable s.table.now s.branches.entries };
 }
 
 impl<'t> Session<'t> {
-    /// A session with no names.
+    /// Makes a session with no names.
     pub fn new(alloc: Global, table: &'t Halting) -> Session<'t>
         ensures { result ≡ record { table = table.now; held = [] } }
     {
@@ -56,12 +56,12 @@ impl<'t> Session<'t> {
         }
     }
 
-    /// Gives a name a checkpoint, and answers its phase.
+    /// Gives a name a checkpoint, and replies with the phase of the checkpoint.
     fn put(&mut self, name: &Name, checkpoint: Checkpoint<'t>) -> Result<Reply, SessionFault>
         requires { checkpoint.table ≡ self.old.table }
         ensures reply { IfOk result (λ r. r ≡ replies.Phase (phase_of checkpoint.entry)) }
         ensures fault { IfErr result (λ f. f ≡ faults.Memory) }
-        ensures put { OnOk result (Puts self.old name.now (Some checkpoint.entry) self.new) }
+        ensures put { OnOk result (ChangesName self.old name.now (Some checkpoint.entry) self.new) }
         ensures same { OnErr result (self.new ≡ self.old) }
     {
         let phase = checkpoint.phase();
@@ -70,7 +70,7 @@ impl<'t> Session<'t> {
         Ok(Reply::Phase(phase))
     }
 
-    /// The checkpoint of a name.
+    /// The checkpoint of a name, if the session has the name.
     fn find(&self, name: &Name) -> Option<&Checkpoint<'t>>
         ensures found { option_copied result ≡ at_name name.now self.now.held }
         ensures table { IfSome result (λ c. c.now.table ≡ self.now.table) }
@@ -78,22 +78,22 @@ impl<'t> Session<'t> {
         self.branches.get(name)
     }
 
-    /// Answers a command. A refused one changes nothing.
+    /// Executes a command, and returns the reply. A refused command changes nothing.
     pub fn step(&mut self, command: &Command) -> Result<Reply, SessionFault>
-        requires { IsKnown self.old.table command.now }
+        requires { IsCommandOf self.old.table command.now }
         ensures served { IsServed self.old command.now self.new result }
-        ensures reply { IfOk result (λ r. (bs : Branches) → StandsFor self.old bs → answer self.old.table bs command.now ≡ Ok r) }
-        ensures next { OnOk result ((bs : Branches) → StandsFor self.old bs → StandsFor self.new (next self.old.table bs command.now)) }
+        ensures reply { IfOk result (λ r. (bs : Branches) → Represents self.old bs → answer self.old.table bs command.now ≡ Ok r) }
+        ensures next { OnOk result ((bs : Branches) → Represents self.old bs → Represents self.new (next self.old.table bs command.now)) }
         ensures same { OnErr result (self.new ≡ self.old) }
-        ensures fault { IfErr result (λ f. (f ≡ faults.Memory) ⊎ ((bs : Branches) → StandsFor self.old bs → answer self.old.table bs command.now ≡ Err f)) }
+        ensures fault { IfErr result (λ f. (f ≡ faults.Memory) ⊎ ((bs : Branches) → Represents self.old bs → answer self.old.table bs command.now ≡ Err f)) }
         ensures table { self.new.table ≡ self.old.table }
     {
         self.serve(command)
     }
 
-    /// Answers a command by the method for its kind.
+    /// Executes a command by the method for its kind.
     fn serve(&mut self, command: &Command) -> Result<Reply, SessionFault>
-        requires { IsKnown self.old.table command.now }
+        requires { IsCommandOf self.old.table command.now }
         ensures { IsServed self.old command.now self.new result }
     {
         match command {
@@ -197,9 +197,9 @@ impl<'t> Session<'t> {
     }
 }
 
-/// Whether a step may be made in this phase.
+/// True if the run may be resumed in this phase.
 fn can_go_on(phase: Phase) -> bool
-    ensures { IsTrue result ↔ CanGoOn phase }
+    ensures { IsTrue result ↔ CanResume phase }
 {
     match phase {
         Phase::Shifting { state: _, token: _ } => true,

@@ -1,7 +1,7 @@
-//! The texts of replies and faults. Each function adds to the end of a text.
+//! The texts of replies and faults. Each `write_` function appends to a text.
 ghost use Rattle.std.specs.Prelude.{◌≡◌, ◌++◌, IfOk, OnOk, codes};
-ghost use Rattle.mh_session_branches.specs.Replies.{phase_word as word_of, phase_rest, reply_text, fault_text};
-ghost use Rattle.mh_session.specs.code.Worded.{IsTold};
+ghost use Rattle.mh_session_branches.specs.Replies.{phase_word as word_of, phase_details, reply_text, fault_text};
+ghost use Rattle.mh_session.specs.code.AnswerTexts.{IsAnswerText};
 ghost use Rattle.mh_session_branches.specs.declared.reply.SessionFault.TheVariants as faults;
 
 use mh_engine::Phase;
@@ -11,7 +11,7 @@ use mh_session_branches::{Reply, SessionFault};
 use mh_tree::print_tree;
 use std::alloc::Global;
 
-/// The word for a phase.
+/// The word of a phase.
 fn phase_word(phase: Phase) -> &'static [u8]
     ensures { result.now ≡ word_of phase }
 {
@@ -25,14 +25,14 @@ fn phase_word(phase: Phase) -> &'static [u8]
     }
 }
 
-/// The state of a phase, with the token or the production, each after a space.
-fn write_rest(
+/// Appends the state of a phase, and its token or production, each after a space.
+fn write_phase_details(
     alloc: Global,
     text: &mut Vec<u8>,
     grammar: &Grammar,
     phase: Phase,
 ) -> Result<(), Memory>
-    ensures { OnOk result (text.new.items ≡ text.old.items ++ phase_rest grammar.now phase) }
+    ensures { OnOk result (text.new.items ≡ text.old.items ++ phase_details grammar.now phase) }
 {
     match phase {
         Phase::InputNeeded { state } => {
@@ -61,7 +61,7 @@ fn write_rest(
     }
 }
 
-/// A reply, after the name of its branch.
+/// Appends the name of the branch, and then the reply.
 fn write_reply(
     alloc: Global,
     text: &mut Vec<u8>,
@@ -76,7 +76,7 @@ fn write_reply(
         Reply::Phase(phase) => {
             text.push(b' ')?;
             text.extend_from_slice(phase_word(*phase))?;
-            write_rest(alloc, text, grammar, *phase)?;
+            write_phase_details(alloc, text, grammar, *phase)?;
             text.push(b'\n')?;
         }
         Reply::Tree(tree) => {
@@ -99,7 +99,7 @@ fn write_wrong_phase(text: &mut Vec<u8>, phase: Phase) -> Result<(), Memory>
     Ok(())
 }
 
-/// A refusal; want of memory has no text.
+/// Appends the text of a fault; fails if the fault is that memory ran out.
 fn write_fault(text: &mut Vec<u8>, fault: SessionFault) -> Result<(), Memory>
     ensures text { OnOk result (text.new.items ≡ text.old.items ++ fault_text fault) }
     ensures memory { OnOk result (fault ≡ faults.Memory → ⊥) }
@@ -114,14 +114,15 @@ fn write_fault(text: &mut Vec<u8>, fault: SessionFault) -> Result<(), Memory>
     Ok(())
 }
 
-/// The text of an answer on a branch of this name. Fails for want of memory alone, also where the answer is that.
+/// The text of an answer on the branch of this name. Fails only if memory runs out, or if the answer is that memory ran
+/// out.
 pub(crate) fn answer_text(
     alloc: Global,
     grammar: &Grammar,
     name: &[u8],
     answer: &Result<Reply, SessionFault>,
 ) -> Result<Vec<u8>, Memory>
-    ensures { IfOk result (λ text. IsTold grammar.now name.now answer.now text.items) }
+    ensures { IfOk result (λ text. IsAnswerText grammar.now name.now answer.now text.items) }
 {
     let mut text = Vec::new(alloc);
     match answer {

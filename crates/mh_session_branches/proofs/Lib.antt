@@ -1,2 +1,2 @@
-pub mod Forms
-pub mod Once
+pub mod OneForm
+pub mod OneAnswer

@@ -1,5 +1,5 @@
 pub mod Names
 pub mod Answers
-pub mod Forms
-pub mod Lines
+pub mod FormOfLine
+pub mod LineForms
 pub mod Replies

@@ -1,9 +1,9 @@
--- The texts that answer the lines of a session (this project's profile).
+-- The texts that answer session lines. The format is this project's own.
 use Rattle.std.specs.Prelude.{◌≡◌, ◌⊎◌, [], ◌++◌, Ok, Err, codes, decimal}
 use Rattle.mh_grammar.specs.declared.types.Grammar.{Grammar}
 use Rattle.mh_grammar.specs.Names.{token_name}
 use Rattle.mh_tables_core.specs.Table.{TableData}
-use Rattle.mh_grammar.specs.Trees.{text_of}
+use Rattle.mh_grammar.specs.Trees.{tree_text}
 use Rattle.mh_grammar_texts.specs.Productions.{production_text}
 use Rattle.mh_engine.specs.declared.phase.Phase.{Phase}
 use Rattle.mh_engine.specs.declared.phase.Phase.TheVariants as phases
@@ -15,10 +15,10 @@ use Rattle.mh_session_branches.specs.declared.reply.Reply.TheVariants as replies
 use Rattle.mh_session_branches.specs.declared.reply.SessionFault.{SessionFault}
 use Rattle.mh_session_branches.specs.declared.reply.SessionFault.TheVariants as faults
 use Rattle.mh_session_branches.specs.Answers.{Branches, Answer, answer, next}
-use Rattle.mh_session_branches.specs.Lines.{Form, HasForm, Said, Asks, NamesNoStart, LacksStart, NamesNoToken, LineSays}
+use Rattle.mh_session_branches.specs.LineForms.{Form, HasForm, LineMeaning, Asks, NamesNoStart, LacksStart, NamesNoToken, LineMeans}
 use Rattle.mh_grammar.specs.Text.{Text}
 
--- the word for a phase
+-- The word of a phase.
 abbrev pub phase_word : Phase → Text
 phase_word (phases.InputNeeded s) = codes "input-needed"
 phase_word (phases.Shifting s z) = codes "shifting"
@@ -27,21 +27,21 @@ phase_word (phases.HandlingError s) = codes "handling-error"
 phase_word phases.Accepted = codes "accepted"
 phase_word phases.Rejected = codes "rejected"
 
--- and what stands behind it: the state, and the token or the production
-abbrev pub phase_rest : Grammar → Phase → Text
-phase_rest g (phases.InputNeeded s) = codes " " ++ decimal s
-phase_rest g (phases.Shifting s z) = codes " " ++ decimal s ++ codes " " ++ token_name g z
-phase_rest g (phases.AboutToReduce s p) = codes " " ++ decimal s ++ codes " " ++ production_text g p
-phase_rest g (phases.HandlingError s) = codes " " ++ decimal s
-phase_rest g phases.Accepted = []
-phase_rest g phases.Rejected = []
+-- The text after the word of a phase: the state, and the token or the production.
+abbrev pub phase_details : Grammar → Phase → Text
+phase_details g (phases.InputNeeded s) = codes " " ++ decimal s
+phase_details g (phases.Shifting s z) = codes " " ++ decimal s ++ codes " " ++ token_name g z
+phase_details g (phases.AboutToReduce s p) = codes " " ++ decimal s ++ codes " " ++ production_text g p
+phase_details g (phases.HandlingError s) = codes " " ++ decimal s
+phase_details g phases.Accepted = []
+phase_details g phases.Rejected = []
 
 abbrev pub reply_text : Grammar → Text → Reply → Text
-reply_text g name (replies.Phase p) = name ++ codes " " ++ phase_word p ++ phase_rest g p ++ codes "\n"
-reply_text g name (replies.Tree tree) = name ++ codes " " ++ text_of g tree ++ codes "\n"
+reply_text g name (replies.Phase p) = name ++ codes " " ++ phase_word p ++ phase_details g p ++ codes "\n"
+reply_text g name (replies.Tree tree) = name ++ codes " " ++ tree_text g tree ++ codes "\n"
 reply_text g name replies.Forgotten = name ++ codes " forgotten\n"
 
--- want of memory ends the run, so it has no text
+-- The text of a fault. If memory runs out the session ends, so that fault has no text.
 abbrev pub fault_text : SessionFault → Text
 fault_text faults.UnknownName = codes "error: unknown name\n"
 fault_text faults.NameTaken = codes "error: name taken\n"
@@ -49,36 +49,36 @@ fault_text (faults.WrongPhase p) = codes "error: wrong phase: " ++ phase_word p 
 fault_text faults.TooDeep = codes "error: too deep\n"
 fault_text faults.Memory = []
 
--- the name that a reply begins with: behind a fork that of the fresh branch
-abbrev pub replying : Command → Text
-replying (commands.Begin name start) = name
-replying (commands.Offer name token) = name
-replying (commands.Resume name) = name
-replying (commands.Fork name fresh) = fresh
-replying (commands.Show name) = name
-replying (commands.Tree name) = name
-replying (commands.Forget name) = name
+-- The name that a reply begins with: for a fork the fresh name, else the name in the command.
+abbrev pub replied_name : Command → Text
+replied_name (commands.Begin name start) = name
+replied_name (commands.Offer name token) = name
+replied_name (commands.Resume name) = name
+replied_name (commands.Fork name fresh) = fresh
+replied_name (commands.Show name) = name
+replied_name (commands.Tree name) = name
+replied_name (commands.Forget name) = name
 
 abbrev pub answer_text : Grammar → Text → Answer → Text
 answer_text g name (Ok reply) = reply_text g name reply
 answer_text g name (Err fault) = fault_text fault
 
--- the text for a line that says this, by the histories of the branches
-abbrev pub said_text : Grammar → TableData → Branches → Said → Text
-said_text g t bs (Asks command) = answer_text g (replying command) (answer t bs command)
-said_text g t bs (NamesNoStart name) = codes "error: unknown start " ++ name ++ codes "\n"
-said_text g t bs LacksStart = codes "error: missing start\n"
-said_text g t bs (NamesNoToken name) = codes "error: unknown token " ++ name ++ codes "\n"
+-- The text that answers a line with this meaning, for these branches.
+abbrev pub meaning_text : Grammar → TableData → Branches → LineMeaning → Text
+meaning_text g t bs (Asks command) = answer_text g (replied_name command) (answer t bs command)
+meaning_text g t bs (NamesNoStart name) = codes "error: unknown start " ++ name ++ codes "\n"
+meaning_text g t bs LacksStart = codes "error: missing start\n"
+meaning_text g t bs (NamesNoToken name) = codes "error: unknown token " ++ name ++ codes "\n"
 
--- and the branches then
-abbrev pub behind_said : TableData → Branches → Said → Branches
-behind_said t bs (Asks command) = next t bs command
-behind_said t bs (NamesNoStart name) = bs
-behind_said t bs LacksStart = bs
-behind_said t bs (NamesNoToken name) = bs
+-- The branches after a line with this meaning.
+abbrev pub branches_after_meaning : TableData → Branches → LineMeaning → Branches
+branches_after_meaning t bs (Asks command) = next t bs command
+branches_after_meaning t bs (NamesNoStart name) = bs
+branches_after_meaning t bs LacksStart = bs
+branches_after_meaning t bs (NamesNoToken name) = bs
 
--- a line is answered by this text, and then the names have these branches
+-- The line is answered by this text, and the branches after the line are `after`.
 abbrev pub AnswersLine : Grammar → TableData → Branches → Text → Text → Branches → Type 0
 AnswersLine g t bs line text after =
-    ((said : Said) × LineSays (vocabulary_of g) line said × (text ≡ said_text g t bs said) × (after ≡ behind_said t bs said))
+    ((said : LineMeaning) × LineMeans (vocabulary_of g) line said × (text ≡ meaning_text g t bs said) × (after ≡ branches_after_meaning t bs said))
     ⊎ (((form : Form) → HasForm line form → ⊥) × (text ≡ codes "error: unreadable\n") × (after ≡ bs))

@@ -1,17 +1,17 @@
-//! Why a line is no command.
+//! The reasons why a session line is no command.
 ghost use Rattle.std.specs.Prelude.{◌≡◌};
 ghost use Rattle.mh_session_branches.specs.declared.fault.CommandFault.TheVariants.{Memory as Memory'};
 
 use mh_grammar::{Memory, Name};
 
-/// Why a line is no command.
+/// The reason why a session line is no command.
 #[derive(Drop)]
 pub enum CommandFault {
-    /// It has another form.
+    /// The line has none of the forms of a command.
     Unreadable,
     /// No start symbol has this name.
     UnknownStart { name: Name },
-    /// It names no start, and the grammar has none or several.
+    /// The line names no start, and the grammar has none or several.
     MissingStart,
     /// No token has this name.
     UnknownToken { name: Name },

@@ -1,7 +1,7 @@
-//! Session commands and what they are answered: types and definitions.
+//! The commands of sessions and their answers: the types, and the definitions on named branches of runs of one table.
 //!
-//! Named branches of runs on one table, by definition: what a line asks of them, what it is answered by their histories, and that this
-//! is one text.
+//! The definitions give the meaning of each line and its answer, computed from the histories of the branches. A law
+//! says that this answer is unique.
 #![tactic(auto)]
 
 mod command;

@@ -1,4 +1,4 @@
-//! What commands are answered.
+//! The answers to commands.
 ghost use Rattle.std.specs.Prelude.{◌≡◌};
 ghost use Rattle.mh_session_branches.specs.declared.reply.SessionFault.TheVariants as faults;
 
@@ -7,25 +7,25 @@ use mh_grammar::Memory;
 use mh_tree::Tree;
 use std::alloc::{AllocError, AllocFailed};
 
-/// What a session answers.
+/// The reply of a session to a command that is not refused.
 #[derive(Drop)]
 pub enum Reply {
-    /// The phase of the branch: of the fresh one after a fork, else of the one that was named.
+    /// The phase of the branch: after a fork that of the fresh branch, else that of the named branch.
     Phase(Phase),
     Tree(Tree),
     Forgotten,
 }
 
-/// Why a command is refused. What was refused changes nothing.
+/// The reason why a command is refused. A refused command changes nothing.
 #[derive(Clone, Copy)]
 pub enum SessionFault {
     /// No branch has the name.
     UnknownName,
-    /// Some branch has the name.
+    /// A branch already has the name.
     NameTaken,
-    /// The branch is in this phase, in which the command is of no use.
+    /// The branch is in this phase, in which the command is not possible.
     WrongPhase { phase: Phase },
-    /// The step would make more than 4,000 pairs of a state and a tree, or a tree of a height of more than 4,000.
+    /// The step would make more than 4,000 pairs of a state and a tree, or a tree higher than 4,000.
     TooDeep,
     /// Memory ran out.
     Memory,

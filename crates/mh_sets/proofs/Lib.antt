@@ -1,6 +1,6 @@
-pub mod Calls
-pub mod Exact
-pub mod Members
-pub mod Places
-pub mod Taking
-pub mod Views
+pub mod TokenSetCalls
+pub mod EqualSets
+pub mod LooksFrom
+pub mod WordBits
+pub mod TakeFirst
+pub mod LooksOf

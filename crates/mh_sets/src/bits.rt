@@ -1,9 +1,9 @@
 //! Sets of numbers as the bits of words.
 ghost use Rattle.std.specs.Prelude.{◌≡◌, ◌<◌, ◌≤◌, ◌+◌, ◌*◌, ◌^◌, ◌||◌, ◌==◌, ◌⊎◌, ◌↔◌, ℕ, true, false, not, length, slice_index, if◌then◌else◌, IfSome, IfNone, IsTrue};
 ghost use Rattle.std.specs.List.{All};
-ghost use Rattle.mh_sets.specs.Words.{has_token};
+ghost use Rattle.mh_sets.specs.BitWords.{has_token};
 
-/// Whether a number is in the set.
+/// Returns whether a number is in the set.
 #[inline(always)]
 pub(crate) fn has_bit(words: &[u64], a: usize) -> bool
     requires { a < 64 * length words.now }
@@ -12,7 +12,7 @@ pub(crate) fn has_bit(words: &[u64], a: usize) -> bool
     (words[a / 64] >> (a % 64)) & 1 == 1
 }
 
-/// Adds a number, and says whether it was new.
+/// Adds a number, and returns whether it was new.
 #[inline(always)]
 pub(crate) fn set_bit(words: &mut [u64], a: usize) -> bool
     requires within { a < 64 * length words.old }
@@ -28,7 +28,7 @@ pub(crate) fn set_bit(words: &mut [u64], a: usize) -> bool
     old & mask == 0
 }
 
-/// Adds the numbers of another set, and says whether there was a new one.
+/// Adds the numbers of another set, and returns whether there was a new one.
 #[inline(always)]
 pub(crate) fn join(words: &mut [u64], other: &[u64]) -> bool
     requires len { length words.old ≡ length other.now }
@@ -50,7 +50,7 @@ pub(crate) fn join(words: &mut [u64], other: &[u64]) -> bool
     fresh
 }
 
-/// Whether two sets share a number.
+/// Returns whether two sets share a number.
 #[inline(always)]
 pub(crate) fn share(words: &[u64], other: &[u64]) -> bool
     requires len { length words.now ≡ length other.now }
@@ -65,7 +65,7 @@ pub(crate) fn share(words: &[u64], other: &[u64]) -> bool
     false
 }
 
-/// Whether each number of a set is in the other.
+/// Returns whether each number of a set is in the other set.
 #[inline(always)]
 pub(crate) fn are_within(words: &[u64], other: &[u64]) -> bool
     requires len { length words.now ≡ length other.now }
@@ -81,7 +81,7 @@ pub(crate) fn are_within(words: &[u64], other: &[u64]) -> bool
     true
 }
 
-/// The least number.
+/// Returns the least number of the set.
 #[inline(always)]
 pub(crate) fn least(words: &[u64]) -> Option<usize>
     requires few { length words.now ≤ 8 }
@@ -97,7 +97,7 @@ pub(crate) fn least(words: &[u64]) -> Option<usize>
     None
 }
 
-/// Takes the least number out.
+/// Removes a number.
 #[inline(always)]
 pub(crate) fn clear_bit(words: &mut [u64], a: usize)
     requires within { a < 64 * length words.old }

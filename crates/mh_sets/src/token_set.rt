@@ -1,4 +1,4 @@
-//! Sets of looks, as all layers above use them.
+//! Sets of lookaheads, as all crates that depend on this one use them.
 ghost use Rattle.std.specs.Prelude.{◌≡◌, [], ◌∷◌, ◌<◌, ◌≤◌, ◌*◌, ◌⊎◌, ◌↔◌, ◌++◌, true, false, length, slice_get, IsTrue, MatchOption};
 ghost use Rattle.std.specs.List.{Contains};
 ghost use Rattle.std.specs.Cmp.Lexicographic.{pointwise, lists_per, lists_equiv};
@@ -8,8 +8,8 @@ ghost use Rattle.mh_grammar.specs.contracts.types.LookPartialEq.TheImpl.Laws.{la
 ghost use Rattle.mh_grammar.specs.contracts.types.LookEq.TheImpl.Laws.{laws-law as equal_laws};
 ghost use Rattle.mh_grammar.specs.Plain.{IsLookBelow};
 ghost use Rattle.mh_sets.specs.Sets.{IsSet};
-ghost use Rattle.mh_sets.specs.Words.{words_of, ends};
-ghost use Rattle.mh_sets.specs.Same.{sets_Decides};
+ghost use Rattle.mh_sets.specs.BitWords.{bit_words_of, has_stream_end};
+ghost use Rattle.mh_sets.specs.LookEquality.{sets_Decides};
 
 use crate::bits::{are_within, clear_bit, has_bit, join, least, set_bit, share};
 use mh_grammar::Look;
@@ -17,7 +17,8 @@ use std::alloc::AllocError;
 use std::hash::{Hash, Hasher};
 use std::marker::Model;
 
-/// A set of looks: the tokens below 64 times its width, and the end of the stream. A clause sees its looks, rising.
+/// A set of lookaheads: tokens below 64 times the width W, and the end of the stream. Its model in contracts is the
+/// rising list of its lookaheads.
 #[derive(Drop)]
 pub struct TokenSet<const W: usize> {
     words: [u64; W],
@@ -27,13 +28,13 @@ pub struct TokenSet<const W: usize> {
 impl<const W: usize> Model for TokenSet<W> {
     ghost use Rattle.std.specs.Prelude.{List};
     ghost use Rattle.mh_grammar.specs.declared.types.Look.{Look};
-    ghost use Rattle.mh_sets.specs.Words.{looks_of, AreWords};
+    ghost use Rattle.mh_sets.specs.BitWords.{looks_of, AreBitWords};
 
     ghost Value = { List Look };
 
     ghost view = { λ s. looks_of s.words s.end };
 
-    ghost invariant = { λ s. AreWords W s.words };
+    ghost invariant = { λ s. AreBitWords W s.words };
 }
 
 impl<const W: usize> TokenSet<W> {
@@ -48,7 +49,7 @@ impl<const W: usize> TokenSet<W> {
         }
     }
 
-    /// The set of one look.
+    /// The set with one lookahead.
     pub fn only(look: Look) -> TokenSet<W>
         requires few { W ≤ 8 }
         requires look { IsLookBelow (64 * W) look }
@@ -59,7 +60,7 @@ impl<const W: usize> TokenSet<W> {
         set
     }
 
-    /// Adds a look, and says whether it was new.
+    /// Adds a lookahead, and returns whether it was new.
     pub fn insert(&mut self, look: Look) -> bool
         requires { IsLookBelow (64 * W) look }
         ensures set { IsSet W self.new }
@@ -76,7 +77,7 @@ impl<const W: usize> TokenSet<W> {
         }
     }
 
-    /// Whether a look is a member.
+    /// Returns whether a lookahead is in the set.
     pub fn contains(&self, look: Look) -> bool
         requires { IsLookBelow (64 * W) look }
         ensures { IsTrue result ↔ Contains self.now look }
@@ -87,7 +88,7 @@ impl<const W: usize> TokenSet<W> {
         }
     }
 
-    /// Adds the looks of another set, and says whether the set grew.
+    /// Adds the lookaheads of another set, and returns whether this set grew.
     pub fn union_into(&mut self, other: &TokenSet<W>) -> bool
         ensures set { IsSet W self.new }
         ensures members { (b : LookOf) → Contains self.new b ↔ (Contains self.old b ⊎ Contains other.now b) }
@@ -100,21 +101,21 @@ impl<const W: usize> TokenSet<W> {
         fresh | late
     }
 
-    /// Whether two sets share a look.
+    /// Returns whether two sets share a lookahead.
     pub fn meets(&self, other: &TokenSet<W>) -> bool
         ensures { IsTrue result ↔ ((b : LookOf) × Contains self.now b × Contains other.now b) }
     {
         share(&self.words, &other.words) | (self.end & other.end)
     }
 
-    /// Whether each look is in the other set.
+    /// Returns whether each lookahead of this set is in the other set.
     pub fn is_subset(&self, other: &TokenSet<W>) -> bool
         ensures { IsTrue result ↔ ((b : LookOf) → Contains self.now b → Contains other.now b) }
     {
         are_within(&self.words, &other.words) & (!self.end | other.end)
     }
 
-    /// The lowest token, else the end of the stream; none where the set is empty.
+    /// Returns the lowest token; if there is none, the end of the stream; `None` if the set is empty.
     pub fn first(&self) -> Option<Look>
         ensures { result ≡ slice_get self.now 0 }
     {
@@ -125,7 +126,7 @@ impl<const W: usize> TokenSet<W> {
         }
     }
 
-    /// Takes the first look out.
+    /// Removes the first lookahead and returns it; `None` if the set is empty.
     pub fn take_first(&mut self) -> Option<Look>
         ensures { MatchOption result ((self.old ≡ []) × (self.new ≡ [])) (λ look. self.old ≡ look ∷ self.new) }
     {
@@ -142,7 +143,7 @@ impl<const W: usize> TokenSet<W> {
         }
     }
 
-    /// The same set. It takes no memory.
+    /// Copies the set. It allocates no memory.
     pub fn copied(&self) -> TokenSet<W>
         ensures { result ≡ self.now }
     {
@@ -152,7 +153,7 @@ impl<const W: usize> TokenSet<W> {
         }
     }
 
-    /// The looks rise, and the width holds each token.
+    /// Law: the lookaheads rise, and each token is below 64 times the width.
     pub fn is_set(&self)
         ensures { IsSet W self.now }
     {
@@ -183,9 +184,9 @@ impl<const W: usize> Eq for TokenSet<W> {
 }
 
 impl<const W: usize> Hash for TokenSet<W> {
-    ghost hash_input = { λ looks. fed.slice fed.u64 (words_of W looks) ++ fed.bool (ends looks) };
+    ghost hash_input = { λ looks. fed.slice fed.u64 (bit_words_of W looks) ++ fed.bool (has_stream_end looks) };
 
-    ghost respects_eq = { (fed.same_Alike (λ looks. fed.slice fed.u64 (words_of W looks) ++ fed.bool (ends looks)) sets_Decides).fed };
+    ghost respects_eq = { (fed.same_Alike (λ looks. fed.slice fed.u64 (bit_words_of W looks) ++ fed.bool (has_stream_end looks)) sets_Decides).fed };
 
     fn hash<H: Hasher>(&self, state: &mut H) {
         self.words.hash(state);

@@ -1,7 +1,8 @@
-//! The choice of a width.
+//! The choice of the width of sets.
 ghost use Rattle.std.specs.Prelude.{◌≡◌, ◌≢◌, ◌≤◌, ◌<◌, ◌+◌, ◌*◌};
 
-/// The least width, from 1 to 8 and of 64 tokens each, that holds so many tokens; 8 where none does, of more than 512.
+/// Returns the least width W, from 1 to 8, such that the number of tokens is at most 64 * W; 8 if there are more than
+/// 512 tokens, which are too many for every width.
 pub fn width_for(tokens: usize) -> usize
     ensures holds { tokens ≤ 512 → tokens ≤ 64 * result }
     ensures least { result ≢ 1 → 64 * result < tokens + 64 }
@@ -20,8 +21,8 @@ pub fn width_for(tokens: usize) -> usize
     }
 }
 
-/// Calls a function at the least width that holds so many tokens:
-/// `with_width!(tokens; f; types; arguments)` is `f::<types, W>(arguments)`.
+/// Calls a function with the width that `width_for` returns: `with_width!(tokens; f; types; arguments)` is `f::<types,
+/// W>(arguments)`.
 #[macro_export]
 macro_rules! with_width {
     ($tokens:expr; $f:ident; $($types:ty),*; $($arguments:expr),*) => {

@@ -1,8 +1,9 @@
-//! Errors: which states refuse a token, the first sentence that fails in each, and a message for each.
+//! Lists of errors and messages: the states that refuse a token, the first sentence that fails in each, and a message
+//! for each.
 ghost use Rattle.std.specs.Prelude.{◌≡◌, ◌≤◌, ◌<◌, length, IfOk};
 ghost use Rattle.mh_grammar.specs.Plain.{plain_of, IsInRange};
 ghost use Rattle.mh_items_kernels.specs.Automaton.{IsAutomaton};
-ghost use Rattle.mh_msgfile.specs.Messages.{AreOf};
+ghost use Rattle.mh_msgfile.specs.Messages.{AreSentencesOf};
 ghost use Rattle.mh_resolve_cells.specs.States.{IsTableOf};
 ghost use Rattle.mh_resolve_cells.specs.declared.kinds.Mode.TheVariants.{Merged};
 ghost use Rattle.mh_tables_core.specs.Failing.{Fails};
@@ -36,7 +37,7 @@ fn cost_in(reach: &Reach, state: u32) -> Option<u32>
     }
 }
 
-/// `EOF` fails in state 0, and `A A` in state 1. States 2 and 3 have defaults, and refuse nothing.
+/// `EOF` fails in state 0, and `A A` in state 1. States 2 and 3 have default actions and refuse nothing.
 fn check_costs(rt: &impl Abort, reach: &Reach)
     requires { 4 ≤ length reach.now.states }
 {
@@ -49,7 +50,7 @@ fn check_costs(rt: &impl Abort, reach: &Reach)
     assert!(rt; found == [Some(1), Some(2), None, None]);
 }
 
-/// The most that a sentence of the catalogue may cost.
+/// The highest cost of a sentence in the catalogue.
 const MAX_COST: u32 = 1_000_000;
 
 /// The first sentence that fails in a state.
@@ -82,7 +83,7 @@ const COMMENT: &str = "##
 ##
 ";
 
-/// A sentence that fails, and the comment lines that explain the state.
+/// A sentence that fails in a state, and the comment lines that explain this state.
 fn check_sentence(
     rt: &impl Abort,
     alloc: Global,
@@ -103,7 +104,7 @@ fn check_sentence(
     Ok(())
 }
 
-/// The search for errors, and what it finds.
+/// The search for failing sentences, and its results.
 pub fn search(
     rt: &impl Abort,
     alloc: Global,
@@ -147,7 +148,8 @@ pub fn rows(rt: &impl Abort, alloc: Global, table: &Halting) -> Result<(), Fail>
     Ok(())
 }
 
-/// A line is a sentence: a start and a colon, which may be left out where there is one start, and names of tokens.
+/// A sentence line is a start symbol, a colon and names of tokens. The start symbol and the colon may be left out if
+/// there is only one start symbol.
 pub fn lines(rt: &impl Abort, alloc: Global, grammar: &Grammar) -> Result<(), Fail>
     requires { IsInRange (plain_of grammar.now) }
 {
@@ -177,10 +179,10 @@ A A
 Expected EOF.
 ";
 
-/// The messages file of a text.
+/// The messages file that a text spells.
 fn messages_of(alloc: Global, grammar: &Grammar, text: &str) -> Result<MsgFile, Fail>
     requires { IsInRange (plain_of grammar.now) }
-    ensures { IfOk result (AreOf (length grammar.now.starts) (length grammar.now.tokens)) }
+    ensures { IfOk result (AreSentencesOf (length grammar.now.starts) (length grammar.now.tokens)) }
 {
     if text.len() > 1_000_000 {
         return Err(Fail::from("a long file"));
@@ -201,7 +203,7 @@ fn check_entry(rt: &impl Abort, file: &MsgFile) -> Result<(), Fail> {
     Ok(())
 }
 
-/// The file is printed without its comments, and its sentences alone are printed by `echo`.
+/// The messages file is printed without its comments; `echo` prints only its sentences.
 fn check_prints(
     rt: &impl Abort,
     alloc: Global,
@@ -218,7 +220,7 @@ fn check_prints(
     Ok(())
 }
 
-/// The file brought up to date: each sentence is followed by its comment lines.
+/// The updated file: each sentence is followed by its comment lines.
 const UPDATED: &str = "# by hand
 EOF
 ##
@@ -255,7 +257,7 @@ fn check_update(
 ) -> Result<(), Fail>
     requires automaton { IsAutomaton (plain_of grammar.now) automaton.now }
     requires table { IsTableOf grammar.now automaton.now Merged table.now }
-    requires known { AreOf (length grammar.now.starts) (length grammar.now.tokens) file.now }
+    requires known { AreSentencesOf (length grammar.now.starts) (length grammar.now.tokens) file.now }
 {
     let Ok(text) = update(alloc, grammar, automaton, table, file) else {
         return Err(Fail::from("a file that does not fit"));
@@ -265,7 +267,7 @@ fn check_update(
     Ok(())
 }
 
-/// A messages file, read, printed and brought up to date.
+/// A messages file that is read, printed and updated.
 pub fn messages_files(
     rt: &impl Abort,
     alloc: Global,
@@ -293,14 +295,14 @@ fn check_file(
 ) -> Result<(), Fail>
     requires automaton { IsAutomaton (plain_of grammar.now) automaton.now }
     requires table { IsTableOf grammar.now automaton.now Merged table.now }
-    requires known { AreOf (length grammar.now.starts) (length grammar.now.tokens) file.now }
+    requires known { AreSentencesOf (length grammar.now.starts) (length grammar.now.tokens) file.now }
 {
     check_entry(rt, file)?;
     check_prints(rt, alloc, grammar, file)?;
     check_update(rt, alloc, grammar, automaton, table, file)
 }
 
-/// The messages of a file by state.
+/// The messages of a file, by state.
 fn compiled_of(
     alloc: Global,
     grammar: &Grammar,
@@ -320,7 +322,8 @@ fn compiled_of(
     }
 }
 
-/// Each state has the message of the sentence that fails there, and the first file has a message for state 1 that the second lacks.
+/// The sentence of each entry fails in one state, and this state has the message of the entry. The second file lacks
+/// the message for state 1 that the first file has.
 fn check_compiled(
     rt: &impl Abort,
     alloc: Global,
@@ -342,7 +345,7 @@ fn check_compiled(
     Ok(())
 }
 
-/// Two messages files, compiled and compared.
+/// Two messages files that are compiled and compared.
 pub fn compiled(
     rt: &impl Abort,
     alloc: Global,
@@ -375,7 +378,8 @@ fn compared(
     result
 }
 
-/// The line at which a file is refused, and why. A sentence has to fail, and only at its last token; no two may fail in one state.
+/// The line at which a file is refused, and the reason. Each sentence must fail at its last token, and no two in one
+/// state.
 fn refusal(fault: &CheckFault) -> (u32, &'static str) {
     match fault {
         CheckFault::NotRefused {

@@ -1,10 +1,11 @@
-//! The chapters in order. The grammar, the automaton and the table are made once, and each chapter is lent what it needs.
-ghost use Rattle.std.specs.Prelude.{◌≤◌, length};
+//! The chapters in order. The grammar, the automaton and the table are made once, and each chapter borrows those that
+//! it uses.
 ghost use Rattle.mh_grammar.specs.Costs.{HaveCosts};
 ghost use Rattle.mh_grammar.specs.Plain.{plain_of, IsInRange};
 ghost use Rattle.mh_items_kernels.specs.Automaton.{IsAutomaton};
 ghost use Rattle.mh_resolve_cells.specs.States.{IsTableOf};
 ghost use Rattle.mh_resolve_cells.specs.declared.kinds.Mode.TheVariants.{Merged};
+ghost use Rattle.mh_items.specs.Fitting.{FitsSets};
 
 use crate::catalogue_and_messages::{compiled, lines, messages_files, refused, rows, search};
 use crate::checkpoints_and_sessions::{
@@ -24,7 +25,7 @@ use std::alloc::Global;
 use std::process::Abort;
 use std::test::Fail;
 
-/// What needs the table.
+/// The chapters that use the table.
 fn with_table(
     rt: &impl Abort,
     alloc: Global,
@@ -52,15 +53,14 @@ fn with_table(
     written(rt, alloc, grammar, automaton, table)
 }
 
-/// What needs the automaton.
+/// The chapters that use the automaton.
 fn with_automaton(
     rt: &impl Abort,
     alloc: Global,
     grammar: &Grammar,
     automaton: &Automaton<1>,
 ) -> Result<(), Fail>
-    requires width { length grammar.now.tokens ≤ 64 }
-    requires range { IsInRange (plain_of grammar.now) }
+    requires fits { FitsSets 1 grammar.now }
     requires costs { HaveCosts grammar.now.tokens }
     requires automaton { IsAutomaton (plain_of grammar.now) automaton.now }
 {
@@ -71,10 +71,9 @@ fn with_automaton(
     result
 }
 
-/// What needs the grammar alone.
+/// The chapters that use only the grammar.
 fn with_grammar(rt: &impl Abort, alloc: Global, grammar: &Grammar) -> Result<(), Fail>
-    requires width { length grammar.now.tokens ≤ 64 }
-    requires range { IsInRange (plain_of grammar.now) }
+    requires fits { FitsSets 1 grammar.now }
     requires costs { HaveCosts grammar.now.tokens }
 {
     derivations(rt, alloc, grammar)?;
@@ -90,7 +89,7 @@ fn with_grammar(rt: &impl Abort, alloc: Global, grammar: &Grammar) -> Result<(),
     result
 }
 
-/// A test of the size gives the contracts what they ask of a grammar.
+/// The test of the size gives the facts that the contracts require of a grammar.
 fn with_any(rt: &impl Abort, alloc: Global, grammar: &Grammar) -> Result<(), Fail> {
     if !is_small(grammar) {
         return Err(Fail::from("a large grammar"));

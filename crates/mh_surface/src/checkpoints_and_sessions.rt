@@ -1,8 +1,8 @@
-//! A run that stops and goes on: checkpoints, which are never changed; and sessions, which keep checkpoints by name.
+//! Runs in steps: checkpoints, which are immutable; and sessions, which store checkpoints by name.
 ghost use Rattle.std.specs.Prelude.{◌≡◌, ◌<◌, ◌↔◌, length, All, IfOk, IsTrue};
-ghost use Rattle.mh_engine.specs.Phases.{CanGoOn};
+ghost use Rattle.mh_engine.specs.Phases.{CanResume};
 ghost use Rattle.mh_grammar.specs.Plain.{plain_of, IsInRange};
-ghost use Rattle.mh_session_branches.specs.Answers.{IsKnown};
+ghost use Rattle.mh_session_branches.specs.Answers.{IsCommandOf};
 
 use crate::from_text_to_verdict::{A, EOF};
 use mh_engine::{Checkpoint, Phase, ResumeFault, begin};
@@ -17,7 +17,7 @@ use std::fmt::Write;
 use std::process::Abort;
 use std::test::Fail;
 
-/// The checkpoint with a token offered. It is offered only if the checkpoint asks for a token.
+/// The checkpoint after a token is offered. A token is offered only if the checkpoint needs one.
 fn offered<'t>(checkpoint: &Checkpoint<'t>, token: Token) -> Result<Checkpoint<'t>, Fail>
     requires { token < checkpoint.now.table.grammar.tokens }
     ensures { IfOk result (λ next. next.table ≡ checkpoint.now.table) }
@@ -29,9 +29,9 @@ fn offered<'t>(checkpoint: &Checkpoint<'t>, token: Token) -> Result<Checkpoint<'
     Ok(checkpoint.offer(token)?)
 }
 
-/// Whether a step may be made in a phase: a shift, a reduction, or passing an error on.
+/// Returns true if a run can be resumed in this phase: before a shift, before a reduction, or at an error.
 fn can_go_on(phase: Phase) -> bool
-    ensures { IsTrue result ↔ CanGoOn phase }
+    ensures { IsTrue result ↔ CanResume phase }
 {
     match phase {
         Phase::Shifting { state: _, token: _ } => true,
@@ -94,7 +94,7 @@ fn check_end(rt: &impl Abort, alloc: Global, checkpoint: &Checkpoint<'_>) -> Res
     Ok(())
 }
 
-/// From a checkpoint after `A` one branch is offered `A`, and refuses it for good.
+/// From a checkpoint after `A`, one branch is offered `A` and rejects it.
 fn check_refusal(rt: &impl Abort, alloc: Global, checkpoint: &Checkpoint<'_>) -> Result<(), Fail>
     requires { 0 < checkpoint.now.table.grammar.tokens }
 {
@@ -111,7 +111,7 @@ fn check_refusal(rt: &impl Abort, alloc: Global, checkpoint: &Checkpoint<'_>) ->
     Ok(())
 }
 
-/// The checkpoint after `A` is not changed by what its branches do.
+/// The checkpoint after `A` is not changed by the steps of its branches.
 fn check_branches(rt: &impl Abort, alloc: Global, checkpoint: &Checkpoint<'_>) -> Result<(), Fail>
     requires { 1 < checkpoint.now.table.grammar.tokens }
 {
@@ -137,9 +137,9 @@ pub fn checkpoints(rt: &impl Abort, alloc: Global, table: &Halting) -> Result<()
     result
 }
 
-/// Whether the numbers in a command are those of a table.
+/// Returns true if the numbers in a command are numbers of the table.
 fn is_known(table: &Halting, command: &Command) -> bool
-    ensures { IsTrue result → IsKnown table.now command.now }
+    ensures { IsTrue result → IsCommandOf table.now command.now }
 {
     match command {
         Command::Begin { name: _, start } => *start < table.table().starts(),
@@ -152,7 +152,7 @@ fn is_known(table: &Halting, command: &Command) -> bool
     }
 }
 
-/// A phase, as a text.
+/// Appends a phase as text.
 fn put_phase(text: &mut String, phase: Phase) {
     let _ = match phase {
         Phase::InputNeeded { state } => write!(text, "input needed in {state}"),
@@ -167,7 +167,7 @@ fn put_phase(text: &mut String, phase: Phase) {
     };
 }
 
-/// A reply, as a text.
+/// Appends a reply as text.
 fn put_reply(
     alloc: Global,
     text: &mut String,
@@ -188,7 +188,7 @@ fn put_reply(
     Ok(())
 }
 
-/// Why a command is refused, as a text. A refused command changes nothing.
+/// Appends the reason why a command is refused. A refused command changes nothing.
 fn put_refusal(text: &mut String, fault: SessionFault) {
     let _ = match fault {
         SessionFault::UnknownName => text.push_str("unknown name"),
@@ -202,7 +202,7 @@ fn put_refusal(text: &mut String, fault: SessionFault) {
     };
 }
 
-/// An answer, as a text.
+/// Appends an answer as text.
 fn put_answer(
     alloc: Global,
     text: &mut String,
@@ -228,7 +228,7 @@ fn command_of(alloc: Global, grammar: &Grammar, line: &str) -> Result<Command, F
     }
 }
 
-/// What the session answers to a command.
+/// Appends the answer of the session to a command.
 fn put_step(
     alloc: Global,
     text: &mut String,
@@ -236,7 +236,7 @@ fn put_step(
     session: &mut Session<'_>,
     command: &Command,
 ) -> Result<(), Fail>
-    requires { IsKnown session.old.table command.now }
+    requires { IsCommandOf session.old.table command.now }
     ensures { session.new.table ≡ session.old.table }
 {
     let answer = session.step(command);
@@ -245,7 +245,7 @@ fn put_step(
     result
 }
 
-/// Compares the answer to a line with the text behind its ` = `.
+/// Fails if the answer to a line is not the text after ` = `.
 fn check_line(
     rt: &impl Abort,
     alloc: Global,
@@ -287,7 +287,7 @@ pub fn lines_of_a_session(
     result
 }
 
-/// The first lines of a session of two branches: a is begun, and the fork b has its history.
+/// The first lines of a session with two branches: `a` is begun, and the fork `b` has the same history.
 fn begun_and_forked(
     rt: &impl Abort,
     alloc: Global,
@@ -333,7 +333,7 @@ fn begun_and_forked(
     )
 }
 
-/// The branch a goes on to the end.
+/// The branch `a` continues to the end.
 fn a_accepts(
     rt: &impl Abort,
     alloc: Global,
@@ -372,7 +372,7 @@ fn a_accepts(
     )
 }
 
-/// The branch b has a history of its own.
+/// The branch `b` has a history of its own.
 fn b_is_rejected(
     rt: &impl Abort,
     alloc: Global,
@@ -397,7 +397,7 @@ fn b_is_rejected(
     )
 }
 
-/// Names that are held or not, and the tree of a.
+/// Names that exist or do not exist, and the tree of `a`.
 fn names_are_held(
     rt: &impl Abort,
     alloc: Global,
@@ -422,7 +422,7 @@ fn names_are_held(
     check_line(rt, alloc, grammar, table, session, "tree a = [s: A EOF]")
 }
 
-/// A session of two branches, line by line. The fork b has the history of a, and then a history of its own.
+/// A session with two branches, line by line. The fork `b` has the history of `a`, and then a history of its own.
 fn check_lines(
     rt: &impl Abort,
     alloc: Global,
@@ -439,7 +439,7 @@ fn check_lines(
     names_are_held(rt, alloc, grammar, table, session)
 }
 
-/// A name in a line that no token has.
+/// A line with a name that is not the name of a token.
 pub fn unknown_token(rt: &impl Abort, alloc: Global, grammar: &Grammar) -> Result<(), Fail>
     requires { IsInRange (plain_of grammar.now) }
 {
@@ -453,7 +453,7 @@ pub fn unknown_token(rt: &impl Abort, alloc: Global, grammar: &Grammar) -> Resul
     }
 }
 
-/// Adds the commands of the first lines of the session.
+/// Appends the commands of the first lines of the session.
 fn add_commands(
     alloc: Global,
     commands: &mut Vec<Command>,
@@ -468,9 +468,9 @@ fn add_commands(
     Ok(())
 }
 
-/// Whether the numbers in all commands are those of a table.
+/// Returns true if the numbers in all commands are numbers of the table.
 fn are_known(table: &Halting, commands: &[Command]) -> bool
-    ensures { IsTrue result → All (IsKnown table.now) commands.now }
+    ensures { IsTrue result → All (IsCommandOf table.now) commands.now }
 {
     match commands {
         [] => true,
@@ -498,7 +498,7 @@ fn check_answers(
     result
 }
 
-/// The last of some answers.
+/// Appends the last of the answers.
 fn put_last(
     alloc: Global,
     text: &mut String,
@@ -511,12 +511,13 @@ fn put_last(
     }
 }
 
-/// Commands on two branches. The last one is on b.
+/// Commands on two branches. The last command is on `b`.
 const COMMANDS: &str =
     "begin a\nbegin b\noffer a A\noffer b A\nresume a\noffer a A\nresume a\nresume b";
 
-/// A law: each command is answered by the history of its own branch, whatever other branches did. Here a has failed, and b goes on. The
-/// law itself is the contract of `answer_all`, and `one_answer` says that a line has only one answer by the histories.
+/// A law: the answer to each command depends only on the history of its own branch, whatever other branches did. Here
+/// `a` has failed, and `b` continues. The law is the contract of `answer_all`, and `one_answer` says that the answer by
+/// the histories is unique.
 pub fn whole_session(
     rt: &impl Abort,
     alloc: Global,

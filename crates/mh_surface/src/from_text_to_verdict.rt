@@ -6,7 +6,8 @@ ghost use Rattle.mh_grammar.specs.Plain.{plain_of, IsInRange};
 ghost use Rattle.mh_items_kernels.specs.Automaton.{IsAutomaton};
 ghost use Rattle.mh_resolve_cells.specs.States.{IsTableOf};
 ghost use Rattle.mh_resolve_cells.specs.declared.kinds.Mode.TheVariants.{Merged};
-ghost use Rattle.mh_rules.specs.Ready.{AreModulesReady, IsExpandedReady, IsModuleReady, IsReady};
+ghost use Rattle.mh_rules.specs.Ready.{AreModulesReady, IsExpandedReady, IsModuleReady, IsJoinedReady};
+ghost use Rattle.mh_items.specs.Fitting.{FitsSets};
 
 use mh_expand::{Expanded, Instance, InstanceProduction, Part, expand};
 use mh_grammar::{
@@ -46,7 +47,7 @@ fn module_of(alloc: Global, text: &str) -> Result<Module, Fail>
     }
 }
 
-/// A list of one module, since a grammar may have several files.
+/// A list of one module. A grammar may have several files.
 pub fn modules_of(alloc: Global, text: &str) -> Result<Vec<Module>, Fail>
     ensures { IfOk result (λ modules. AreModulesReady modules.items) }
 {
@@ -55,9 +56,10 @@ pub fn modules_of(alloc: Global, text: &str) -> Result<Vec<Module>, Fail>
     Ok(modules)
 }
 
-/// The rules of all files, with each name looked up. Here the prelude, with `list` and its kin, is left out.
+/// The joined rules of all files, in which each name is resolved. Here the prelude, with `list` and similar rules, is
+/// left out.
 fn joined_of(alloc: Global, text: &str) -> Result<Joined, Fail>
-    ensures { IfOk result IsReady }
+    ensures { IfOk result IsJoinedReady }
 {
     let modules = modules_of(alloc, text)?;
     let joined = join(alloc, modules.as_slice(), false);
@@ -65,7 +67,7 @@ fn joined_of(alloc: Global, text: &str) -> Result<Joined, Fail>
     Ok(joined?)
 }
 
-/// The instances of the rules: each rule with the actuals that it is used with.
+/// The instances of the rules: each rule with the actuals with which it is used.
 fn expanded_of(alloc: Global, text: &str) -> Result<Expanded, Fail>
     ensures { IfOk result IsExpandedReady }
 {
@@ -75,7 +77,7 @@ fn expanded_of(alloc: Global, text: &str) -> Result<Expanded, Fail>
     Ok(expanded?)
 }
 
-/// The grammar: the instances without those that are `%inline`, with numbers in place of names.
+/// The grammar: the instances that are not `%inline`, with numbers in place of names.
 pub fn grammar_of(alloc: Global, text: &str) -> Result<Grammar, Fail> {
     let expanded = expanded_of(alloc, text)?;
     let grammar = inline_rules(alloc, &expanded);
@@ -83,7 +85,7 @@ pub fn grammar_of(alloc: Global, text: &str) -> Result<Grammar, Fail> {
     Ok(grammar?)
 }
 
-/// Whether a grammar has at most 64 tokens, so that a set of looks fits in one word.
+/// Returns true if a grammar has at most 64 tokens, so that a set of looks fits in one word.
 pub fn is_small(grammar: &Grammar) -> bool
     ensures width { IsTrue result → length grammar.now.tokens ≤ 64 }
     ensures range { IsTrue result → IsInRange (plain_of grammar.now) }
@@ -92,10 +94,9 @@ pub fn is_small(grammar: &Grammar) -> bool
     is_in_range(grammar) && has_costs_in_range(grammar) && grammar.tokens.len() <= 64
 }
 
-/// The automaton, by Pager's method. Its sets of looks have one word.
+/// The merged automaton, by Pager's method. Its sets of looks have one word.
 pub fn automaton_of(alloc: Global, grammar: &Grammar) -> Result<Automaton<1>, Fail>
-    requires width { length grammar.now.tokens ≤ 64 }
-    requires range { IsInRange (plain_of grammar.now) }
+    requires fits { FitsSets 1 grammar.now }
     ensures { IfOk result (IsAutomaton (plain_of grammar.now)) }
 {
     match merged::<1>(alloc, grammar) {
@@ -104,10 +105,9 @@ pub fn automaton_of(alloc: Global, grammar: &Grammar) -> Result<Automaton<1>, Fa
     }
 }
 
-/// The table of the automaton. This grammar has no conflict, and on its table each run ends.
+/// The table of the automaton. This grammar has no conflict, and every run on its table ends.
 pub fn table_of(alloc: Global, grammar: &Grammar, automaton: &Automaton<1>) -> Result<Halting, Fail>
-    requires width { length grammar.now.tokens ≤ 64 }
-    requires range { IsInRange (plain_of grammar.now) }
+    requires fits { FitsSets 1 grammar.now }
     requires costs { HaveCosts grammar.now.tokens }
     requires automaton { IsAutomaton (plain_of grammar.now) automaton.now }
     ensures { IfOk result (IsTableOf grammar.now automaton.now Merged) }
@@ -120,7 +120,7 @@ pub fn table_of(alloc: Global, grammar: &Grammar, automaton: &Automaton<1>) -> R
     }
 }
 
-/// Whether a sentence can be run from the first start: its tokens are tokens of the table.
+/// Returns true if the sentence can be run from the first start symbol: its tokens are tokens of the table.
 pub fn can_run(table: &Halting, sentence: &[Token]) -> bool
     ensures start { IsTrue result → 0 < length table.now.grammar.starts }
     ensures tokens { IsTrue result → All (λ z. z < table.now.grammar.tokens) sentence.now }
@@ -159,8 +159,8 @@ pub fn verdicts(rt: &impl Abort, alloc: Global, table: &Halting) -> Result<(), F
     Ok(())
 }
 
-/// A trace also gives the productions that were reduced after the last shift. Production 0 is that of the start, and production 1 is
-/// `s -> A EOF`.
+/// A trace also has the productions that were reduced after the last shift. Production 0 is the start production, and
+/// production 1 is `s -> A EOF`.
 pub fn traces(rt: &impl Abort, alloc: Global, table: &Halting) -> Result<(), Fail> {
     let sentence = [A, EOF];
     if !can_run(table, &sentence) {
@@ -186,7 +186,7 @@ fn lexemes(rt: HostRuntime) -> Result<(), Fail> {
     Ok(())
 }
 
-/// A module is a value of plain types, and can be printed as a file that spells it again.
+/// A module is a value of plain types, and can be printed as a file that spells the same module.
 fn check_module(rt: &impl Abort, alloc: Global, module: &Module) -> Result<(), Fail>
     requires { IsModuleReady «module».now }
 {
@@ -241,7 +241,7 @@ fn check_joined(rt: &impl Abort, joined: &Joined) -> Result<(), Fail> {
     Ok(())
 }
 
-/// A module is joined: tokens and rules have numbers.
+/// A module is joined, and its tokens and rules get numbers.
 #[test]
 fn a_module_is_joined(rt: HostRuntime) -> Result<(), Fail> {
     let joined = joined_of(rt.alloc(), ONE_SENTENCE)?;
@@ -271,7 +271,8 @@ fn joined_rules_are_expanded(rt: HostRuntime) -> Result<(), Fail> {
     result
 }
 
-/// The grammar in numbers: production 1 is `s -> A EOF`, and stands first, since production 0 is that of the start.
+/// The grammar in numbers: production 1 is `s -> A EOF`, and is the first of the grammar's list, because production 0
+/// is the start production.
 fn check_grammar(rt: &impl Abort, grammar: &Grammar) -> Result<(), Fail> {
     let production: &Production = grammar.productions.get(0).ok_or("no production")?;
     let right = [Symbol::T(A), Symbol::T(EOF)];

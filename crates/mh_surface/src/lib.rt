@@ -1,5 +1,5 @@
-//! A first look at the libraries, for readers. Each file is one way through them, and all use one small grammar, whose only sentence is
-//! `A EOF`. Each value that is compared was worked out by hand. Begin with `from_text_to_verdict`.
+//! A first look at the libraries, for readers. Each file is one way to use them, and all files use one small grammar,
+//! whose only sentence is `A EOF`. Each compared value was worked out by hand. Begin with `from_text_to_verdict`.
 #![tactic(auto)]
 
 #[cfg(test)]

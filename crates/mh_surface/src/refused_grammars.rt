@@ -1,9 +1,9 @@
-//! Grammars that are refused: each stage has faults of its own, and the first fault in the order of the stages is answered.
-ghost use Rattle.std.specs.Prelude.{◌≤◌, length};
+//! Refused grammars: each stage has faults of its own, and the first fault in the order of the stages is reported.
 ghost use Rattle.mh_grammar.specs.Costs.{HaveCosts};
-ghost use Rattle.mh_grammar.specs.Plain.{plain_of, IsInRange};
+ghost use Rattle.mh_grammar.specs.Plain.{plain_of};
 ghost use Rattle.mh_items_kernels.specs.Automaton.{IsAutomaton};
-ghost use Rattle.mh_rules.specs.Ready.{IsExpandedReady, IsReady};
+ghost use Rattle.mh_rules.specs.Ready.{IsExpandedReady, IsJoinedReady};
+ghost use Rattle.mh_items.specs.Fitting.{FitsSets};
 
 use crate::from_text_to_verdict::{automaton_of, grammar_of, is_small, modules_of};
 use mh_expand::{ExpandFault, Expanded, expand};
@@ -18,7 +18,7 @@ use std::alloc::Global;
 use std::process::Abort;
 use std::test::Fail;
 
-/// Names and declarations are at fault.
+/// The faults of names and declarations.
 fn join_fault(fault: &JoinFault) -> &'static str {
     match fault {
         JoinFault::Undefined { name: _ } => "undefined",
@@ -31,7 +31,7 @@ fn join_fault(fault: &JoinFault) -> &'static str {
     }
 }
 
-/// Rules with parameters are at fault.
+/// The faults of rules with parameters.
 fn expand_fault(fault: &ExpandFault) -> &'static str {
     match fault {
         ExpandFault::Arity { instance: _ } => "arity",
@@ -40,7 +40,7 @@ fn expand_fault(fault: &ExpandFault) -> &'static str {
     }
 }
 
-/// The grammar itself, or its `%inline`, is at fault.
+/// The faults of the grammar itself or of its `%inline` rules.
 fn inline_fault(fault: &InlineFault) -> &'static str {
     match fault {
         InlineFault::InlineCycle { instance: _ } => "inline cycle",
@@ -68,7 +68,7 @@ fn fault_of_expanded(alloc: Global, expanded: &Expanded) -> &'static str
 }
 
 fn fault_of_joined(alloc: Global, joined: &Joined) -> &'static str
-    requires { IsReady joined.now }
+    requires { IsJoinedReady joined.now }
 {
     match expand(alloc, joined) {
         Ok(expanded) => {
@@ -103,7 +103,7 @@ fn fault_of(alloc: Global, text: &str) -> Result<&'static str, Fail> {
     }
 }
 
-/// Files, and behind each ` = ` the first fault.
+/// Grammar files, each followed by ` = ` and its first fault.
 const REFUSED: &str = "%start s %% s: A {} = undefined
 %token A %start s %% s: t {} t: A {} t: A {} = duplicate
 %token A %% s: A {} = no start
@@ -131,7 +131,7 @@ fn faults(rt: HostRuntime) -> Result<(), Fail> {
     Ok(())
 }
 
-/// A file that spells no module is refused with a line.
+/// A file that spells no module is refused, with the line at fault.
 #[test]
 fn no_module(rt: HostRuntime) -> Result<(), Fail> {
     let read = read_module(rt.alloc(), b"%token A\n%%\ns A\n");
@@ -141,10 +141,9 @@ fn no_module(rt: HostRuntime) -> Result<(), Fail> {
     Ok(())
 }
 
-/// Whether runs on the table of an automaton loop in state 0 without a token.
+/// Returns true if runs on the table of an automaton loop in state 0 before any token is read.
 fn loops_at_once(alloc: Global, grammar: &Grammar, automaton: &Automaton<1>) -> Result<bool, Fail>
-    requires width { length grammar.now.tokens ≤ 64 }
-    requires range { IsInRange (plain_of grammar.now) }
+    requires fits { FitsSets 1 grammar.now }
     requires costs { HaveCosts grammar.now.tokens }
     requires automaton { IsAutomaton (plain_of grammar.now) automaton.now }
 {
@@ -176,7 +175,7 @@ fn check_loop(rt: &impl Abort, alloc: Global, grammar: &Grammar) -> Result<(), F
     Ok(())
 }
 
-/// Levels may leave a table that reduces without end: here `b`, which is empty, again and again.
+/// Levels may leave a table on which a run reduces without end: here the empty rule `b` is reduced again and again.
 const LOOPING: &str =
     "%token A %nonassoc A %nonassoc HIGH %start s %% s: b s A {} | A {} b: %prec HIGH {}";
 

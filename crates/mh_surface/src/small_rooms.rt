@@ -1,5 +1,5 @@
-//! Rooms that are used by themselves: names and what nonterminals derive, sets of tokens, least costs, generated grammars, the words of
-//! the command line, and devices in memory.
+//! Small libraries that can be used alone: names and derivations, sets of tokens, least costs, generated grammars, the
+//! words of the command line, and devices in memory.
 ghost use Rattle.std.specs.Prelude.{◌≤◌, ◌<◌, length};
 ghost use Rattle.mh_grammar.specs.Plain.{plain_of, IsInRange};
 
@@ -27,7 +27,7 @@ fn names(rt: HostRuntime) -> Result<(), Fail> {
     Ok(())
 }
 
-/// The only rule derives no empty word and has a finite tree, and its words begin with token 0.
+/// The only nonterminal is not nullable, is productive, and its words begin with token 0.
 pub fn derivations(rt: &impl Abort, alloc: Global, grammar: &Grammar) -> Result<(), Fail>
     requires { IsInRange (plain_of grammar.now) }
 {
@@ -71,7 +71,7 @@ fn words_of<const W: usize>(tokens: usize) -> (usize, usize) {
     (tokens, W)
 }
 
-/// The macro calls a function with the least width that has room for so many tokens.
+/// The macro calls a function with the least width that holds this number of tokens.
 fn width_of(tokens: usize) -> usize
     requires { tokens ≤ 512 }
 {
@@ -85,7 +85,7 @@ fn widths(rt: HostRuntime) {
     assert!(rt; found == [1, 1, 2, 4]);
 }
 
-/// A key of the store: a path from a state along a production.
+/// A key of the store: a path from a state along a production up to a dot.
 fn key(dot: u32) -> FactKey {
     FactKey {
         from: 0,
@@ -96,7 +96,7 @@ fn key(dot: u32) -> FactKey {
     }
 }
 
-/// Costs that are stored stay, and come in rising order.
+/// A stored cost does not change, and the costs are read in rising order.
 fn check_store(rt: &impl Abort, store: &mut FactStore) -> Result<(), Fail> {
     if store.last() > 0 {
         return Err(Fail::from("nothing is stored at first"));
@@ -117,7 +117,7 @@ fn least_costs(rt: HostRuntime) -> Result<(), Fail> {
     result
 }
 
-/// The count of lines in a text.
+/// The number of lines in a text.
 fn lines_in(text: &[u8]) -> usize {
     text.iter().filter(|byte| **byte == b'\n').count()
 }
@@ -167,7 +167,7 @@ fn is_strict_list(order: &Order) -> bool {
     is_list && files && marks == [true, true, false, false]
 }
 
-/// The order that the words of the command line give.
+/// The order that the words of the command line spell.
 #[test]
 fn orders(rt: HostRuntime) -> Result<(), Fail> {
     let words = words_in(rt.alloc(), "--list-errors --strict g.mly")?;
@@ -182,7 +182,7 @@ fn orders(rt: HostRuntime) -> Result<(), Fail> {
     Ok(())
 }
 
-/// Words that are no order.
+/// Words that are not an order.
 #[test]
 fn no_order(rt: HostRuntime) -> Result<(), Fail> {
     let words = words_in(rt.alloc(), "--list-errors")?;
@@ -194,7 +194,7 @@ fn no_order(rt: HostRuntime) -> Result<(), Fail> {
     Ok(())
 }
 
-/// Lines of an input in memory. The limit is that of one line, without its LF.
+/// Lines of an input in memory. The limit is that of one line in bytes, without its LF.
 fn check_lines(rt: &impl Abort, alloc: Global, source: &mut MemSource) -> Result<(), Fail> {
     let Ok(Some(line)) = read_line(alloc, source, 5) else {
         return Err(Fail::from("a line"));
@@ -207,7 +207,7 @@ fn check_lines(rt: &impl Abort, alloc: Global, source: &mut MemSource) -> Result
     Ok(())
 }
 
-/// A source in memory, whose 13th read fails.
+/// A source in memory whose 13th read fails.
 #[test]
 fn sources(rt: HostRuntime) -> Result<(), Fail> {
     let bytes = b"A EOF\nA EOF A\n".to_vec(rt.alloc())?;
@@ -218,7 +218,7 @@ fn sources(rt: HostRuntime) -> Result<(), Fail> {
     result
 }
 
-/// A sink in memory, whose second write fails: what was written stays.
+/// A sink in memory whose second write fails. The bytes written before it remain.
 #[test]
 fn sinks(rt: HostRuntime) -> Result<(), Fail> {
     let fails = vec![in rt.alloc(); 2u64]?;
@@ -231,7 +231,7 @@ fn sinks(rt: HostRuntime) -> Result<(), Fail> {
     Ok(())
 }
 
-/// One file by this name.
+/// A list of one file with this name and text.
 fn files_of(alloc: Global, name: &[u8], text: &[u8]) -> Result<Vec<(Vec<u8>, Vec<u8>)>, Fail> {
     let file = (name.to_vec(alloc)?, text.to_vec(alloc)?);
     let mut files = Vec::new(alloc);
@@ -239,7 +239,7 @@ fn files_of(alloc: Global, name: &[u8], text: &[u8]) -> Result<Vec<(Vec<u8>, Vec
     Ok(files)
 }
 
-/// A shelf of no files, of which none is found.
+/// A shelf without files.
 #[test]
 fn shelves(rt: HostRuntime) -> Result<(), Fail> {
     let mut shelf = MemShelf::new(Vec::new(rt.alloc()), Vec::new(rt.alloc()));
@@ -251,7 +251,7 @@ fn shelves(rt: HostRuntime) -> Result<(), Fail> {
     Ok(())
 }
 
-/// The whole command over devices in memory: status 2 and a line on err, since no word says what is to be done.
+/// The whole tool over devices in memory: status 2 and a line on `err`, because no word selects a mode.
 #[test]
 fn the_command(rt: HostRuntime) -> Result<(), Fail> {
     let alloc = rt.alloc();

@@ -1,11 +1,12 @@
-//! Automata and tables: how states are made of items, what a table says, and tables that come from files.
-ghost use Rattle.std.specs.Prelude.{◌≡◌, ◌≤◌, ◌<◌, ◌^◌, length, IfOk};
+//! Automata and tables: how states are made of items, the content of a table, and tables from files.
+ghost use Rattle.std.specs.Prelude.{◌≡◌, ◌<◌, ◌^◌, length, IfOk};
 ghost use Rattle.mh_grammar.specs.Costs.{HaveCosts};
 ghost use Rattle.mh_grammar.specs.Plain.{plain_of, IsInRange};
 ghost use Rattle.mh_items_kernels.specs.Automaton.{IsAutomaton};
 ghost use Rattle.mh_items_kernels.specs.Kernels.{IsItemList};
 ghost use Rattle.mh_resolve_cells.specs.States.{IsTableOf};
 ghost use Rattle.mh_resolve_cells.specs.declared.kinds.Mode.TheVariants.{Merged};
+ghost use Rattle.mh_items.specs.Fitting.{FitsSets};
 
 use crate::from_text_to_verdict::{A, EOF};
 use mh_canon::canonical;
@@ -22,7 +23,7 @@ use std::alloc::Global;
 use std::process::Abort;
 use std::test::Fail;
 
-/// Whether a kernel has these pairs of a production and a dot.
+/// Returns true if the items of a kernel have these productions and dots.
 fn has_pairs(kernel: &Kernel<1>, pairs: &[(u32, u32)]) -> bool {
     let items = kernel.items.as_slice();
     items.len() == pairs.len()
@@ -34,8 +35,7 @@ fn has_pairs(kernel: &Kernel<1>, pairs: &[(u32, u32)]) -> bool {
 
 /// The closure of a kernel.
 fn closed_of(alloc: Global, grammar: &Grammar, kernel: &Kernel<1>) -> Result<Kernel<1>, Memory>
-    requires width { length grammar.now.tokens ≤ 64 }
-    requires range { IsInRange (plain_of grammar.now) }
+    requires fits { FitsSets 1 grammar.now }
     requires kernel { IsItemList (plain_of grammar.now) kernel.now }
     ensures { IfOk result (IsItemList (plain_of grammar.now)) }
 {
@@ -45,15 +45,14 @@ fn closed_of(alloc: Global, grammar: &Grammar, kernel: &Kernel<1>) -> Result<Ker
     closed
 }
 
-/// The closure of the start kernel `s' -> . s` adds `s -> . A EOF`, and over `A` this item moves to `s -> A . EOF`.
+/// The closure of the start kernel `s' -> . s` adds `s -> . A EOF`, and on `A` this item moves to `s -> A . EOF`.
 fn check_closure(
     rt: &impl Abort,
     alloc: Global,
     grammar: &Grammar,
     kernel: &Kernel<1>,
 ) -> Result<(), Fail>
-    requires width { length grammar.now.tokens ≤ 64 }
-    requires range { IsInRange (plain_of grammar.now) }
+    requires fits { FitsSets 1 grammar.now }
     requires kernel { IsItemList (plain_of grammar.now) kernel.now }
 {
     assert!(rt; has_pairs(kernel, &[(0, 0)]));
@@ -67,10 +66,9 @@ fn check_closure(
     Ok(())
 }
 
-/// States are made of items by closures and moves.
+/// States are made of items, by closures and moves.
 pub fn items(rt: &impl Abort, alloc: Global, grammar: &Grammar) -> Result<(), Fail>
-    requires width { length grammar.now.tokens ≤ 64 }
-    requires range { IsInRange (plain_of grammar.now) }
+    requires fits { FitsSets 1 grammar.now }
 {
     if grammar.starts.is_empty() {
         return Err(Fail::from("no start"));
@@ -81,7 +79,7 @@ pub fn items(rt: &impl Abort, alloc: Global, grammar: &Grammar) -> Result<(), Fa
     result
 }
 
-/// State 0 goes over `A` to state 1, and over `s` to state 2. State 1 goes over `EOF` to state 3.
+/// State 0 has an edge on `A` to state 1 and on `s` to state 2. State 1 has an edge on `EOF` to state 3.
 fn has_edges(automaton: &Automaton<1>) -> bool {
     let wanted = [
         Edge {
@@ -108,15 +106,14 @@ fn has_edges(automaton: &Automaton<1>) -> bool {
     first && second && automaton.kernels.len() == 4
 }
 
-/// In this grammar Knuth's canonical automaton has the same states as Pager's, since there is nothing to merge.
+/// For this grammar, Knuth's canonical automaton has the same states as Pager's, because there are no states to merge.
 pub fn automata(
     rt: &impl Abort,
     alloc: Global,
     grammar: &Grammar,
     automaton: &Automaton<1>,
 ) -> Result<(), Fail>
-    requires width { length grammar.now.tokens ≤ 64 }
-    requires range { IsInRange (plain_of grammar.now) }
+    requires fits { FitsSets 1 grammar.now }
 {
     assert!(rt; has_edges(automaton));
     let Ok(larger) = canonical::<1>(alloc, grammar) else {
@@ -128,7 +125,7 @@ pub fn automata(
     Ok(())
 }
 
-/// The counts of a table. Its productions are that of the start, and `s -> A EOF`.
+/// The counts of a table. Its productions are the start production and `s -> A EOF`.
 fn has_counts(table: &Table) -> bool {
     (
         table.states(),
@@ -138,7 +135,7 @@ fn has_counts(table: &Table) -> bool {
     ) == (4, 2, 1, 2)
 }
 
-/// The cells of states 0 and 1, and the defaults of states 2 and 3.
+/// The cells of states 0 and 1, and the default actions of states 2 and 3.
 fn check_cells(rt: &impl Abort, table: &Table)
     requires states { length table.now.states ≡ 4 }
     requires tokens { table.now.grammar.tokens ≡ 2 }
@@ -154,7 +151,7 @@ fn check_cells(rt: &impl Abort, table: &Table)
     assert!(rt; table.goto(0, 0) == Some(2) && table.goto(1, 0).is_none());
 }
 
-/// What a table says.
+/// The content of a table.
 pub fn cells(rt: &impl Abort, table: &Halting) -> Result<(), Fail> {
     let table = table.table();
     if table.states() != 4 || table.tokens() != 2 {
@@ -165,7 +162,7 @@ pub fn cells(rt: &impl Abort, table: &Halting) -> Result<(), Fail> {
     Ok(())
 }
 
-/// The automaton, as `--show-automaton` shows it.
+/// The automaton as `--show-automaton` prints it.
 const AUTOMATON: &str = "merged: 4 states
 state 0
   s' -> . s [ # ]
@@ -182,7 +179,7 @@ state 3
   default: reduce s -> A EOF
 ";
 
-/// An automaton with its table, as a text for readers.
+/// An automaton and its table as text for readers.
 pub fn automaton_as_text(
     rt: &impl Abort,
     alloc: Global,
@@ -227,7 +224,7 @@ pub fn warnings(rt: &impl Abort, alloc: Global, grammar: &Grammar) -> Result<(),
     Ok(())
 }
 
-/// A table is written as a file, which can be read and tested later.
+/// A table is written as a file, which can be read and validated later.
 pub fn written(
     rt: &impl Abort,
     alloc: Global,
@@ -261,7 +258,7 @@ fn raw_of(alloc: Global, text: &str) -> Result<RawTable, Fail>
     }
 }
 
-/// What the file says of state 3: no cells, but a default.
+/// The content of the file for state 3: no cells, but a default action.
 fn check_raw(rt: &impl Abort, raw: &RawTable) -> Result<(), Fail> {
     assert!(rt; raw.mode == Mode::Merged && raw.tokens.len() == 2 && raw.productions.len() == 1);
     let last = raw.states.get(3).ok_or("no state 3")?;
@@ -273,15 +270,14 @@ fn check_raw(rt: &impl Abort, raw: &RawTable) -> Result<(), Fail> {
     Ok(())
 }
 
-/// A file is tested against the grammar. A valid file gives the automaton, the table and the conflicts.
+/// A file is validated for the grammar. A valid file gives the automaton, the table and the conflicts.
 fn check_valid(
     rt: &impl Abort,
     alloc: Global,
     grammar: &Grammar,
     raw: &RawTable,
 ) -> Result<(), Fail>
-    requires width { length grammar.now.tokens ≤ 64 }
-    requires range { IsInRange (plain_of grammar.now) }
+    requires fits { FitsSets 1 grammar.now }
     requires costs { HaveCosts grammar.now.tokens }
     requires small { length raw.now.states < 2 ^ 32 }
 {
@@ -298,15 +294,14 @@ fn check_valid(
     Ok(())
 }
 
-/// A file in which the edge of state 0 over `A` leads to another state is invalid.
+/// A file in which the edge of state 0 on `A` leads to another state is not valid.
 fn check_invalid(
     rt: &impl Abort,
     alloc: Global,
     grammar: &Grammar,
     raw: &RawTable,
 ) -> Result<(), Fail>
-    requires width { length grammar.now.tokens ≤ 64 }
-    requires range { IsInRange (plain_of grammar.now) }
+    requires fits { FitsSets 1 grammar.now }
     requires costs { HaveCosts grammar.now.tokens }
     requires small { length raw.now.states < 2 ^ 32 }
 {
@@ -326,10 +321,9 @@ fn check_invalid(
     }
 }
 
-/// Table files, read and tested against the grammar.
+/// Table files that are read and validated for the grammar.
 pub fn read_and_tested(rt: &impl Abort, alloc: Global, grammar: &Grammar) -> Result<(), Fail>
-    requires width { length grammar.now.tokens ≤ 64 }
-    requires range { IsInRange (plain_of grammar.now) }
+    requires fits { FitsSets 1 grammar.now }
     requires costs { HaveCosts grammar.now.tokens }
 {
     let raw = raw_of(alloc, ONE_SENTENCE_TABLE)?;
@@ -346,8 +340,7 @@ pub fn read_and_tested(rt: &impl Abort, alloc: Global, grammar: &Grammar) -> Res
 }
 
 fn check_file(rt: &impl Abort, alloc: Global, grammar: &Grammar, raw: &RawTable) -> Result<(), Fail>
-    requires width { length grammar.now.tokens ≤ 64 }
-    requires range { IsInRange (plain_of grammar.now) }
+    requires fits { FitsSets 1 grammar.now }
     requires costs { HaveCosts grammar.now.tokens }
     requires small { length raw.now.states < 2 ^ 32 }
 {

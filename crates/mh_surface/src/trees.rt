@@ -21,7 +21,7 @@ fn tree_of_the_sentence(alloc: Global) -> Result<Tree, Memory>
     node(alloc, 1, children)
 }
 
-/// What a tree is: its height, where a leaf has height 1, its tokens, and its text.
+/// The parts of a tree: its height (a leaf has height 1), its tokens, and its text.
 fn check_tree(rt: &impl Abort, alloc: Global, grammar: &Grammar, tree: &Tree) -> Result<(), Fail> {
     let tokens = yield_of(alloc, tree)?;
     assert!(rt; tree.height() == 2 && tokens.as_slice() == [A, EOF].as_slice());

@@ -1,4 +1,4 @@
-//! Table files: what they hold, read and written. Each part is proved in a crate of its own.
+//! Table files: their content, read and written. Each part is proved in a crate of its own.
 #![tactic(auto)]
 
 pub use mh_tabfile_form::{RawCell, RawCells, RawEdge, RawItem, RawProduction, RawState, RawTable};

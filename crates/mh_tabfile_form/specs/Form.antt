@@ -1,4 +1,4 @@
--- The form of table files: lines of words that spell a table. The form is this project's own.
+-- The definition of table files: the lines of words that spell a table. The form is this project's own.
 use Rattle.std.specs.Prelude.{◌≡◌, ◌≢◌, ◌<◌, ◌⊎◌, ◌+◌, ◌^◌, ℕ, max, List, [], ◌∷◌, ◌++◌, map, length, Option, Some, None, IfSome, codes, decimal}
 use Rattle.std.specs.List.{AllByRecursion, flat_map, join_with_byte}
 use Rattle.mh_resolve_cells.specs.declared.kinds.Mode.{Mode}
@@ -16,31 +16,32 @@ use Rattle.mh_tabfile_form.specs.declared.types.RawCells.TheVariants as cells
 use Rattle.mh_tabfile_form.specs.declared.types.RawState.{RawState}
 use Rattle.mh_tabfile_form.specs.declared.types.RawTable.{RawTable}
 
--- a line by its words
+-- A line, as the list of its words.
 abbrev pub Line : Type 0
 Line = List (List ℕ)
 
--- the words of a line are joined by single spaces, and each line ends with LF
+-- The bytes of a line: its words, joined by single spaces, and LF at the end.
 abbrev pub line_text : Line → List ℕ
 line_text words = join_with_byte 32 words ++ 10 ∷ []
 
 abbrev pub text : List Line → List ℕ
 text lines = flat_map line_text lines
 
--- a word holds no space and no LF
+-- A byte that a word may contain: neither a space nor LF.
 abbrev pub IsInWord : ℕ → Type 0
 IsInWord byte = (byte ≢ 32) × (byte ≢ 10)
 
 abbrev pub IsWord : List ℕ → Type 0
 IsWord word = (word ≢ []) × AllByRecursion IsInWord word
 
--- a line has some word; of its words only the form of the line may say that they are not empty
+-- A line has at least one word, and each byte of its words is one that a word may contain. Words may be empty here; the
+-- form of each kind of line excludes empty names.
 abbrev pub IsLine : Line → Type 0
 IsLine words = (words ≢ []) × AllByRecursion (AllByRecursion IsInWord) words
 
 -- The lines of a table.
 
--- without costs it is version 1, and with them version 2
+-- The version of a file: 1 without costs, 2 with costs.
 abbrev pub version_of : Option (List ℕ) → ℕ
 version_of None = 1
 version_of (Some costs) = 2
@@ -127,7 +128,7 @@ abbrev pub AreCosts : Option (List ℕ) → Type 0
 AreCosts None = Unit {0}
 AreCosts (Some costs) = AllByRecursion IsNumber costs
 
-pub record IsRaw (raw : RawTable) : Type 0 where
+pub record IsRawTable (raw : RawTable) : Type 0 where
   pub tokens : AllByRecursion IsName raw.tokens
   pub costs : AreCosts raw.costs
   pub starts : AllByRecursion IsName raw.starts
@@ -139,7 +140,8 @@ pub record IsRaw (raw : RawTable) : Type 0 where
 abbrev pub end_line : Line
 end_line = codes "end" ∷ []
 
--- the lines up to the costs, those of the productions, and those of the states
+-- The lines of a table in three parts: the first lines up to the costs, the lines of the grammar, and the lines of the
+-- automaton.
 abbrev pub head_lines : RawTable → List Line
 head_lines raw = head_line (version_of raw.costs) raw.mode ∷ (codes "tokens" ∷ raw.tokens) ∷ costs_lines raw.costs
 
@@ -152,20 +154,20 @@ automaton_lines raw = count_line (codes "states") (length raw.states) ∷ states
 abbrev pub lines_of : RawTable → List Line
 lines_of raw = head_lines raw ++ (grammar_lines raw ++ (automaton_lines raw ++ end_line ∷ []))
 
--- the lines spell the table
+-- The lines spell the table.
 abbrev pub Spells : List Line → RawTable → Type 0
-Spells lines raw = IsRaw raw × (lines ≡ lines_of raw)
+Spells lines raw = IsRawTable raw × (lines ≡ lines_of raw)
 
--- its text
+-- The text of a table: the bytes of its lines.
 abbrev pub table_text : RawTable → List ℕ
 table_text raw = text (lines_of raw)
 
--- the bytes are a file of the table
+-- The bytes are a table file with this content.
 pub record IsFileOf (bytes : List ℕ) (raw : RawTable) : Type 0 where
-  pub spelled : IsRaw raw
+  pub spelled : IsRawTable raw
   pub words : AllByRecursion IsLine (lines_of raw)
   pub whole : bytes ≡ table_text raw
 
--- some file begins with these lines
+-- Some table file begins with these lines.
 abbrev pub Begins : List Line → Type 0
 Begins lines = (more : List Line) × (raw : RawTable) × Spells (lines ++ more) raw

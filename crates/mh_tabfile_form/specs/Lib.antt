@@ -1,2 +1,2 @@
 pub mod Form
-pub mod Written
+pub mod TableContent

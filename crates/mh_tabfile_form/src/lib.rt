@@ -1,4 +1,4 @@
-//! What a table file says, by names: its content, its form, and what it says of an automaton with its table.
+//! Table files by names: the types of their content, their form, and the content for an automaton with its table.
 #![tactic(auto)]
 
 mod types;

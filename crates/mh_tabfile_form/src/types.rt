@@ -1,16 +1,17 @@
-//! The content of a table file.
+//! The content of a table file. All symbols are given by name; productions and states are given by number.
 use mh_grammar::{Name, Sequence};
 use mh_resolve_cells::Mode;
 use mh_tables_core::{Action, Fallback};
 
-/// A production by names.
+/// A production: the names of its left side and of the symbols of its right side.
 #[derive(Drop)]
 pub struct RawProduction {
     pub lhs: Name,
     pub rhs: Sequence<Name>,
 }
 
-/// An item with the names of its looks.
+/// A kernel item: the number of its production, the dot (0 is before the first symbol), and the names of its
+/// lookaheads, `#` for the end of the stream.
 #[derive(Drop)]
 pub struct RawItem {
     pub production: u32,
@@ -18,28 +19,28 @@ pub struct RawItem {
     pub looks: Sequence<Name>,
 }
 
-/// An edge: the name of its symbol, and the number of the state that it leads to.
+/// An edge of the automaton: the name of its symbol and the number of its target state.
 #[derive(Drop)]
 pub struct RawEdge {
     pub symbol: Name,
     pub target: u32,
 }
 
-/// A cell that acts.
+/// A cell of the table that shifts or reduces: the name of its token and the action.
 #[derive(Drop)]
 pub struct RawCell {
     pub token: Name,
     pub action: Action,
 }
 
-/// The cells of a state without default, or its default.
+/// The actions of a state: its cells if it has no default action, else its default action.
 #[derive(Drop)]
 pub enum RawCells {
     Cells(Sequence<RawCell>),
     Fallback(Fallback),
 }
 
-/// A state: its items, its edges, and its cells or its default.
+/// A state: its kernel items, its edges, and its cells or its default action.
 #[derive(Drop)]
 pub struct RawState {
     pub items: Sequence<RawItem>,
@@ -47,7 +48,7 @@ pub struct RawState {
     pub cells: RawCells,
 }
 
-/// What a table file says. Files of version 1 have no costs.
+/// The content of a table file. Files of version 1 have no costs.
 #[derive(Drop)]
 pub struct RawTable {
     pub mode: Mode,

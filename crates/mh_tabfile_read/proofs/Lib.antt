@@ -1,8 +1,8 @@
-pub mod Again
-pub mod Cuts
-pub mod Exact
-pub mod OneFault
-pub mod Only
-pub mod Sound
-pub mod Tellings
-mod Large
+pub mod RunComplete
+pub mod SplitLines
+pub mod RunExact
+pub mod BadLineUnique
+pub mod ReadingUnique
+pub mod RunSound
+pub mod ParsedWords
+mod TooLargeNumber

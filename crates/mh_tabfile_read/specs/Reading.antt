@@ -1,4 +1,4 @@
--- What reading a table file answers: the table that it spells, that it is of another version, or its first line that is not of the form.
+-- The result of reading a table file: its content, another version, or the number of its first bad line.
 use Rattle.std.specs.Prelude.{◌≡◌, ◌≢◌, ◌⊎◌, ◌+◌, ℕ, max, List, [], ◌∷◌, ◌++◌, length, Result, Ok, Err}
 use Rattle.std.specs.List.{AllByRecursion, join_with_byte}
 use Rattle.mh_resolve_cells.specs.declared.kinds.Mode.{Mode}
@@ -7,7 +7,7 @@ use Rattle.mh_tabfile_read.specs.declared.reading.TabFault.{TabFault}
 use Rattle.mh_tabfile_read.specs.declared.reading.TabFault.TheVariants as faults
 use Rattle.mh_tabfile_form.specs.Form.{Line, head_line, line_text, text, IsLine, IsNumber, Spells, Begins, IsFileOf}
 
--- the first line is that of another version
+-- The first line names a version other than 1 and 2. The form is this project's own.
 pub record IsOtherVersion (bytes : List ℕ) : Type 0 where
   pub version : ℕ
   pub mode : Mode
@@ -18,8 +18,8 @@ pub record IsOtherVersion (bytes : List ℕ) : Type 0 where
   pub ends : (rest ≡ []) ⊎ ((more : List ℕ) × (rest ≡ 10 ∷ more))
   pub first : bytes ≡ join_with_byte 32 (head_line version mode) ++ rest
 
--- The first line that is not of the form that its place demands: no file has it behind the lines before it; or it has no LF at its
--- end; or the file ends too early.
+-- The number of the first bad line, from 1. Either no file has this line after the lines before it; or the line does
+-- not end with LF; or the file ends too early, and then the number is that of the last line (1 for an empty file).
 pub data IsBadLine (bytes : List ℕ) : ℕ → Type 0 where
   misplaced : (before : List Line) (line : Line) (rest : List ℕ) → bytes ≡ text before ++ (line_text line ++ rest) →
       AllByRecursion IsLine before → IsLine line → Begins before → (Begins (before ++ line ∷ []) → ⊥) → {n : ℕ} → n ≡ length before + 1 → IsBadLine bytes n
@@ -28,7 +28,7 @@ pub data IsBadLine (bytes : List ℕ) : ℕ → Type 0 where
   early : (lines : List Line) → bytes ≡ text lines → AllByRecursion IsLine lines → Begins lines → ((raw : RawTable) → Spells lines raw → ⊥) →
       {n : ℕ} → n ≡ max 1 (length lines) → IsBadLine bytes n
 
--- what reading bytes answers, unless memory runs out
+-- The result of reading these bytes, unless memory runs out.
 abbrev pub IsReading : List ℕ → Result RawTable TabFault → Type 0
 IsReading bytes (Ok raw) = IsFileOf bytes raw
 IsReading bytes (Err faults.Version) = IsOtherVersion bytes

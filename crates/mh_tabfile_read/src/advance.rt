@@ -1,10 +1,10 @@
-//! One line more.
+//! Reads one line of a table file.
 ghost use Rattle.std.specs.Prelude.{◌≡◌, ◌∷◌, ◌<◌, map, Some};
-ghost use Rattle.mh_tabfile_read.specs.code.Words.{Refers};
+ghost use Rattle.mh_tabfile_read.specs.code.Words.{AgreesWith};
 ghost use Rattle.mh_tabfile_read.specs.code.Machine as machine;
-ghost use Rattle.mh_tabfile_read.specs.code.Machine.{Goes};
+ghost use Rattle.mh_tabfile_read.specs.code.Machine.{AdvancesTo};
 
-use crate::places::{Kind, Place, Reader};
+use crate::places::{ExpectedLine, LineKind, Reader};
 use crate::words::{
     cell_of, count_of, edge_of, fallback_of, item_of, kind_of, mode_of, names_of, number,
     numbers_of, production_of,
@@ -14,122 +14,142 @@ use mh_tabfile_form::{RawCell, RawCells, RawEdge, RawItem, RawProduction, RawSta
 use std::alloc::Global;
 use std::mem;
 
-/// Why a line is not taken.
+/// Why a line is refused.
 #[derive(Clone, Copy)]
-pub(crate) enum Refusal {
+pub(crate) enum LineRefusal {
     Unexpected,
     Memory,
 }
 
-fn costs_for(alloc: Global, version: u32) -> Result<Option<Sequence<u32>>, Refusal>
-    ensures { Refers (machine.costs_for version) result }
+fn costs_for(alloc: Global, version: u32) -> Result<Option<Sequence<u32>>, LineRefusal>
+    ensures { AgreesWith (machine.costs_for version) result }
 {
     if version == 1 {
         Ok(None)
     } else if version == 2 {
         Ok(Some(Sequence::new(alloc)))
     } else {
-        Err(Refusal::Unexpected)
+        Err(LineRefusal::Unexpected)
     }
 }
 
-fn place_behind_tokens(costs: &Option<Sequence<u32>>) -> Place
-    ensures { result ≡ machine.place_behind_tokens costs.now }
+fn expected_after_tokens(costs: &Option<Sequence<u32>>) -> ExpectedLine
+    ensures { result ≡ machine.expected_after_tokens costs.now }
 {
     match costs {
-        None => Place::Starts,
-        Some(_) => Place::Costs,
+        None => ExpectedLine::Starts,
+        Some(_) => ExpectedLine::Costs,
     }
 }
 
-fn read_head(alloc: Global, reader: &mut Reader, words: &[&[u8]]) -> Result<(), Refusal>
-    ensures { Goes (machine.read_head reader.old (map (λ w. w.now) words.now)) reader.new result }
+fn read_head(alloc: Global, reader: &mut Reader, words: &[&[u8]]) -> Result<(), LineRefusal>
+    ensures { AdvancesTo (machine.read_head reader.old (map (λ w. w.now) words.now)) reader.new result }
 {
     match words {
         [version, mode] => {
             let version = number(version)?;
             reader.costs = costs_for(alloc, version)?;
             reader.mode = mode_of(mode)?;
-            reader.place = Place::Tokens;
+            reader.place = ExpectedLine::Tokens;
             Ok(())
         }
-        _ => Err(Refusal::Unexpected),
+        _ => Err(LineRefusal::Unexpected),
     }
 }
 
-fn at_head(alloc: Global, reader: &mut Reader, kind: Kind, words: &[&[u8]]) -> Result<(), Refusal>
-    ensures { Goes (machine.at_head reader.old kind (map (λ w. w.now) words.now)) reader.new result }
+fn at_head(
+    alloc: Global,
+    reader: &mut Reader,
+    kind: LineKind,
+    words: &[&[u8]],
+) -> Result<(), LineRefusal>
+    ensures { AdvancesTo (machine.at_head reader.old kind (map (λ w. w.now) words.now)) reader.new result }
 {
     match kind {
-        Kind::Head => read_head(alloc, reader, words),
-        _ => Err(Refusal::Unexpected),
+        LineKind::Head => read_head(alloc, reader, words),
+        _ => Err(LineRefusal::Unexpected),
     }
 }
 
-fn at_tokens(alloc: Global, reader: &mut Reader, kind: Kind, words: &[&[u8]]) -> Result<(), Refusal>
-    ensures { Goes (machine.at_tokens reader.old kind (map (λ w. w.now) words.now)) reader.new result }
+fn at_tokens(
+    alloc: Global,
+    reader: &mut Reader,
+    kind: LineKind,
+    words: &[&[u8]],
+) -> Result<(), LineRefusal>
+    ensures { AdvancesTo (machine.at_tokens reader.old kind (map (λ w. w.now) words.now)) reader.new result }
 {
     match kind {
-        Kind::Tokens => {
-            reader.place = place_behind_tokens(&reader.costs);
+        LineKind::Tokens => {
+            reader.place = expected_after_tokens(&reader.costs);
             reader.tokens = names_of(alloc, words)?;
             Ok(())
         }
-        _ => Err(Refusal::Unexpected),
+        _ => Err(LineRefusal::Unexpected),
     }
 }
 
-fn at_costs(alloc: Global, reader: &mut Reader, kind: Kind, words: &[&[u8]]) -> Result<(), Refusal>
-    ensures { Goes (machine.at_costs reader.old kind (map (λ w. w.now) words.now)) reader.new result }
+fn at_costs(
+    alloc: Global,
+    reader: &mut Reader,
+    kind: LineKind,
+    words: &[&[u8]],
+) -> Result<(), LineRefusal>
+    ensures { AdvancesTo (machine.at_costs reader.old kind (map (λ w. w.now) words.now)) reader.new result }
 {
     match kind {
-        Kind::Costs => {
+        LineKind::Costs => {
             let costs = numbers_of(alloc, words)?;
             reader.costs = Some(costs);
-            reader.place = Place::Starts;
+            reader.place = ExpectedLine::Starts;
             Ok(())
         }
-        _ => Err(Refusal::Unexpected),
+        _ => Err(LineRefusal::Unexpected),
     }
 }
 
-fn at_starts(alloc: Global, reader: &mut Reader, kind: Kind, words: &[&[u8]]) -> Result<(), Refusal>
-    ensures { Goes (machine.at_starts reader.old kind (map (λ w. w.now) words.now)) reader.new result }
+fn at_starts(
+    alloc: Global,
+    reader: &mut Reader,
+    kind: LineKind,
+    words: &[&[u8]],
+) -> Result<(), LineRefusal>
+    ensures { AdvancesTo (machine.at_starts reader.old kind (map (λ w. w.now) words.now)) reader.new result }
 {
     match kind {
-        Kind::Starts => {
+        LineKind::Starts => {
             let starts = names_of(alloc, words)?;
             reader.starts = starts;
-            reader.place = Place::Productions;
+            reader.place = ExpectedLine::Productions;
             Ok(())
         }
-        _ => Err(Refusal::Unexpected),
+        _ => Err(LineRefusal::Unexpected),
     }
 }
 
-fn at_productions(reader: &mut Reader, kind: Kind, words: &[&[u8]]) -> Result<(), Refusal>
-    ensures { Goes (machine.at_productions reader.old kind (map (λ w. w.now) words.now)) reader.new result }
+fn at_productions(reader: &mut Reader, kind: LineKind, words: &[&[u8]]) -> Result<(), LineRefusal>
+    ensures { AdvancesTo (machine.at_productions reader.old kind (map (λ w. w.now) words.now)) reader.new result }
 {
     match kind {
-        Kind::Productions => {
+        LineKind::Productions => {
             let count = count_of(words)?;
-            reader.place = Place::Listing(count);
+            reader.place = ExpectedLine::Listing(count);
             Ok(())
         }
-        _ => Err(Refusal::Unexpected),
+        _ => Err(LineRefusal::Unexpected),
     }
 }
 
-fn at_states(reader: &mut Reader, kind: Kind, words: &[&[u8]]) -> Result<(), Refusal>
-    ensures { Goes (machine.at_states reader.old kind (map (λ w. w.now) words.now)) reader.new result }
+fn at_states(reader: &mut Reader, kind: LineKind, words: &[&[u8]]) -> Result<(), LineRefusal>
+    ensures { AdvancesTo (machine.at_states reader.old kind (map (λ w. w.now) words.now)) reader.new result }
 {
     match kind {
-        Kind::States => {
+        LineKind::States => {
             let count = count_of(words)?;
-            reader.place = Place::Between(count);
+            reader.place = ExpectedLine::Between(count);
             Ok(())
         }
-        _ => Err(Refusal::Unexpected),
+        _ => Err(LineRefusal::Unexpected),
     }
 }
 
@@ -138,29 +158,29 @@ fn at_production(
     reader: &mut Reader,
     left: u32,
     line: &[&[u8]],
-) -> Result<(), Refusal>
+) -> Result<(), LineRefusal>
     requires { 0 < left }
-    ensures { Goes (machine.at_production reader.old left (map (λ w. w.now) line.now)) reader.new result }
+    ensures { AdvancesTo (machine.at_production reader.old left (map (λ w. w.now) line.now)) reader.new result }
 {
     let production = production_of(alloc, line)?;
     let Ok(()) = reader.productions.push(production) else {
-        return Err(Refusal::Memory);
+        return Err(LineRefusal::Memory);
     };
-    reader.place = Place::Listing(left - 1);
+    reader.place = ExpectedLine::Listing(left - 1);
     Ok(())
 }
 
-fn open_state(alloc: Global, reader: &mut Reader, left: u32, number: u32) -> Result<(), Refusal>
+fn open_state(alloc: Global, reader: &mut Reader, left: u32, number: u32) -> Result<(), LineRefusal>
     requires { 0 < left }
-    ensures { Goes (machine.open_state reader.old left number) reader.new result }
+    ensures { AdvancesTo (machine.open_state reader.old left number) reader.new result }
 {
     if number as usize != reader.states.len() {
-        return Err(Refusal::Unexpected);
+        return Err(LineRefusal::Unexpected);
     }
     reader.items = Sequence::new(alloc);
     reader.edges = Sequence::new(alloc);
     reader.cells = Sequence::new(alloc);
-    reader.place = Place::Items(left - 1);
+    reader.place = ExpectedLine::Items(left - 1);
     Ok(())
 }
 
@@ -168,33 +188,33 @@ fn at_state(
     alloc: Global,
     reader: &mut Reader,
     left: u32,
-    kind: Kind,
+    kind: LineKind,
     words: &[&[u8]],
-) -> Result<(), Refusal>
+) -> Result<(), LineRefusal>
     requires { 0 < left }
-    ensures { Goes (machine.at_state reader.old left kind (map (λ w. w.now) words.now)) reader.new result }
+    ensures { AdvancesTo (machine.at_state reader.old left kind (map (λ w. w.now) words.now)) reader.new result }
 {
     match kind {
-        Kind::State => {
+        LineKind::State => {
             let number = count_of(words)?;
             open_state(alloc, reader, left, number)
         }
-        _ => Err(Refusal::Unexpected),
+        _ => Err(LineRefusal::Unexpected),
     }
 }
 
-fn at_end(reader: &mut Reader, kind: Kind, words: &[&[u8]]) -> Result<(), Refusal>
-    ensures { Goes (machine.at_end reader.old kind (map (λ w. w.now) words.now)) reader.new result }
+fn at_end(reader: &mut Reader, kind: LineKind, words: &[&[u8]]) -> Result<(), LineRefusal>
+    ensures { AdvancesTo (machine.at_end reader.old kind (map (λ w. w.now) words.now)) reader.new result }
 {
     match kind {
-        Kind::End => match words {
+        LineKind::End => match words {
             [] => {
-                reader.place = Place::Ended;
+                reader.place = ExpectedLine::Ended;
                 Ok(())
             }
-            [_, ..] => Err(Refusal::Unexpected),
+            [_, ..] => Err(LineRefusal::Unexpected),
         },
-        _ => Err(Refusal::Unexpected),
+        _ => Err(LineRefusal::Unexpected),
     }
 }
 
@@ -202,10 +222,10 @@ fn between(
     alloc: Global,
     reader: &mut Reader,
     left: u32,
-    kind: Kind,
+    kind: LineKind,
     words: &[&[u8]],
-) -> Result<(), Refusal>
-    ensures { Goes (machine.between reader.old left kind (map (λ w. w.now) words.now)) reader.new result }
+) -> Result<(), LineRefusal>
+    ensures { AdvancesTo (machine.at_between reader.old left kind (map (λ w. w.now) words.now)) reader.new result }
 {
     if left == 0 {
         at_end(reader, kind, words)
@@ -214,14 +234,14 @@ fn between(
     }
 }
 
-/// The open state ends here.
+/// Completes the open state with its cells or its default action.
 fn ended_by(
     alloc: Global,
     reader: &mut Reader,
     cells: RawCells,
-    place: Place,
-) -> Result<(), Refusal>
-    ensures { Goes (Some (machine.ended_by reader.old cells place)) reader.new result }
+    place: ExpectedLine,
+) -> Result<(), LineRefusal>
+    ensures { AdvancesTo (Some (machine.state_ended_by reader.old cells place)) reader.new result }
 {
     let state = RawState {
         items: mem::replace(&mut reader.items, Sequence::new(alloc)),
@@ -229,15 +249,15 @@ fn ended_by(
         cells,
     };
     let Ok(()) = reader.states.push(state) else {
-        return Err(Refusal::Memory);
+        return Err(LineRefusal::Memory);
     };
     reader.cells = Sequence::new(alloc);
     reader.place = place;
     Ok(())
 }
 
-fn closed(alloc: Global, reader: &mut Reader) -> Result<(), Refusal>
-    ensures { Goes (Some (machine.closed reader.old)) reader.new result }
+fn closed(alloc: Global, reader: &mut Reader) -> Result<(), LineRefusal>
+    ensures { AdvancesTo (Some (machine.state_closed reader.old)) reader.new result }
 {
     let place = reader.place;
     let cells = mem::replace(&mut reader.cells, Sequence::new(alloc));
@@ -248,23 +268,23 @@ fn at_cells(
     alloc: Global,
     reader: &mut Reader,
     left: u32,
-    kind: Kind,
+    kind: LineKind,
     words: &[&[u8]],
-) -> Result<(), Refusal>
-    ensures { Goes (machine.at_cells reader.old left kind (map (λ w. w.now) words.now)) reader.new result }
+) -> Result<(), LineRefusal>
+    ensures { AdvancesTo (machine.at_cells reader.old left kind (map (λ w. w.now) words.now)) reader.new result }
 {
     match kind {
-        Kind::Cell => {
+        LineKind::Cell => {
             let cell = cell_of(alloc, words)?;
             let Ok(()) = reader.cells.push(cell) else {
-                return Err(Refusal::Memory);
+                return Err(LineRefusal::Memory);
             };
-            reader.place = Place::Cells(left);
+            reader.place = ExpectedLine::Cells(left);
             Ok(())
         }
         _ => {
             let Ok(()) = closed(alloc, reader) else {
-                return Err(Refusal::Memory);
+                return Err(LineRefusal::Memory);
             };
             between(alloc, reader, left, kind, words)
         }
@@ -275,27 +295,27 @@ fn at_edges(
     alloc: Global,
     reader: &mut Reader,
     left: u32,
-    kind: Kind,
+    kind: LineKind,
     words: &[&[u8]],
-) -> Result<(), Refusal>
-    ensures { Goes (machine.at_edges reader.old left kind (map (λ w. w.now) words.now)) reader.new result }
+) -> Result<(), LineRefusal>
+    ensures { AdvancesTo (machine.at_edges reader.old left kind (map (λ w. w.now) words.now)) reader.new result }
 {
     match kind {
-        Kind::Edge => {
+        LineKind::Edge => {
             let edge = edge_of(alloc, words)?;
             let Ok(()) = reader.edges.push(edge) else {
-                return Err(Refusal::Memory);
+                return Err(LineRefusal::Memory);
             };
-            reader.place = Place::Edges(left);
+            reader.place = ExpectedLine::Edges(left);
             Ok(())
         }
-        Kind::Default => {
+        LineKind::Default => {
             let fallback = fallback_of(words)?;
             ended_by(
                 alloc,
                 reader,
                 RawCells::Fallback(fallback),
-                Place::Between(left),
+                ExpectedLine::Between(left),
             )
         }
         _ => at_cells(alloc, reader, left, kind, words),
@@ -306,18 +326,18 @@ fn at_items(
     alloc: Global,
     reader: &mut Reader,
     left: u32,
-    kind: Kind,
+    kind: LineKind,
     words: &[&[u8]],
-) -> Result<(), Refusal>
-    ensures { Goes (machine.at_items reader.old left kind (map (λ w. w.now) words.now)) reader.new result }
+) -> Result<(), LineRefusal>
+    ensures { AdvancesTo (machine.at_items reader.old left kind (map (λ w. w.now) words.now)) reader.new result }
 {
     match kind {
-        Kind::Item => {
+        LineKind::Item => {
             let item = item_of(alloc, words)?;
             let Ok(()) = reader.items.push(item) else {
-                return Err(Refusal::Memory);
+                return Err(LineRefusal::Memory);
             };
-            reader.place = Place::Items(left);
+            reader.place = ExpectedLine::Items(left);
             Ok(())
         }
         _ => at_edges(alloc, reader, left, kind, words),
@@ -331,9 +351,9 @@ fn at_listing(
     word: &[u8],
     words: &[&[u8]],
     line: &[&[u8]],
-) -> Result<(), Refusal>
+) -> Result<(), LineRefusal>
     requires { map (λ w. w.now) line.now ≡ word.now ∷ map (λ w. w.now) words.now }
-    ensures { Goes (machine.at_listing reader.old left word.now (map (λ w. w.now) words.now)) reader.new result }
+    ensures { AdvancesTo (machine.at_listing reader.old left word.now (map (λ w. w.now) words.now)) reader.new result }
 {
     if left == 0 {
         at_states(reader, kind_of(word), words)
@@ -344,40 +364,40 @@ fn at_listing(
 
 fn advance_at(
     alloc: Global,
-    place: Place,
+    place: ExpectedLine,
     reader: &mut Reader,
     word: &[u8],
     words: &[&[u8]],
     line: &[&[u8]],
-) -> Result<(), Refusal>
+) -> Result<(), LineRefusal>
     requires { map (λ w. w.now) line.now ≡ word.now ∷ map (λ w. w.now) words.now }
-    ensures { Goes (machine.next_at place reader.old word.now (map (λ w. w.now) words.now)) reader.new result }
+    ensures { AdvancesTo (machine.next_at place reader.old word.now (map (λ w. w.now) words.now)) reader.new result }
 {
     match place {
-        Place::Head => at_head(alloc, reader, kind_of(word), words),
-        Place::Tokens => at_tokens(alloc, reader, kind_of(word), words),
-        Place::Costs => at_costs(alloc, reader, kind_of(word), words),
-        Place::Starts => at_starts(alloc, reader, kind_of(word), words),
-        Place::Productions => at_productions(reader, kind_of(word), words),
-        Place::Listing(left) => at_listing(alloc, reader, left, word, words, line),
-        Place::Between(left) => between(alloc, reader, left, kind_of(word), words),
-        Place::Items(left) => at_items(alloc, reader, left, kind_of(word), words),
-        Place::Edges(left) => at_edges(alloc, reader, left, kind_of(word), words),
-        Place::Cells(left) => at_cells(alloc, reader, left, kind_of(word), words),
-        Place::Ended => Err(Refusal::Unexpected),
+        ExpectedLine::Head => at_head(alloc, reader, kind_of(word), words),
+        ExpectedLine::Tokens => at_tokens(alloc, reader, kind_of(word), words),
+        ExpectedLine::Costs => at_costs(alloc, reader, kind_of(word), words),
+        ExpectedLine::Starts => at_starts(alloc, reader, kind_of(word), words),
+        ExpectedLine::Productions => at_productions(reader, kind_of(word), words),
+        ExpectedLine::Listing(left) => at_listing(alloc, reader, left, word, words, line),
+        ExpectedLine::Between(left) => between(alloc, reader, left, kind_of(word), words),
+        ExpectedLine::Items(left) => at_items(alloc, reader, left, kind_of(word), words),
+        ExpectedLine::Edges(left) => at_edges(alloc, reader, left, kind_of(word), words),
+        ExpectedLine::Cells(left) => at_cells(alloc, reader, left, kind_of(word), words),
+        ExpectedLine::Ended => Err(LineRefusal::Unexpected),
     }
 }
 
-/// Reads one line more. Where the line is refused, nothing is said of what the reader holds.
+/// Reads the next line. If the line is refused, nothing is said of the content of the reader.
 #[tactic(auto, unfolding(crate::specs::code::Machine::next))]
-pub(crate) fn advance(alloc: Global, reader: &mut Reader, line: &[&[u8]]) -> Result<(), Refusal>
-    ensures { Goes (machine.next reader.old (map (λ w. w.now) line.now)) reader.new result }
+pub(crate) fn advance(alloc: Global, reader: &mut Reader, line: &[&[u8]]) -> Result<(), LineRefusal>
+    ensures { AdvancesTo (machine.next reader.old (map (λ w. w.now) line.now)) reader.new result }
 {
     match line {
         [word, words @ ..] => {
             let place = reader.place;
             advance_at(alloc, place, reader, word, words, line)
         }
-        [] => Err(Refusal::Unexpected),
+        [] => Err(LineRefusal::Unexpected),
     }
 }

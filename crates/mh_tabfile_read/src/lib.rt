@@ -1,4 +1,4 @@
-//! Table files, read: the table that a file spells, or its first line that is not of the form.
+//! Reading table files: the content that a file spells, or its first bad line.
 #![tactic(auto)]
 
 mod advance;

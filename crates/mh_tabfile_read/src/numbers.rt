@@ -25,7 +25,7 @@ fn has_zero_first(word: &[u8]) -> bool
     }
 }
 
-/// The value of digits, where it has 32 bits.
+/// The value of decimal digits, if it is below 2^32.
 fn value_of(word: &[u8]) -> Option<u32>
     requires { list_all is_digit_byte word.now ≡ true }
     ensures { result ≡ small_value word.now }
@@ -40,7 +40,7 @@ fn value_of(word: &[u8]) -> Option<u32>
     Some(value as u32)
 }
 
-/// The number that a word is: decimal digits with no zero in front of others, for a number of 32 bits.
+/// The number that a word spells: decimal digits without leading zeros, below 2^32.
 #[tactic(auto, unfolding(crate::specs::code::Numbers::number_of))]
 pub(crate) fn number_of(word: &[u8]) -> Option<u32>
     ensures { result ≡ number_read word.now }

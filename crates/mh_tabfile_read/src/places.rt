@@ -1,11 +1,11 @@
-//! Where a reader stands, and what it has read.
+//! The state of the reader.
 use mh_grammar::{Name, Sequence};
 use mh_resolve_cells::Mode;
 use mh_tabfile_form::{RawCell, RawEdge, RawItem, RawProduction, RawState};
 
-/// What the first word of a line may be.
+/// The kinds of lines by their first word.
 #[derive(Clone, Copy)]
-pub(crate) enum Kind {
+pub(crate) enum LineKind {
     Head,
     Tokens,
     Costs,
@@ -21,9 +21,9 @@ pub(crate) enum Kind {
     Other,
 }
 
-/// Which line may come next. The numbers are those of productions or states that are still to come.
+/// Which line may come next. The number in a variant counts the productions or states that are still to come.
 #[derive(Clone, Copy)]
-pub(crate) enum Place {
+pub(crate) enum ExpectedLine {
     Head,
     Tokens,
     Costs,
@@ -37,7 +37,7 @@ pub(crate) enum Place {
     Ended,
 }
 
-/// What was read, with the parts of the state that is open, and what may come next.
+/// The content read so far, with the parts of the open state, and which line may come next.
 #[derive(Drop)]
 pub(crate) struct Reader {
     pub(crate) mode: Mode,
@@ -49,5 +49,5 @@ pub(crate) struct Reader {
     pub(crate) items: Sequence<RawItem>,
     pub(crate) edges: Sequence<RawEdge>,
     pub(crate) cells: Sequence<RawCell>,
-    pub(crate) place: Place,
+    pub(crate) place: ExpectedLine,
 }

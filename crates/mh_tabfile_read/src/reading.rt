@@ -1,36 +1,36 @@
-//! Table files, read.
+//! Reads table files.
 ghost use Rattle.std.specs.Prelude.{◌≡◌, ◌<◌, ◌≤◌, ◌+◌, ◌^◌, ◌==◌, ℕ, max, map, length, IfOk, Err, Ok, ◌⊎◌, true, false};
 ghost use Rattle.std.specs.List.{slice_split};
 ghost use Rattle.mh_tabfile_form.specs.declared.types.RawTable.{RawTable as Raw};
 ghost use Rattle.mh_tabfile_form.specs.Form.{IsFileOf};
 ghost use Rattle.mh_tabfile_read.specs.Reading.{IsOtherVersion, IsReading};
-ghost use Rattle.mh_tabfile_read.specs.code.Machine.{start, next, finish, Goes};
+ghost use Rattle.mh_tabfile_read.specs.code.Machine.{initial_reader, next, finish, AdvancesTo};
 ghost use Rattle.mh_tabfile_read.specs.code.Numbers.{number_of as number_read};
 ghost use Rattle.mh_tabfile_read.specs.code.Words;
 ghost use Rattle.mh_tabfile_read.specs.code.Lines;
-ghost use Rattle.mh_tabfile_read.specs.code.Lines.{words_of, lines_in, Reaches, HasRead, EndsAt, is_other_head as is_head_of_other};
+ghost use Rattle.mh_tabfile_read.specs.code.Lines.{words_of, lines_in, ReadsLines, ReadsLinesInto, IsFinished, is_other_head as is_head_of_other};
 
-use crate::advance::{Refusal, advance};
+use crate::advance::{LineRefusal, advance};
 use crate::numbers::number_of;
-use crate::places::{Place, Reader};
+use crate::places::{ExpectedLine, Reader};
 use crate::words::{is_word, mode_in};
 use mh_grammar::Sequence;
 use mh_resolve_cells::Mode;
 use mh_tabfile_form::RawTable;
 use std::alloc::{AllocError, Global};
 
-/// Why bytes are no table file.
+/// Why bytes are not a table file.
 #[derive(Clone, Copy)]
 pub enum TabFault {
     /// The file is of another version.
     Version,
-    /// The first line that is not of the form that its place demands, counted from 1.
+    /// The number of the first bad line, from 1.
     TabShape { line: u32 },
     /// Memory ran out.
     Memory,
 }
 
-/// The parts between separators.
+/// Splits the bytes at each separator.
 fn cut(alloc: Global, bytes: &[u8], separator: u8) -> Result<Vec<&[u8]>, AllocError>
     ensures { IfOk result (λ v. map (λ x. x.now) v.items ≡ slice_split (λ b. b == separator) bytes.now) }
 {
@@ -43,7 +43,7 @@ fn is_mode(word: &[u8]) -> bool
     mode_in(word).is_some()
 }
 
-/// Whether a word is the number of another version.
+/// Returns true if the word is a number other than 1 and 2.
 fn is_other_number(word: &[u8]) -> bool
     ensures { result ≡ Lines.is_other_number (number_read word.now) }
 {
@@ -70,7 +70,7 @@ fn is_other_head(words: &[&[u8]]) -> bool
 }
 
 fn fresh(alloc: Global) -> Reader
-    ensures { result ≡ start }
+    ensures { result ≡ initial_reader }
 {
     Reader {
         mode: Mode::Merged,
@@ -82,44 +82,44 @@ fn fresh(alloc: Global) -> Reader
         items: Sequence::new(alloc),
         edges: Sequence::new(alloc),
         cells: Sequence::new(alloc),
-        place: Place::Head,
+        place: ExpectedLine::Head,
     }
 }
 
-/// One line more, cut into its words.
-fn read_line(alloc: Global, reader: &mut Reader, part: &[u8]) -> Result<(), Refusal>
-    ensures { Goes (next reader.old (words_of part.now)) reader.new result }
+/// Splits the next line into words and reads them.
+fn read_line(alloc: Global, reader: &mut Reader, part: &[u8]) -> Result<(), LineRefusal>
+    ensures { AdvancesTo (next reader.old (words_of part.now)) reader.new result }
 {
     let Ok(words) = cut(alloc, part, b' ') else {
-        return Err(Refusal::Memory);
+        return Err(LineRefusal::Memory);
     };
     advance(alloc, reader, words.as_slice())
 }
 
-/// Reads lines with a reader that has read none.
+/// Reads the lines with a reader that has read nothing yet.
 fn read_with(alloc: Global, reader: &mut Reader, parts: &[&[u8]]) -> Result<(), TabFault>
-    requires fresh { reader.old ≡ start }
+    requires fresh { reader.old ≡ initial_reader }
     requires few { length parts.now < 2 ^ 32 }
-    ensures { HasRead (lines_in (map (λ x. x.now) parts.now)) reader.new result }
+    ensures { ReadsLinesInto (lines_in (map (λ x. x.now) parts.now)) reader.new result }
 {
     for (at, part) in parts.iter().enumerate() {
         match read_line(alloc, reader, part) {
             Ok(()) => {}
-            Err(Refusal::Unexpected) => {
+            Err(LineRefusal::Unexpected) => {
                 return Err(TabFault::TabShape {
                     line: at as u32 + 1,
                 });
             }
-            Err(Refusal::Memory) => return Err(TabFault::Memory),
+            Err(LineRefusal::Memory) => return Err(TabFault::Memory),
         }
     }
     Ok(())
 }
 
-/// Reads lines.
+/// Reads the lines.
 fn read_lines(alloc: Global, parts: &[&[u8]]) -> Result<Reader, TabFault>
     requires { length parts.now < 2 ^ 32 }
-    ensures { Reaches (lines_in (map (λ x. x.now) parts.now)) result }
+    ensures { ReadsLines (lines_in (map (λ x. x.now) parts.now)) result }
 {
     let mut reader = fresh(alloc);
     match read_with(alloc, &mut reader, parts) {
@@ -131,7 +131,8 @@ fn read_lines(alloc: Global, parts: &[&[u8]]) -> Result<Reader, TabFault>
     }
 }
 
-/// A line that is not of the form. What was read is let go in one call: letting go of a reader takes long to prove.
+/// Reports a bad line. The content read so far is dropped by this generic call, because dropping a reader takes long to
+/// prove.
 fn misplaced<T: Drop>(read: T, line: u32) -> Result<RawTable, TabFault>
     ensures { result ≡ Err (TabFault.TabShape line) }
 {
@@ -139,13 +140,13 @@ fn misplaced<T: Drop>(read: T, line: u32) -> Result<RawTable, TabFault>
     Err(TabFault::TabShape { line })
 }
 
-/// The table, where the file may end here.
+/// Returns the table if the file may end here, else reports the given line.
 #[tactic(auto, unfolding(crate::specs::code::Machine::finish))]
 fn ended(reader: Reader, line: u32) -> Result<RawTable, TabFault>
-    ensures { EndsAt (finish reader) line result }
+    ensures { IsFinished (finish reader) line result }
 {
     match reader.place {
-        Place::Ended => Ok(RawTable {
+        ExpectedLine::Ended => Ok(RawTable {
             mode: reader.mode,
             tokens: reader.tokens,
             costs: reader.costs,
@@ -157,14 +158,14 @@ fn ended(reader: Reader, line: u32) -> Result<RawTable, TabFault>
     }
 }
 
-/// The table of a file that is cut into its lines and what is after the last LF, where its version is a known one.
+/// Reads a file of a known version. The parts are the file split at LF; the last part has the bytes after the last LF.
 fn read_known(alloc: Global, bytes: &[u8], parts: &[&[u8]]) -> Result<RawTable, TabFault>
     requires cut { map (λ x. x.now) parts.now ≡ slice_split (λ b. b == 10) bytes.now }
     requires some { 0 < length parts.now }
     requires few { length parts.now < 2 ^ 32 }
     ensures { IsReading bytes.now result }
 {
-    // The clauses alone speak of it.
+    // Only the contract speaks of the bytes.
     let _bytes = bytes;
     let count = parts.len() - 1;
     let reader = match read_lines(alloc, &parts[..count]) {
@@ -177,7 +178,7 @@ fn read_known(alloc: Global, bytes: &[u8], parts: &[&[u8]]) -> Result<RawTable, 
     ended(reader, line_of(count as u32))
 }
 
-/// The first line of a file that is cut at its LFs, with an LF after it or without.
+/// Returns the first line of a file that is split at LF, whether LF follows or not.
 fn first_line<'a>(parts: &[&'a [u8]]) -> &'a [u8]
     ensures { result.now ≡ Lines.first_line (map (λ part. part.now) parts.now) }
 {
@@ -187,19 +188,19 @@ fn first_line<'a>(parts: &[&'a [u8]]) -> &'a [u8]
     }
 }
 
-/// Whether a file that is cut into its lines and what is after the last LF is of another version.
+/// Returns true if a file that is split at LF is of another version.
 fn is_other(alloc: Global, bytes: &[u8], parts: &[&[u8]]) -> Result<bool, AllocError>
     requires cut { map (λ x. x.now) parts.now ≡ slice_split (λ b. b == 10) bytes.now }
     requires some { 0 < length parts.now }
     ensures { IfOk result (λ other. (other ≡ true → IsOtherVersion bytes.now) × (other ≡ false → IsOtherVersion bytes.now → ⊥)) }
 {
-    // The clauses alone speak of it.
+    // Only the contract speaks of the bytes.
     let _bytes = bytes;
     let head = cut(alloc, first_line(parts), b' ')?;
     Ok(is_other_head(head.as_slice()))
 }
 
-/// The table of a file that is cut into its lines and what is after the last LF.
+/// Reads a file that is split at LF; the last part has the bytes after the last LF.
 fn read_parts(alloc: Global, bytes: &[u8], parts: &[&[u8]]) -> Result<RawTable, TabFault>
     requires cut { map (λ x. x.now) parts.now ≡ slice_split (λ b. b == 10) bytes.now }
     requires some { 0 < length parts.now }
@@ -216,15 +217,15 @@ fn read_parts(alloc: Global, bytes: &[u8], parts: &[&[u8]]) -> Result<RawTable, 
     read_known(alloc, bytes, parts)
 }
 
-/// The number of the last line, where there are `count` lines; 1 where there is none.
+/// The number of the last line of `count` lines, from 1; also 1 if there is no line.
 fn line_of(count: u32) -> u32
     ensures { result ≡ max 1 count }
 {
     if count == 0 { 1 } else { count }
 }
 
-/// What a table file says; or that it is of another version; or the first of its lines that is not of the form that its
-/// place demands.
+/// Reads a table file. Fails with `Version` if the first line names a version other than 1 and 2, else with `TabShape`
+/// and the number of the first bad line, or if memory runs out.
 pub fn read_tables(alloc: Global, bytes: &[u8]) -> Result<RawTable, TabFault>
     requires { length bytes.now < 2 ^ 31 }
     ensures reading { IsReading bytes.now result }

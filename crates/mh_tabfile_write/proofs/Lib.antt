@@ -1,2 +1,2 @@
-pub mod Legible
-pub mod Written
+pub mod WrittenIsFile
+pub mod LinesWritten

@@ -1,17 +1,17 @@
-//! What table files keep: an empty call that says so to contracts.
+//! The law of writing table files, as a call without effect whose contract other crates can use.
 ghost use Rattle.std.specs.Prelude.{◌≤◌};
 ghost use Rattle.mh_grammar.specs.Plain.{plain_of, IsInRange};
 ghost use Rattle.mh_items_kernels.specs.Automaton.{IsAutomaton};
 ghost use Rattle.mh_resolve_cells.specs.States.{IsTableOf};
 ghost use Rattle.mh_tabfile_form.specs.Form.{table_text, IsFileOf};
-ghost use Rattle.mh_tabfile_form.specs.Written.{HasWordNames, raw_of};
+ghost use Rattle.mh_tabfile_form.specs.TableContent.{HasWordNames, raw_of};
 
 use mh_grammar::Grammar;
 use mh_items_kernels::Automaton;
 use mh_resolve_cells::Mode;
 use mh_tables_core::Table;
 
-/// What is written of a grammar whose names are words is a file of what was written.
+/// If the names of the grammar are words, the text that `write_tables` writes is a table file with the same content.
 pub fn written_is_file<const W: usize>(
     grammar: &Grammar,
     automaton: &Automaton<W>,

@@ -1,4 +1,4 @@
-//! Table files, written: the automaton of a grammar with its table, by names.
+//! Writing table files: the automaton of a grammar with its table, by names.
 #![tactic(auto)]
 
 mod laws;

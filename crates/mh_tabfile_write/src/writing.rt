@@ -1,5 +1,5 @@
-//! Table files, written. Each function writes behind what a text holds, and fails for want of memory alone; then a front of
-//! what it writes may be there.
+//! Writes table files. Each function appends to a text and fails only if memory runs out; then the text may have only a
+//! part of the bytes that the function writes.
 ghost use Rattle.std.specs.Prelude.{◌≡◌, ◌∷◌, ◌++◌, ◌<◌, ◌≤◌, ◌^◌, [], map, length, codes, decimal, Some, IfOk, OnOk};
 ghost use Rattle.std.specs.List.{All};
 ghost use Rattle.mh_grammar.specs.Plain.{plain_of, IsInRange};
@@ -10,7 +10,7 @@ ghost use Rattle.mh_tables_core.specs.Table.{state_at};
 ghost use Rattle.mh_resolve_cells.specs.States.{IsTableOf};
 ghost use Rattle.mh_resolve_cells.specs.Names.{look_name as name_of_look};
 ghost use Rattle.mh_tabfile_form.specs.Form.{count_line, production_line, item_line, edge_line, cell_line, fallback_line, cells_lines, state_lines, states_lines, table_text};
-ghost use Rattle.mh_tabfile_form.specs.Written.{raw_production, raw_item, raw_edge, raw_cell, raw_row, raw_cells, raw_state_of, raw_states, raw_of};
+ghost use Rattle.mh_tabfile_form.specs.TableContent.{raw_production, raw_item, raw_edge, raw_cell, raw_row, raw_cells, raw_state_of, raw_states, raw_of};
 ghost use Rattle.mh_tabfile_write.specs.code.Texts.{words_after, line_written, lines_written};
 
 use mh_grammar::{
@@ -24,7 +24,7 @@ use mh_sets::TokenSet;
 use mh_tables_core::{Action, Fallback, Table};
 use std::alloc::Global;
 
-/// A word behind another.
+/// Appends a space and a word.
 fn write_word(text: &mut Vec<u8>, word: &[u8]) -> Result<(), Memory>
     ensures { OnOk result (text.new.items ≡ text.old.items ++ 32 ∷ word.now) }
 {
@@ -33,7 +33,7 @@ fn write_word(text: &mut Vec<u8>, word: &[u8]) -> Result<(), Memory>
     Ok(())
 }
 
-/// A number behind a word.
+/// Appends a space and a number.
 fn write_numeral(alloc: Global, text: &mut Vec<u8>, number: u32) -> Result<(), Memory>
     ensures { OnOk result (text.new.items ≡ text.old.items ++ 32 ∷ decimal number) }
 {
@@ -41,7 +41,7 @@ fn write_numeral(alloc: Global, text: &mut Vec<u8>, number: u32) -> Result<(), M
     write_number(alloc, text, number)
 }
 
-/// A line of a word and a number.
+/// Appends a line of a keyword and a number.
 fn write_count(alloc: Global, text: &mut Vec<u8>, key: &[u8], count: u32) -> Result<(), Memory>
     ensures { OnOk result (text.new.items ≡ text.old.items ++ line_written (count_line key.now count)) }
 {
@@ -245,7 +245,7 @@ fn write_edges(
     Ok(())
 }
 
-/// The line of a token that acts.
+/// Appends the line of a cell that shifts or reduces.
 fn write_acting(
     alloc: Global,
     text: &mut Vec<u8>,
@@ -312,7 +312,7 @@ fn write_fallback(alloc: Global, text: &mut Vec<u8>, fallback: Fallback) -> Resu
     }
 }
 
-/// The default of a state, or else its cells.
+/// Appends the default action of a state, or its cells if it has no default action.
 #[tactic(auto, unfolding(mh_tables_core::specs::Table::fallback_of))]
 fn write_actions(
     alloc: Global,
@@ -381,8 +381,8 @@ fn write_states<const W: usize>(
     Ok(())
 }
 
-/// The table file of a grammar's automaton and table, in version 2. The table is the one that the automaton's states
-/// resolve to in the mode. Fails for want of memory alone.
+/// Returns the table file, in version 2, of a grammar's automaton and table. The table must be the one that the states
+/// of the automaton resolve to in this mode. Fails only if memory runs out.
 pub fn write_tables<const W: usize>(
     alloc: Global,
     grammar: &Grammar,
@@ -402,7 +402,7 @@ pub fn write_tables<const W: usize>(
     Ok(text)
 }
 
-/// The same into a text that is empty.
+/// Writes the file into an empty text.
 fn write_all<const W: usize>(
     alloc: Global,
     text: &mut Vec<u8>,

@@ -1,4 +1,4 @@
-pub mod Finding
-pub mod Passing
-pub mod Trying
-pub mod Waiting
+pub mod FirstLoop
+pub mod BoundsProveHalting
+pub mod ReducedWithin
+pub mod StopsWithoutDefault

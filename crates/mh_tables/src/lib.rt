@@ -1,12 +1,13 @@
-//! The test that every run on a table ends: no relative run makes too many reductions, or the first that does is told.
+//! The test that every run on a table ends: it finds that no relative run makes too many reductions, or the first one
+//! that does.
 #![tactic(auto)]
 
+mod bounds;
 mod checking;
-mod passages;
-mod relative;
+mod relative_runs;
 
 pub use checking::{HaltFault, check_halts};
 pub use mh_tables_core::{
-    Action, Choice, CoreItem, Fallback, Halting, MAX_REDUCTIONS, StateParts, Table, choose,
+    Action, Fallback, Halting, MAX_REDUCTIONS, NextAction, Place, StateParts, Table, choose,
     halting_of, table_of,
 };

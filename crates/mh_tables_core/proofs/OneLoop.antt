@@ -1,11 +1,11 @@
--- The first relative run that loops is one.
+-- Proves that the first relative run that loops is unique.
 use Rattle.std.proofs.Common.{◌≡◌, ℕ, ◌<◌, ◌⊎◌, inl, inr, Some, None, Option, refl, ap, arith}
 use Rattle.std.proofs.lemmas.Bool.{cases_lt}
 use Rattle.mh_tables_core.specs.Table.{TableData}
-use Rattle.mh_tables_core.specs.Halting.{Before, LoopsAt}
+use Rattle.mh_tables_core.specs.Halting.{IsOptionBefore, LoopsAt}
 
--- none comes first of two that loop first
-before_or : (a b : Option ℕ) → Before a b ⊎ ((a ≡ b) ⊎ Before b a)
+-- The order of optional numbers is total.
+before_or : (a b : Option ℕ) → IsOptionBefore a b ⊎ ((a ≡ b) ⊎ IsOptionBefore b a)
 before_or None None = inr (inl refl)
 before_or None (Some b) = inl tt
 before_or (Some a) None = inr (inr tt)
@@ -48,9 +48,9 @@ same_look t below s look look' h h' =
       ])
     ]
 
--- a table has one first relative run that loops
-pub one_loop : (t : TableData) (below : Option ℕ) (s : ℕ) (look below' : Option ℕ) (s' : ℕ) (look' : Option ℕ) → LoopsAt t below s look → LoopsAt t below' s' look' → (below ≡ below') × (s ≡ s') × (look ≡ look')
-one_loop t below s look below' s' look' h h' =
+-- A table has at most one first relative run that loops.
+pub loop_unique : (t : TableData) (below : Option ℕ) (s : ℕ) (look below' : Option ℕ) (s' : ℕ) (look' : Option ℕ) → LoopsAt t below s look → LoopsAt t below' s' look' → (below ≡ below') × (s ≡ s') × (look ≡ look')
+loop_unique t below s look below' s' look' h h' =
     let b : below ≡ below' = same_below t below s look below' s' look' h h' in
     let h1 : LoopsAt t below s' look' = rw (← b) at h' in
     let e : s ≡ s' = same_state t below s look s' look' h h1 in

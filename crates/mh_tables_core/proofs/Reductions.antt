@@ -1,4 +1,4 @@
--- What a move says, and reductions one after another.
+-- Lemmas on the next move, and on sequences of reductions.
 use Rattle.std.proofs.Common.{◌≡◌, ℕ, zero, suc, ◌+◌, ◌-◌, ◌<◌, ◌⊎◌, inl, inr, List, [], ◌∷◌, ◌++◌, length, take, drop, Some, None, Option, Bool, true, false, cond, nat_lt, refl, ap, sym, arith, length-drop, ◌∙◌}
 use Rattle.std.proofs.lemmas.Bool.{ltb-true}
 use Rattle.std.proofs.lemmas.List.{get_or-drop, length-take-le, drop-append-le, drop-take}
@@ -10,8 +10,8 @@ use Rattle.mh_tables_core.specs.declared.parts.Fallback.TheVariants as fallbacks
 use Rattle.mh_grammar.specs.Plain.{rhs_of}
 use Rattle.mh_tables_core.specs.Table.{TableData, cell_of, fallback_of}
 use Rattle.mh_tables_core.specs.Facts.{ReducesBy}
-use Rattle.mh_tables_core.specs.Run.{Config, Move, Accepts, Asks, Refuses, Shifts, Reduces as Reducing, move_of, move_of_next, move_of_action, move_by_default, top_of, reduce, push_goto, reduction, reductions, reduced_by, Goes, step, after, next_of}
-use Rattle.mh_tables_core.proofs.Path.{Finds, reduce_finds}
+use Rattle.mh_tables_core.specs.Run.{Config, RunMove, Accepts, Asks, Refuses, Shifts, Reduces as Reducing, run_move_of, move_of_next, move_of_action, move_by_default, top_of, reduce, push_goto, reduction, reductions, reduced_by, Goes, step, after, next_of}
+use Rattle.mh_tables_core.proofs.IsPath.{FindsStatesAndEdge, reduce_is}
 
 pub action_reduces : (a : Action) (p : ℕ) → move_of_action a ≡ Reducing p → a ≡ actions.Reduce p
 action_reduces (actions.Shift j) p e = cc
@@ -27,35 +27,35 @@ next_reduces : (t : TableData) (s : ℕ) (left : List ℕ) (p : ℕ) → move_of
 next_reduces t s [] p e = cc
 next_reduces t s (z ∷ left) p e = (z, action_reduces (cell_of t s z) p e)
 
-by_default_reduces : (f : Option Fallback) (m : Move) (p : ℕ) → move_by_default f m ≡ Reducing p → (f ≡ Some (fallbacks.Reduce p)) ⊎ (m ≡ Reducing p)
+by_default_reduces : (f : Option Fallback) (m : RunMove) (p : ℕ) → move_by_default f m ≡ Reducing p → (f ≡ Some (fallbacks.Reduce p)) ⊎ (m ≡ Reducing p)
 by_default_reduces None m p e = inr e
 by_default_reduces (Some fallbacks.Accept) m p e = cc
 by_default_reduces (Some (fallbacks.Reduce q)) m p e = inl cc
 
-by_default_shifts : (f : Option Fallback) (m : Move) (j : ℕ) → move_by_default f m ≡ Shifts j → m ≡ Shifts j
+by_default_shifts : (f : Option Fallback) (m : RunMove) (j : ℕ) → move_by_default f m ≡ Shifts j → m ≡ Shifts j
 by_default_shifts None m j e = e
 by_default_shifts (Some fallbacks.Accept) m j e = cc
 by_default_shifts (Some (fallbacks.Reduce q)) m j e = cc
 
--- a state that reduces does so by its default or by a cell
-pub reduces_from_move : (t : TableData) (s : ℕ) (left : List ℕ) (p : ℕ) → move_of t s left ≡ Reducing p → ReducesBy t s p
-unfolding move_of
+-- A state that reduces a production does so by its default or by a cell.
+pub reduces_from_move : (t : TableData) (s : ℕ) (left : List ℕ) (p : ℕ) → run_move_of t s left ≡ Reducing p → ReducesBy t s p
+unfolding run_move_of
 reduces_from_move t s left p e =
     elim (by_default_reduces (fallback_of t s) (move_of_next t s left) p e) [ inl d ↦ inl d | inr m ↦ inr (next_reduces t s left p m) ]
 
--- a state that shifts does so by the cell of the next token
-pub shifts_from_move : (t : TableData) (s z : ℕ) (left : List ℕ) (j : ℕ) → move_of t s (z ∷ left) ≡ Shifts j → cell_of t s z ≡ actions.Shift j
-unfolding move_of
+-- A state that shifts a token does so by the cell of this token.
+pub shifts_from_move : (t : TableData) (s z : ℕ) (left : List ℕ) (j : ℕ) → run_move_of t s (z ∷ left) ≡ Shifts j → cell_of t s z ≡ actions.Shift j
+unfolding run_move_of
 shifts_from_move t s z left j e = action_shifts (cell_of t s z) j (by_default_shifts (fallback_of t s) _ j e)
 
--- with no token to come no state shifts
-pub no_shift_at_end : (t : TableData) (s j : ℕ) → move_of t s [] ≡ Shifts j → ⊥
-unfolding move_of
+-- Without a next token no state shifts.
+pub no_shift_at_end : (t : TableData) (s j : ℕ) → run_move_of t s [] ≡ Shifts j → ⊥
+unfolding run_move_of
 no_shift_at_end t s j e = let m : Asks ≡ Shifts j = by_default_shifts (fallback_of t s) Asks j e in cc
 
--- the move depends on the next token alone
-pub move_at_next : (t : TableData) (s z : ℕ) (left : List ℕ) → move_of t s (z ∷ left) ≡ move_of t s (z ∷ [])
-unfolding move_of
+-- The move depends only on the next token.
+pub move_at_next : (t : TableData) (s z : ℕ) (left : List ℕ) → run_move_of t s (z ∷ left) ≡ run_move_of t s (z ∷ [])
+unfolding run_move_of
 move_at_next t s z left = refl
 
 pub top-drop : (stack : List ℕ) (floor : ℕ) → floor < length stack → top_of (drop floor stack) ≡ top_of stack
@@ -71,9 +71,9 @@ push_goto_some : (kept : List ℕ) (o : Option ℕ) (new : List ℕ) → push_go
 push_goto_some kept None new e = cc
 push_goto_some kept (Some g) new e = (g, refl, cc)
 
--- a reduction that is made finds its states and its edge
+-- A reduction that succeeds finds its states and its edge.
 pub record Reduced (t : TableData) (p : ℕ) (stack new : List ℕ) : Type 0 where
-  pub found : Finds t p stack
+  pub found : FindsStatesAndEdge t p stack
   pub is : new ≡ take (length stack - length (rhs_of t.grammar p)) stack ++ found.goto.0 ∷ []
 
 pub reduced : (t : TableData) (p : ℕ) (stack new : List ℕ) → reduce t p stack ≡ Some new → Reduced t p stack new
@@ -86,7 +86,7 @@ reduced t p stack new e =
       is = pushed.2;
     }
 
--- a reduction that leaves the place floor on the stack is one of the part of the stack from there
+-- A reduction that does not reach down to index `floor` is also a reduction of the stack from this index on.
 pub reduce-drop : (t : TableData) (p : ℕ) (stack : List ℕ) (floor : ℕ) (new : List ℕ) → floor + length (rhs_of t.grammar p) < length stack → Reduced t p stack new → reduce t p (drop floor stack) ≡ Some (drop floor new)
 reduce-drop t p stack floor new lt r =
     let m = length (rhs_of t.grammar p) in
@@ -95,34 +95,35 @@ reduce-drop t p stack floor new lt r =
     let same : take (length (drop floor stack) - m) (drop floor stack) ≡ drop floor kept =
     rw len (let e : floor + (length stack - floor - m) ≡ length stack - m = omega arith in rw (← drop-take floor (length stack - floor - m) stack, e) refl) in
     let within : floor < length kept = rw (length-take-le (length stack - m) stack (omega arith)) (omega arith) in
-    let found : Finds t p (drop floor stack) = record {
+    let found : FindsStatesAndEdge t p (drop floor stack) = record {
       states = let l = length-drop floor stack in omega arith;
       goto = (r.found.goto.0, rw (same, top-drop kept floor within) r.found.goto.1);
     } in
-    reduce_finds t p (drop floor stack) found ∙ ap (λ (l : List ℕ). Some l) (rw same (rw r.is (sym (drop-append-le floor kept (r.found.goto.0 ∷ []) (omega arith)))))
+    reduce_is t p (drop floor stack) found ∙ ap (λ (l : List ℕ). Some l) (rw same (rw r.is (sym (drop-append-le floor kept (r.found.goto.0 ∷ []) (omega arith)))))
 
-reduced_by_some : (t : TableData) (stack new : List ℕ) (m : Move) → reduced_by t stack m ≡ Some new → (p : ℕ) × (m ≡ Reducing p) × (reduce t p stack ≡ Some new)
+reduced_by_some : (t : TableData) (stack new : List ℕ) (m : RunMove) → reduced_by t stack m ≡ Some new → (p : ℕ) × (m ≡ Reducing p) × (reduce t p stack ≡ Some new)
 reduced_by_some t stack new Accepts e = cc
 reduced_by_some t stack new Asks e = cc
 reduced_by_some t stack new Refuses e = cc
 reduced_by_some t stack new (Shifts j) e = cc
 reduced_by_some t stack new (Reducing p) e = (p, refl, e)
 
-pub reduction_some : (t : TableData) (left stack new : List ℕ) → reduction t left stack ≡ Some new → (p : ℕ) × (move_of t (top_of stack) left ≡ Reducing p) × (reduce t p stack ≡ Some new)
+pub reduction_some : (t : TableData) (left stack new : List ℕ) → reduction t left stack ≡ Some new → (p : ℕ) × (run_move_of t (top_of stack) left ≡ Reducing p) × (reduce t p stack ≡ Some new)
 unfolding reduction
-reduction_some t left stack new e = reduced_by_some t stack new (move_of t (top_of stack) left) e
+reduction_some t left stack new e = reduced_by_some t stack new (run_move_of t (top_of stack) left) e
 
-pub reduction_is : (t : TableData) (left stack new : List ℕ) (p : ℕ) → move_of t (top_of stack) left ≡ Reducing p → reduce t p stack ≡ Some new → reduction t left stack ≡ Some new
+pub reduction_is : (t : TableData) (left stack new : List ℕ) (p : ℕ) → run_move_of t (top_of stack) left ≡ Reducing p → reduce t p stack ≡ Some new → reduction t left stack ≡ Some new
 unfolding reduction
 reduction_is t left stack new p m e = rw m e
 
--- so is a reduction by the next token
-pub reduction-drop : (t : TableData) (left stack new : List ℕ) (floor p : ℕ) → move_of t (top_of stack) left ≡ Reducing p → floor + length (rhs_of t.grammar p) < length stack → reduce t p stack ≡ Some new
+-- If the next move is a reduction that does not reach down to index `floor`, it is also the next move of the stack from
+-- this index on.
+pub reduction-drop : (t : TableData) (left stack new : List ℕ) (floor p : ℕ) → run_move_of t (top_of stack) left ≡ Reducing p → floor + length (rhs_of t.grammar p) < length stack → reduce t p stack ≡ Some new
     → reduction t left (drop floor stack) ≡ Some (drop floor new)
 reduction-drop t left stack new floor p m lt e =
     reduction_is t left (drop floor stack) (drop floor new) p (rw (top-drop stack floor (omega arith)) m) (reduce-drop t p stack floor new lt (reduced t p stack new e))
 
--- one reduction before
+-- A reduction followed by n reductions makes n + 1 reductions.
 pub reductions_before : (t : TableData) (left stack mid new : List ℕ) (n : ℕ) → reduction t left stack ≡ Some mid → reductions t left n mid ≡ Some new → reductions t left (suc n) stack ≡ Some new
 unfolding reductions
 reductions_before t left stack mid new n a b = rw a b
@@ -143,7 +144,7 @@ pub reductions_zero : (t : TableData) (left stack new : List ℕ) → reductions
 unfolding reductions
 reductions_zero t left stack new e = cc
 
--- one more reduction
+-- Reductions followed by one reduction make one reduction more.
 pub reductions_more : (t : TableData) (left stack mid new : List ℕ) (n : ℕ) → reductions t left n stack ≡ Some mid → reduction t left mid ≡ Some new → reductions t left (suc n) stack ≡ Some new
 reductions_more t left stack mid new zero a b =
     reductions_before t left stack new new zero (rw (reductions_zero t left stack mid a) b) (reductions_none t left new)
@@ -151,12 +152,12 @@ reductions_more t left stack mid new (suc n) a b =
     let split = reductions_split t left stack mid n a in
     reductions_before t left stack split.0 new (suc n) split.1 (reductions_more t left split.0 mid new n split.2 b)
 
--- a reduction is a step
+-- A reduction is one step.
 pub step_reduces : (t : TableData) (c : Config) (new : List ℕ) → reduction t c.left c.stack ≡ Some new → step t c ≡ Goes (record { stack = new; read = c.read; left = c.left })
 unfolding step
 step_reduces t c new e = let r = reduction_some t c.left c.stack new e in rw (r.1, r.2) refl
 
--- so many reductions are so many steps
+-- Reductions are as many steps.
 pub after_reductions : (t : TableData) (read : ℕ) (left stack new : List ℕ) (n : ℕ) → reductions t left n stack ≡ Some new
     → after t n (record { stack = stack; read = read; left = left }) ≡ record { stack = new; read = read; left = left }
 after_reductions t read left stack new zero e = ap (λ (s : List ℕ). record { stack = s; read = read; left = left }) (reductions_zero t left stack new e)
@@ -164,14 +165,14 @@ after_reductions t read left stack new (suc n) e =
     let split = reductions_split t left stack new n e in
     rw (step_reduces t (record { stack = stack; read = read; left = left }) split.0 split.1) (after_reductions t read left split.0 new n split.2)
 
--- steps after steps
+-- After n + m steps the run is where it is m steps after the first n.
 pub after-add : (t : TableData) (n m : ℕ) (c : Config) → after t (n + m) c ≡ after t m (after t n c)
 after-add t zero m c = let e : zero + m ≡ m = omega arith in rw e refl
 after-add t (suc n) m c = let e : suc n + m ≡ suc (n + m) = omega arith in rw e (after-add t n m (next_of c (step t c)))
 
--- reductions depend on the next token alone
+-- Reductions depend only on the next token.
 reduction_at_next : (t : TableData) (z : ℕ) (rest stack : List ℕ) → reduction t (z ∷ rest) stack ≡ reduction t (z ∷ []) stack
-unfolding reduction move_of
+unfolding reduction run_move_of
 reduction_at_next t z rest stack = refl
 
 pub reductions_at_next : (t : TableData) (z : ℕ) (rest stack new : List ℕ) (n : ℕ) → reductions t (z ∷ []) n stack ≡ Some new → reductions t (z ∷ rest) n stack ≡ Some new

@@ -1,8 +1,8 @@
-pub mod Deep
+pub mod TooDeep
 pub mod Facts
 pub mod Failing
 pub mod Halting
-pub mod Moves
+pub mod NextActions
 pub mod Run
 pub mod RunTrees
 pub mod Table

@@ -7,7 +7,7 @@ ghost use Rattle.mh_tables_core.specs.Run.{VerdictOf, Ending};
 use crate::table::Table;
 use std::marker::Model;
 
-/// The most reductions that a relative run may make: this project's own limit.
+/// The greatest number of reductions that a relative run may make (this project's own limit).
 pub const MAX_REDUCTIONS: u32 = 10_000;
 
 /// A table on which no relative run makes more than `MAX_REDUCTIONS` reductions, so that every run ends.
@@ -27,7 +27,7 @@ impl Model for Halting {
     ghost invariant = { λ h. HaltingFacts h.table };
 }
 
-/// The table, whose relative runs are known to make no more than `MAX_REDUCTIONS` reductions. It takes no memory.
+/// Returns the table as one that passed the halting test, which its precondition states. It takes no memory.
 pub fn halting_of(table: Table) -> Halting
     requires { AlwaysHalts table }
     ensures { result ≡ table }
@@ -37,7 +37,7 @@ pub fn halting_of(table: Table) -> Halting
 }
 
 impl Halting {
-    /// Its table.
+    /// The table.
     pub fn table(&self) -> &Table
         ensures table { result.now ≡ self.now }
         ensures facts { HaltingFacts self.now }
@@ -45,7 +45,7 @@ impl Halting {
         &self.table
     }
 
-    /// Each start has a verdict on each sentence: an empty call that tells it to contracts.
+    /// Law: each start has a verdict on each sentence. The body is empty; only the contract matters.
     pub fn run_ends(&self)
         ensures { (start : ℕ) (w : List ℕ) → start < length self.now.grammar.starts → AllByRecursion (λ z. z < self.now.grammar.tokens) w → (how : Ending) × VerdictOf self.now start w how }
     {

@@ -1,4 +1,4 @@
-//! Tables of a parser with the facts that they keep, their runs, and tables on which every run ends.
+//! Tables of LR(1) parsers with their invariant, their runs, and tables on which every run ends.
 #![tactic(auto)]
 
 mod halting;
@@ -8,6 +8,6 @@ mod parts;
 mod table;
 
 pub use halting::{Halting, MAX_REDUCTIONS, halting_of};
-pub use moves::{Choice, choose};
-pub use parts::{Action, CoreItem, Fallback, StateParts};
+pub use moves::{NextAction, choose};
+pub use parts::{Action, Fallback, Place, StateParts};
 pub use table::{Table, table_of};

@@ -1,44 +1,44 @@
-//! What a state does next: by its default, else by the cell of the next token.
+//! The next move of a state: by its default, else by the cell of the next token.
 ghost use Rattle.std.specs.Prelude.{◌≡◌, ◌<◌, length};
-ghost use Rattle.mh_tables_core.specs.Run.{move_of};
+ghost use Rattle.mh_tables_core.specs.Run.{run_move_of};
 ghost use Rattle.mh_tables_core.specs.Halting.{IsLook, look_list};
-ghost use Rattle.mh_tables_core.specs.Moves.{move_for};
+ghost use Rattle.mh_tables_core.specs.NextActions.{move_for};
 
 use crate::parts::{Action, Fallback};
 use crate::table::Table;
 use mh_grammar::Token;
 
-/// The move of a state: accepting or reducing without a look, asking for a token, or what its cell on the token says.
+/// The next move of a state.
 #[derive(Clone, Copy)]
-pub enum Choice {
-    /// It accepts, by its default.
+pub enum NextAction {
+    /// Accept, by the default.
     Accept,
-    /// It has no default and wants the next token, where none is given.
+    /// Ask for the next token: the state has no default, and no token is given.
     Ask,
-    /// It refuses the next token.
+    /// Refuse the next token.
     Refuse,
-    /// It shifts the next token and goes to this state.
+    /// Shift the next token and go to this state.
     Shift(u32),
-    /// It reduces this production, by its default or on the next token.
+    /// Reduce this production, by the default or on the next token.
     Reduce(u32),
 }
 
-/// The move of a state that exists, with the next token of the table, or none.
-#[tactic(auto, unfolding(crate::specs::Run::move_of))]
-pub fn choose(table: &Table, state: u32, look: Option<Token>) -> Choice
+/// Returns the next move of a state, given the next token or none.
+#[tactic(auto, unfolding(crate::specs::Run::run_move_of))]
+pub fn choose(table: &Table, state: u32, look: Option<Token>) -> NextAction
     requires state { state < length table.now.states }
     requires look { IsLook table.now look }
-    ensures { move_for result ≡ move_of table.now state (look_list look) }
+    ensures { move_for result ≡ run_move_of table.now state (look_list look) }
 {
     match table.fallback(state) {
-        Some(Fallback::Accept) => Choice::Accept,
-        Some(Fallback::Reduce(production)) => Choice::Reduce(production),
+        Some(Fallback::Accept) => NextAction::Accept,
+        Some(Fallback::Reduce(production)) => NextAction::Reduce(production),
         None => match look {
-            None => Choice::Ask,
+            None => NextAction::Ask,
             Some(token) => match table.action(state, token) {
-                Action::Shift(target) => Choice::Shift(target),
-                Action::Reduce(production) => Choice::Reduce(production),
-                Action::Refuse => Choice::Refuse,
+                Action::Shift(target) => NextAction::Shift(target),
+                Action::Reduce(production) => NextAction::Reduce(production),
+                Action::Refuse => NextAction::Refuse,
             },
         },
     }

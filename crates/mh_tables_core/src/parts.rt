@@ -1,40 +1,44 @@
-//! The parts that a table is made of.
+//! The parts of a table.
 use mh_grammar::{Edge, Sequence};
 
-/// What a cell does: shift and go to a state, reduce a production, or refuse the token.
+/// An action of a cell.
 #[derive(Clone, Copy, Debug, PartialEq, Eq)]
 pub enum Action {
     /// Shift the token and go to this state.
     Shift(u32),
-    /// Reduce this production, an ordinary one.
+    /// Reduce this production, which is not a start production.
     Reduce(u32),
     /// Refuse the token.
     Refuse,
 }
 
-/// What a state does by default, without asking for a token.
+/// The default of a state: an action that does not ask for a token.
 #[derive(Clone, Copy, Debug, PartialEq, Eq)]
 pub enum Fallback {
     /// Accept.
     Accept,
-    /// Reduce this production, an ordinary one.
+    /// Reduce this production, which is not a start production.
     Reduce(u32),
 }
 
-/// A production and a dot in its right side.
+/// A core item: a production and a dot in its right side, without lookaheads.
 #[derive(Clone, Copy)]
-pub struct CoreItem {
-    /// The production's number, below the count of productions; start productions come first.
+pub struct Place {
+    /// The number of the production, below the number of productions; start productions are first.
     pub production: u32,
-    /// How many symbols of the right side stand before the dot, at most all of them.
+    /// The number of symbols of the right side before the dot.
     pub dot: u32,
 }
 
-/// A state: a cell for each token, perhaps a default, its edges in the order of symbols, and its core.
+/// A state: its cells, one for each token; its default, if it has one; its edges in the order of their symbols; and its
+/// core.
 #[derive(Drop)]
 pub struct StateParts {
+    /// The cell of each token.
     pub cells: Sequence<Action>,
+    /// The default, if the state has one.
     pub fallback: Option<Fallback>,
+    /// The edges, in the order of their symbols.
     pub edges: Sequence<Edge>,
-    pub core: Sequence<CoreItem>,
+    pub core: Sequence<Place>,
 }

@@ -1,4 +1,4 @@
-//! A table that keeps its facts.
+//! A table with its invariant.
 ghost use Rattle.std.specs.Prelude.{◌≡◌, ◌<◌, ◌≤◌, Some, ℕ, length, slice_get, IfOk, IfSome};
 ghost use Rattle.mh_grammar.specs.declared.types.Symbol.{Symbol};
 ghost use Rattle.mh_grammar.specs.declared.types.Symbol.TheVariants.{N};
@@ -8,15 +8,15 @@ ghost use Rattle.mh_grammar.specs.Costs.{costs_of};
 ghost use Rattle.mh_tables_core.specs.Table.{TableData, state_at, cell_of, fallback_of, edge_of, cost_of_token, table_data};
 ghost use Rattle.mh_tables_core.specs.Facts.{Facts};
 
-use crate::parts::{Action, CoreItem, Fallback, StateParts};
+use crate::parts::{Action, Fallback, Place, StateParts};
 use mh_grammar::{
     Edge, Grammar, Memory, Production, Sequence, Symbol, Token, TokenInfo, find_edge,
 };
 use std::alloc::{AllocError, Global};
 use std::marker::Model;
 
-/// The table of an LR(1) parser: the states with their cells, defaults, edges and cores, and the grammar without
-/// its names. Each one keeps the facts of its type, so that a reduction of a run always finds its symbols and its goto.
+/// The table of an LR(1) parser: the states with their cells, defaults, edges and cores, and the grammar without its
+/// names. Its invariant guarantees that a reduction of a run always finds its symbols and its goto.
 #[derive(Drop)]
 pub struct Table {
     tokens: u16,
@@ -38,9 +38,9 @@ impl Model for Table {
     ghost invariant = { λ t. Facts (record { grammar = record { tokens = t.tokens; nonterminals = t.nonterminals; starts = t.starts; productions = t.productions }; costs = t.costs; states = t.states }) };
 }
 
-/// What a table keeps of a grammar in lists.
+/// Copies of the parts of a grammar that a table keeps.
 #[derive(Drop)]
-struct Kept {
+struct GrammarCopies {
     starts: Sequence<u16>,
     productions: Sequence<Production>,
     costs: Sequence<u32>,
@@ -76,7 +76,7 @@ fn costs_of(alloc: Global, tokens: &[TokenInfo]) -> Result<Vec<u32>, AllocError>
     Ok(costs)
 }
 
-fn kept_of(alloc: Global, grammar: &Grammar) -> Result<Kept, AllocError>
+fn kept_of(alloc: Global, grammar: &Grammar) -> Result<GrammarCopies, AllocError>
     ensures starts { IfOk result (λ kept. kept.starts ≡ grammar.now.starts) }
     ensures productions { IfOk result (λ kept. kept.productions ≡ grammar.now.productions) }
     ensures costs { IfOk result (λ kept. kept.costs ≡ costs_of grammar.now.tokens) }
@@ -84,14 +84,14 @@ fn kept_of(alloc: Global, grammar: &Grammar) -> Result<Kept, AllocError>
     let starts = Sequence::from_vec(Vec::from_slice(alloc, grammar.starts.as_slice())?);
     let productions = Sequence::from_vec(copies_of(alloc, grammar.productions.as_slice())?);
     let costs = Sequence::from_vec(costs_of(alloc, grammar.tokens.as_slice())?);
-    Ok(Kept {
+    Ok(GrammarCopies {
         starts,
         productions,
         costs,
     })
 }
 
-/// The table of a grammar with these states. Fails for want of memory alone; the states are dropped then.
+/// Returns the table of a grammar with these states. It fails only if there is no memory; then the states are dropped.
 pub fn table_of(alloc: Global, grammar: &Grammar, states: Vec<StateParts>) -> Result<Table, Memory>
     requires { Facts (table_data grammar.now states.items) }
     ensures { IfOk result (λ table. table ≡ table_data grammar.now states.items) }
@@ -108,35 +108,35 @@ pub fn table_of(alloc: Global, grammar: &Grammar, states: Vec<StateParts>) -> Re
 }
 
 impl Table {
-    /// What every table keeps: an empty call that gives its facts to contracts.
+    /// Law: the invariant of the table. The body is empty; only the contract matters.
     pub fn facts(&self)
         ensures { Facts self.now }
     {
         let _states = &self.states;
     }
 
-    /// How many states there are.
+    /// The number of states.
     pub fn states(&self) -> u32
         ensures { result ≡ length self.now.states }
     {
         self.states.len() as u32
     }
 
-    /// How many tokens there are; each state has a cell for each.
+    /// The number of tokens; each state has one cell for each token.
     pub fn tokens(&self) -> u16
         ensures { result ≡ self.now.grammar.tokens }
     {
         self.tokens
     }
 
-    /// How many nonterminals there are.
+    /// The number of nonterminals.
     pub fn nonterminals(&self) -> u16
         ensures { result ≡ self.now.grammar.nonterminals }
     {
         self.nonterminals
     }
 
-    /// What a token costs in a least sentence: from 1 to [`MAX_COST`](mh_grammar::MAX_COST).
+    /// The cost of a token in a least sentence: from 1 to [`MAX_COST`](mh_grammar::MAX_COST).
     #[tactic(auto, unfolding(crate::specs::Table::cost_of_token))]
     pub fn token_cost(&self, token: Token) -> u32
         requires { token < self.now.grammar.tokens }
@@ -145,14 +145,14 @@ impl Table {
         self.costs.as_slice()[token as usize]
     }
 
-    /// How many starts there are; state i below this count is the start state of start i.
+    /// The number of starts. A state below this number is the start state of the start with the same number.
     pub fn starts(&self) -> u16
         ensures { result ≡ length self.now.grammar.starts }
     {
         self.starts.len() as u16
     }
 
-    /// How many productions there are, with the start productions, which come first.
+    /// The number of productions, including the start productions, which are first.
     pub fn productions(&self) -> u32
         ensures { result ≡ production_count self.now.grammar }
     {
@@ -170,7 +170,7 @@ impl Table {
         parts.cells.as_slice()[token as usize]
     }
 
-    /// The default of a state.
+    /// The default of a state, if it has one.
     #[tactic(auto, unfolding(crate::specs::Table::fallback_of))]
     pub fn fallback(&self, state: u32) -> Option<Fallback>
         requires { state < length self.now.states }
@@ -180,7 +180,7 @@ impl Table {
         parts.fallback
     }
 
-    /// The edges of a state, in the order of symbols.
+    /// The edges of a state, in the order of their symbols.
     pub fn edges(&self, state: u32) -> &[Edge]
         requires { state < length self.now.states }
         ensures edges { result.now ≡ (state_at self.now state).edges }
@@ -190,7 +190,7 @@ impl Table {
         parts.edges.as_slice()
     }
 
-    /// Where the edge of a state on a nonterminal leads, if it has one; the nonterminal may be any number.
+    /// The target of the edge of a state on a nonterminal, if there is one; the nonterminal may be any number.
     #[tactic(auto, unfolding(crate::specs::Table::edge_of))]
     pub fn goto(&self, state: u32, nonterminal: u16) -> Option<u32>
         requires { state < length self.now.states }
@@ -200,7 +200,7 @@ impl Table {
     }
 
     /// The core of a state.
-    fn core(&self, state: u32) -> &[CoreItem]
+    fn core(&self, state: u32) -> &[Place]
         requires { state < length self.now.states }
         ensures { result.now ≡ (state_at self.now state).core }
     {
@@ -208,7 +208,8 @@ impl Table {
         parts.core.as_slice()
     }
 
-    /// The symbol of the edges that lead to a state, that of its core before the dot; a start state has none.
+    /// The symbol of the edges that lead to a state, which is the symbol before each dot of its core; `None` for a
+    /// start state.
     pub fn symbol_to(&self, state: u32) -> Option<Symbol>
         requires { state < length self.now.states }
         ensures symbol { (r : ℕ) (x : Symbol) → edge_of self.now r x ≡ Some state → result ≡ Some x }
@@ -223,7 +224,7 @@ impl Table {
         }
     }
 
-    /// The left side of an ordinary production.
+    /// The left side of a production that is not a start production.
     #[tactic(auto, unfolding(mh_grammar::specs::Plain::lhs_of))]
     pub fn lhs_of(&self, production: u32) -> u16
         requires ordinary { length self.now.grammar.starts ≤ production }
@@ -234,7 +235,7 @@ impl Table {
         self.productions.as_slice()[place].lhs
     }
 
-    /// The length of the right side of a production; that of a start production is 1.
+    /// The length of the right side of a production; 1 for a start production.
     #[tactic(auto, unfolding(mh_grammar::specs::Plain::rhs_of))]
     pub fn length_of(&self, production: u32) -> u32
         requires { production < production_count self.now.grammar }
@@ -249,7 +250,7 @@ impl Table {
         }
     }
 
-    /// The symbol at a place of the right side of a production, counted from 0.
+    /// The symbol at an index of the right side of a production, from 0.
     #[tactic(auto, unfolding(mh_grammar::specs::Plain::rhs_of))]
     pub fn symbol_of(&self, production: u32, place: u32) -> Symbol
         requires production { production < production_count self.now.grammar }

@@ -1,4 +1,4 @@
-//! The top call: all that the program does, over any shelf, input and output.
+//! The top call: the whole tool as one function, over any shelf, input and outputs.
 #![tactic(auto)]
 
 mod exit;

@@ -1,11 +1,11 @@
-//! The mode of each job.
+//! Runs the mode of each job.
 ghost use Rattle.std.specs.Prelude.{◌≡◌, ◌≤◌};
 ghost use Rattle.std.specs.List.{All};
-ghost use Rattle.mh_top_drive.specs.code.Steps.{Counts, FileCounts};
-ghost use Rattle.mh_top_plans.specs.Files.{IsTurnOfJob, files_of_mode};
-ghost use Rattle.mh_top_plans.specs.code.Modes.{Followed};
+ghost use Rattle.mh_top_drive.specs.code.ModeCalls.{InputAndOutCounts, ModeShelfCounts};
+ghost use Rattle.mh_top_plans.specs.Files.{IsNextFileOfJob, files_of_mode};
+ghost use Rattle.mh_top_plans.specs.code.Modes.{OpenedAndRan};
 ghost use Rattle.mh_top_plans.specs.Plan.{IsPlanOfJob};
-ghost use Rattle.mh_top_types.specs.code.Prepared.{IsFit};
+ghost use Rattle.mh_top_types.specs.code.Prepared.{IsConsistent};
 
 use mh_opts::Job;
 use mh_outside::{Shelf, Sink, Source};
@@ -19,8 +19,8 @@ use mh_top_plans::{write_at_end, write_made};
 use mh_top_types::Prepared;
 use std::alloc::Global;
 
-/// Runs the mode of the job. A mode that reads messages files takes them from the shelf before it writes anything.
-pub(crate) fn follow<F: Shelf, I: Source, O: Sink, const W: usize>(
+/// Runs the mode of the job. A mode that needs messages files reads them before it writes anything.
+pub(crate) fn run_mode<F: Shelf, I: Source, O: Sink, const W: usize>(
     alloc: Global,
     prepared: &Prepared<W>,
     shelf: &mut F,
@@ -28,14 +28,14 @@ pub(crate) fn follow<F: Shelf, I: Source, O: Sink, const W: usize>(
     out: &mut O,
 ) -> Result<(), Stop>
     requires few { W ≤ 8 }
-    requires fit { IsFit prepared.now }
+    requires fit { IsConsistent prepared.now }
     requires asked { All (F.MayAsk shelf.old) (files_of_mode prepared.now.order) }
-    ensures ran { Followed (IsPlanOfJob prepared.now.order.job (F.files shelf.old) prepared.now)
-        (IsTurnOfJob prepared.now.order.job (F.files shelf.old) prepared.now)
+    ensures ran { OpenedAndRan (IsPlanOfJob prepared.now.order.job (F.files shelf.old) prepared.now)
+        (IsNextFileOfJob prepared.now.order.job (F.files shelf.old) prepared.now)
         (I.left input.old) (I.left input.new) (O.written out.old) (O.written out.new) result }
-    ensures counts { Counts (I.faults input.old) (I.faults input.new)
+    ensures counts { InputAndOutCounts (I.faults input.old) (I.faults input.new)
         (O.faults out.old) (O.faults out.new) result }
-    ensures read { FileCounts (F.faults shelf.old) (F.faults shelf.new) result }
+    ensures read { ModeShelfCounts (F.faults shelf.old) (F.faults shelf.new) result }
     ensures kept { F.files shelf.new ≡ F.files shelf.old }
 {
     match &prepared.order.job {

@@ -1,31 +1,31 @@
--- Each claim of the top call, from how its run ended.
+-- Proves the claims on the top call from the definition of a run.
 use Rattle.std.proofs.Common.{◌≡◌, ◌⊎◌, inl, inr, ℕ, Bool, true, false, List, [], ◌++◌, Option, None, Some, refl, sym, ◌∙◌, ap, subst, arith}
 use Rattle.std.proofs.lemmas.List.{append-nil}
 use Rattle.std.proofs.KnownBytes.{Appends-nil}
 use Rattle.std.specs.Io.KnownBytes.{Appends}
-use Rattle.mh_outside.specs.Faults.{Rose, IsCalm}
+use Rattle.mh_outside.specs.Faults.{HasRisen, HasNotRisen}
 use Rattle.mh_outside.specs.Shelf.{Files}
 use Rattle.mh_grammar.specs.Text.{Text}
-use Rattle.mh_top_drive.specs.Causes.{Halt}
+use Rattle.mh_top_drive.specs.StageResults.{Halt}
 use Rattle.mh_top_drive.specs.Statuses.{status_of}
 use Rattle.mh_top_load.specs.Order.{staged_order}
-use Rattle.mh_top_plans.specs.Plan.{Plan, asks_of, by_plan}
-use Rattle.mh_top_drive.specs.Ways.{AnswersAll, AsksFor, EndsBehind, Outcome, Yields}
+use Rattle.mh_top_plans.specs.Plan.{Plan, asks_of, plan_behavior}
+use Rattle.mh_top_drive.specs.ModeBehavior.{AnswersAll, AreAskedLines, EndsAfterAnswers, Outcome, HasOutcome}
 use Rattle.mh_top_claims.specs.Work.{Work, IsWork}
-use Rattle.mh_top_drive.specs.Drive.{AreFirst, Partly, GotAt, CutAt, WantsAt, IsOfEnd, IsOfLine}
-use Rattle.mh_top_claims.specs.Run.{World, Ran, Finished, CannotReadFile, CannotReadInput, CannotWarn, CannotWrite, CannotSay, NoMemory, Behind, Done, Nothing, Warned, Begun, EndedSo, Says, OfCause, OfFile, OfInput, OfMemory, Does, IsStill}
-use Rattle.mh_top_claims.specs.Claims.{AbsentIsSaid, AsksLines, Completes, Finishes, IsAbsent, IsDone, IsLongFile, IsLongInput, IsOutPart, IsPast, IsStatus, Keeps, LongFileIsSaid, LongInputIsSaid, MisuseHasCause, ReadFaultHasCause, TooBigHasCause, WantKeeps, WriteFaultHasCause, WriteFaultIsSaid, WriteFaultStops, WritesPart, WritesPartOfEach}
+use Rattle.mh_top_drive.specs.ModeRuns.{AreFirstLines, IsPartialRun, ReadFailsAt, WriteFailsAt, LacksMemoryAt, IsEndPrefix, IsAnswerPrefix}
+use Rattle.mh_top_claims.specs.Run.{World, Ran, Finished, CannotReadFile, CannotReadInput, CannotWarn, CannotWrite, CannotSay, NoMemory, AfterWarnings, DoneSoFar, Nothing, Warned, Begun, ModeEnded, HasLastLine, OfCause, OfFile, OfInput, OfMemory, DoesWork, LeavesInputAndOut}
+use Rattle.mh_top_claims.specs.Claims.{AbsentFileIsReported, AsksLines, Completes, Finishes, IsNextFileAbsent, IsStatusWithoutFault, IsNextFileTooLong, ReadsInputOverLimit, IsOutputPrefix, IsInputOverLimit, IsStatus, MeetsClaims, LongFileIsReported, LongInputIsReported, MisuseHasCause, ReadFaultHasCause, TooBigHasCause, OutOfMemoryKeepsTexts, WriteFaultHasCause, WriteFaultIsReported, WriteFaultStops, WritesOutputPrefix, WritesPrefixOfAnyWork}
 use Rattle.mh_top_drive.specs.declared.driving.Asks.{Asks}
 use Rattle.mh_top_drive.specs.declared.driving.Asks.TheVariants.{NoLine, FirstLine, EachLine}
 use Rattle.mh_top_drive.specs.declared.stop.Cause.{Cause}
 use Rattle.mh_top_drive.specs.declared.stop.Cause.TheVariants.{Refused, Misused, Missing, LongFile, LongInput}
-use Rattle.mh_top_claims.proofs.Endings.{AccountsOn, ended, long_gives, misused_says, missing_gives}
-use Rattle.mh_top_claims.proofs.Once.{work_once}
+use Rattle.mh_top_claims.proofs.CausesOfOutcomes.{AccountsOn, ended, long_gives, misused_says, missing_gives}
+use Rattle.mh_top_claims.proofs.WorkUnique.{work_once}
 
-calm_not : (a b : ℕ) → IsCalm a b → Rose a b → ⊥
-calm_not a b calm rose = omega arith
+not_both_risen : (a b : ℕ) → HasNotRisen a b → HasRisen a b → ⊥
+not_both_risen a b calm rose = omega arith
 
-not_done : (status n : ℕ) → status ≡ n → n ≡ 3 ⊎ n ≡ 4 ⊎ n ≡ 6 → IsDone status → ⊥
+not_done : (status n : ℕ) → status ≡ n → n ≡ 3 ⊎ n ≡ 4 ⊎ n ≡ 6 → IsStatusWithoutFault status → ⊥
 not_done status n is other done = grind arith
 
 known_status : (status : ℕ) (cause : Option Cause) → status ≡ status_of cause → IsStatus status
@@ -44,7 +44,7 @@ four_not (Some (Missing name)) is = absurd (omega arith)
 four_not (Some (LongFile name)) is = absurd (omega arith)
 four_not (Some LongInput) is = absurd (omega arith)
 
--- ---- a work that was done
+-- ---- Work that was done.
 
 module _ (words : List Text) (files : Option Files) (w : Work) (input : Option Text) where
   misuse_cause : (cause : Option Cause) → AccountsOn words files w input cause → status_of cause ≡ 2 → (line : Text) × (staged_order words ≡ Halt (Misused line)) × (cause ≡ Some (Misused line))
@@ -55,7 +55,7 @@ module _ (words : List Text) (files : Option Files) (w : Work) (input : Option T
   misuse_cause (Some (LongFile name)) is two = absurd (omega arith)
   misuse_cause (Some LongInput) is two = absurd (omega arith)
 
-  absent_cause : (cause : Option Cause) → AccountsOn words files w input cause → status_of cause ≡ 3 → IsAbsent words files
+  absent_cause : (cause : Option Cause) → AccountsOn words files w input cause → status_of cause ≡ 3 → IsNextFileAbsent words files
   absent_cause (Some (Missing name)) is three = is
   absent_cause None is three = absurd (omega arith)
   absent_cause (Some (Refused line)) is three = absurd (omega arith)
@@ -63,7 +63,7 @@ module _ (words : List Text) (files : Option Files) (w : Work) (input : Option T
   absent_cause (Some (LongFile name)) is three = absurd (omega arith)
   absent_cause (Some LongInput) is three = absurd (omega arith)
 
-  big_cause : (cause : Option Cause) → AccountsOn words files w input cause → status_of cause ≡ 5 → IsLongFile words files ⊎ (AsksLines w.plan × IsPast (asks_of w.plan) input)
+  big_cause : (cause : Option Cause) → AccountsOn words files w input cause → status_of cause ≡ 5 → IsNextFileTooLong words files ⊎ (AsksLines w.plan × IsInputOverLimit (asks_of w.plan) input)
   big_cause (Some (LongFile name)) is five = inl is
   big_cause (Some LongInput) is five = inr is
   big_cause None is five = absurd (omega arith)
@@ -71,48 +71,48 @@ module _ (words : List Text) (files : Option Files) (w : Work) (input : Option T
   big_cause (Some (Misused line)) is five = absurd (omega arith)
   big_cause (Some (Missing name)) is five = absurd (omega arith)
 
--- an input that passes a limit is asked for in part
-past_false : (asks : Asks) (input : Text) (lines : List Text) (whole : Bool) → (asks ≡ NoLine → ⊥) → IsPast asks (Some input) → AsksFor asks (Some input) lines whole → whole ≡ false
+-- If the input is over a limit, not all that is asked for can be read.
+past_false : (asks : Asks) (input : Text) (lines : List Text) (whole : Bool) → (asks ≡ NoLine → ⊥) → IsInputOverLimit asks (Some input) → AreAskedLines asks (Some input) lines whole → whole ≡ false
 past_false NoLine input lines whole some past asks = absurd (some refl)
 past_false FirstLine input lines whole some past asks = sym asks.1 ∙ past
 past_false EachLine input lines whole some past asks = sym asks.1 ∙ past
 
-past_cause : (plan : Plan) (input : Text) (o : Outcome) → Yields by_plan plan (Some input) o → AsksLines plan → IsPast (asks_of plan) (Some input) → o.cause ≡ Some LongInput
+past_cause : (plan : Plan) (input : Text) (o : Outcome) → HasOutcome plan_behavior plan (Some input) o → AsksLines plan → IsInputOverLimit (asks_of plan) (Some input) → o.cause ≡ Some LongInput
 past_cause plan input o yields some past =
     let cut : yields.whole ≡ false = past_false (asks_of plan) input yields.lines yields.whole some past yields.asks in
-    let ends : EndsBehind by_plan false yields.last yields.text o.cause o.out = subst (λ (w : Bool). EndsBehind by_plan w yields.last yields.text o.cause o.out) cut yields.ends in ends.0
+    let ends : EndsAfterAnswers plan_behavior false yields.last yields.text o.cause o.out = subst (λ (w : Bool). EndsAfterAnswers plan_behavior w yields.last yields.text o.cause o.out) cut yields.ends in ends.0
 
--- ---- what stands on out
+-- ---- The text on out.
 
 module _ (plan : Plan) (old new out0 out1 : Option Text) where
   abbrev Part : Type 0
-  Part = (text : Text) × Appends out0 out1 text × IsOutPart plan old text
+  Part = (text : Text) × Appends out0 out1 text × IsOutputPrefix plan old text
 
-  got_part : Partly by_plan plan old out0 out1 (GotAt by_plan plan old new) → Part
+  got_part : IsPartialRun plan_behavior plan old out0 out1 (ReadFailsAt plan_behavior plan old new) → Part
   got_part h = (h.text ++ h.front, h.on_out, record { lines = h.lines; answers = h.text; next = h.next; front = h.front; stands = h.stands; is_front = inl h.at.0; text_is = refl })
 
-  cut_part : Partly by_plan plan old out0 out1 (CutAt by_plan plan old new) → Part
+  cut_part : IsPartialRun plan_behavior plan old out0 out1 (WriteFailsAt plan_behavior plan old new) → Part
   cut_part h = (h.text ++ h.front, h.on_out, record { lines = h.lines; answers = h.text; next = h.next; front = h.front; stands = h.stands; is_front = is h.at; text_is = refl })
     where
-      is : CutAt by_plan plan old new h.lines h.next h.front → (h.front ≡ []) ⊎ IsOfLine by_plan plan old h.lines h.next h.front ⊎ IsOfEnd by_plan plan old h.lines h.next h.front
+      is : WriteFailsAt plan_behavior plan old new h.lines h.next h.front → (h.front ≡ []) ⊎ IsAnswerPrefix plan_behavior plan old h.lines h.next h.front ⊎ IsEndPrefix plan_behavior plan old h.lines h.next h.front
       is (inl at) = inr (inl at.0)
       is (inr at) = inr (inr at.0)
 
-  want_part : Partly by_plan plan old out0 out1 (WantsAt by_plan plan old new) → Part
+  want_part : IsPartialRun plan_behavior plan old out0 out1 (LacksMemoryAt plan_behavior plan old new) → Part
   want_part h = (h.text ++ h.front, h.on_out, record { lines = h.lines; answers = h.text; next = h.next; front = h.front; stands = h.stands; is_front = is h.at; text_is = refl })
     where
-      is : WantsAt by_plan plan old new h.lines h.next h.front → (h.front ≡ []) ⊎ IsOfLine by_plan plan old h.lines h.next h.front ⊎ IsOfEnd by_plan plan old h.lines h.next h.front
+      is : LacksMemoryAt plan_behavior plan old new h.lines h.next h.front → (h.front ≡ []) ⊎ IsAnswerPrefix plan_behavior plan old h.lines h.next h.front ⊎ IsEndPrefix plan_behavior plan old h.lines h.next h.front
       is (inl at) = inl at.0
       is (inr at) = inr (inr at.0)
 
-first_all : (asks : Asks) (input : Option Text) (lines : List Text) (whole : Bool) → AsksFor asks input lines whole → AreFirst asks input lines
+first_all : (asks : Asks) (input : Option Text) (lines : List Text) (whole : Bool) → AreAskedLines asks input lines whole → AreFirstLines asks input lines
 first_all asks None lines whole is = tt
 first_all NoLine (Some input) lines whole is = ([], sym (ap (λ (l : List Text). l ++ []) is.0))
 first_all FirstLine (Some input) lines whole is = ([], is.0 ∙ sym (append-nil lines))
 first_all EachLine (Some input) lines whole is = ([], is.0 ∙ sym (append-nil lines))
 
-module _ (plan : Plan) (input : Option Text) (lines : List Text) (text : Text) (last : Plan) (cause : Option Cause) (out : Text) (answers : AnswersAll by_plan plan lines text last) where
-  all_part : (whole : Bool) → AsksFor (asks_of plan) input lines whole → EndsBehind by_plan whole last text cause out → IsOutPart plan input out
+module _ (plan : Plan) (input : Option Text) (lines : List Text) (text : Text) (last : Plan) (cause : Option Cause) (out : Text) (answers : AnswersAll plan_behavior plan lines text last) where
+  all_part : (whole : Bool) → AreAskedLines (asks_of plan) input lines whole → EndsAfterAnswers plan_behavior whole last text cause out → IsOutputPrefix plan input out
   all_part true asks ends = record {
     lines = lines;
     answers = text;
@@ -132,31 +132,31 @@ module _ (plan : Plan) (input : Option Text) (lines : List Text) (text : Text) (
     text_is = ends.1 ∙ sym (append-nil text);
   }
 
-yields_part : (plan : Plan) (input : Option Text) (o : Outcome) → Yields by_plan plan input o → IsOutPart plan input o.out
+yields_part : (plan : Plan) (input : Option Text) (o : Outcome) → HasOutcome plan_behavior plan input o → IsOutputPrefix plan input o.out
 yields_part plan input o y = all_part plan input y.lines y.text y.last o.cause o.out y.answers y.whole y.asks y.ends
 
 module _ (words : List Text) (b a : World) where
-  still_part : IsStill b a → WritesPart words b a
+  still_part : LeavesInputAndOut b a → WritesOutputPrefix words b a
   still_part still = inl (subst (λ x. Appends b.out x []) (sym still.out) (Appends-nil b.out))
 
-  behind_part : (At : Work → Type 0) (P : Text → Type 0) → ((w : Work) → At w → (text : Text) × Appends b.out a.out text × IsOutPart w.plan b.left text) → Behind words b At P → WritesPart words b a
+  behind_part : (At : Work → Type 0) (P : Text → Type 0) → ((w : Work) → At w → (text : Text) × Appends b.out a.out text × IsOutputPrefix w.plan b.left text) → AfterWarnings words b At P → WritesOutputPrefix words b a
   behind_part At P part h = inr (h.work, h.is_asked, part h.work h.at)
 
-  done_part : (P : Text → Type 0) → Done words b a P → WritesPart words b a
+  done_part : (P : Text → Type 0) → DoneSoFar words b a P → WritesOutputPrefix words b a
   done_part P (Nothing still at) = still_part still
   done_part P (Warned p is still at) = still_part still
   done_part P (Begun h) = behind_part _ P (λ w at. want_part w.plan b.left a.left b.out a.out at) h
 
-  ended_part : (cause : Option Cause) (w : Work) → EndedSo b a cause w → (text : Text) × Appends b.out a.out text × IsOutPart w.plan b.left text
+  ended_part : (cause : Option Cause) (w : Work) → ModeEnded b a cause w → (text : Text) × Appends b.out a.out text × IsOutputPrefix w.plan b.left text
   ended_part cause w at = (at.outcome.out, at.on_out, yields_part w.plan b.left at.outcome at.yields)
 
-  says_part : (P : Text → Text → Type 0) → Says words b a P → WritesPart words b a
+  says_part : (P : Text → Text → Type 0) → HasLastLine words b a P → WritesOutputPrefix words b a
   says_part P (OfCause cause h) = behind_part _ _ (ended_part (Some cause)) h
   says_part P (OfFile front name due still at) = still_part still
   says_part P (OfInput h) = behind_part _ _ (λ w at. got_part w.plan b.left a.left b.out a.out at) h
   says_part P (OfMemory h) = done_part _ h
 
--- ---- the claims
+-- ---- The claims.
 
 module _ (words : List Text) (b a : World) (status : ℕ) where
   abbrev Run : Type 0
@@ -164,11 +164,11 @@ module _ (words : List Text) (b a : World) (status : ℕ) where
 
   pub completes : Run → Completes words b a status
   completes (Finished quiet does) calm = inr does
-  completes (CannotReadFile is rose could front name due still at) calm = absurd (calm_not b.shelf_faults a.shelf_faults calm.shelf rose)
-  completes (CannotReadInput is rose could h) calm = absurd (calm_not b.input_faults a.input_faults calm.input rose)
-  completes (CannotWarn is rose cut) calm = absurd (calm_not b.err_faults a.err_faults calm.err rose)
-  completes (CannotWrite is rose input err h) calm = absurd (calm_not b.out_faults a.out_faults calm.out rose)
-  completes (CannotSay is out rose says) calm = absurd (calm_not b.err_faults a.err_faults calm.err rose)
+  completes (CannotReadFile is rose could front name due still at) calm = absurd (not_both_risen b.shelf_faults a.shelf_faults calm.shelf rose)
+  completes (CannotReadInput is rose could h) calm = absurd (not_both_risen b.input_faults a.input_faults calm.input rose)
+  completes (CannotWarn is rose cut) calm = absurd (not_both_risen b.err_faults a.err_faults calm.err rose)
+  completes (CannotWrite is rose input err h) calm = absurd (not_both_risen b.out_faults a.out_faults calm.out rose)
+  completes (CannotSay is out rose says) calm = absurd (not_both_risen b.err_faults a.err_faults calm.err rose)
   completes (NoMemory is could input done) calm = inl is
 
   pub finishes : Run → Finishes words b a status
@@ -180,7 +180,7 @@ module _ (words : List Text) (b a : World) (status : ℕ) where
   finishes (CannotSay is out rose says) done = absurd (not_done status 4 is (inr (inl refl)) done)
   finishes (NoMemory is could input wants) done = absurd (not_done status 6 is (inr (inr refl)) done)
 
-  module _ (does : Does words b a status) where
+  module _ (does : DoesWork words b a status) where
     accounts : AccountsOn words b.files does.work b.left does.outcome.cause
     accounts = ended words b.files does.work b.left does.outcome does.is_asked does.yields
 
@@ -194,29 +194,29 @@ module _ (words : List Text) (b a : World) (status : ℕ) where
     misuse_at : status ≡ 2 → (line : Text) × (staged_order words ≡ Halt (Misused line)) × Appends b.err a.err line
     misuse_at two = let p = misuse_cause words b.files does.work b.left does.outcome.cause accounts (status_so 2 two) in (p.0, p.1, no_warnings p.0 p.1 p.2)
 
-    absent_at : status ≡ 3 → IsAbsent words b.files
+    absent_at : status ≡ 3 → IsNextFileAbsent words b.files
     absent_at three = absent_cause words b.files does.work b.left does.outcome.cause accounts (status_so 3 three)
 
-    big_at : status ≡ 5 → IsLongFile words b.files ⊎ IsLongInput words b
+    big_at : status ≡ 5 → IsNextFileTooLong words b.files ⊎ ReadsInputOverLimit words b
     big_at five = big (big_cause words b.files does.work b.left does.outcome.cause accounts (status_so 5 five))
       where
-        big : IsLongFile words b.files ⊎ (AsksLines does.work.plan × IsPast (asks_of does.work.plan) b.left) → IsLongFile words b.files ⊎ IsLongInput words b
+        big : IsNextFileTooLong words b.files ⊎ (AsksLines does.work.plan × IsInputOverLimit (asks_of does.work.plan) b.left) → IsNextFileTooLong words b.files ⊎ ReadsInputOverLimit words b
         big (inl h) = inl h
         big (inr h) = inr (does.work, does.is_asked, h.0, h.1)
 
-    said_absent : (files : Files) → b.files ≡ Some files → IsAbsent words (Some files) → status ≡ 3
+    said_absent : (files : Files) → b.files ≡ Some files → IsNextFileAbsent words (Some files) → status ≡ 3
     said_absent files told absent =
         let p = missing_gives words files does.work b.left does.outcome does.yields (subst (λ (x : Option Files). IsWork words x does.work) told does.is_asked) absent in
         does.status_is ∙ ap status_of p.1
 
-    said_long : (files : Files) → b.files ≡ Some files → IsLongFile words (Some files) → status ≡ 5
+    said_long : (files : Files) → b.files ≡ Some files → IsNextFileTooLong words (Some files) → status ≡ 5
     said_long files told long =
         let p = long_gives words files does.work b.left does.outcome does.yields (subst (λ (x : Option Files). IsWork words x does.work) told does.is_asked) long in
         does.status_is ∙ ap status_of p.1
 
-    said_past : (input : Text) → b.left ≡ Some input → AsksLines does.work.plan × IsPast (asks_of does.work.plan) (Some input) → status ≡ 5
+    said_past : (input : Text) → b.left ≡ Some input → AsksLines does.work.plan × IsInputOverLimit (asks_of does.work.plan) (Some input) → status ≡ 5
     said_past input told past =
-        let yields : Yields by_plan does.work.plan (Some input) does.outcome = subst (λ (x : Option Text). Yields by_plan does.work.plan x does.outcome) told does.yields in
+        let yields : HasOutcome plan_behavior does.work.plan (Some input) does.outcome = subst (λ (x : Option Text). HasOutcome plan_behavior does.work.plan x does.outcome) told does.yields in
         does.status_is ∙ ap status_of (past_cause does.work.plan input does.outcome yields past.0 past.1)
 
   misuse_claim : Run → MisuseHasCause words b a status
@@ -231,14 +231,14 @@ module _ (words : List Text) (b a : World) (status : ℕ) where
   read_claim (CannotSay is out rose says) three = absurd (omega arith)
   read_claim (NoMemory is could input done) three = absurd (omega arith)
 
-  absent_claim : Run → AbsentIsSaid words b a status
+  absent_claim : Run → AbsentFileIsReported words b a status
   absent_claim ran calm files told absent = absent_or (completes ran calm)
     where
-      absent_or : (status ≡ 6) ⊎ Does words b a status → (status ≡ 3) ⊎ (status ≡ 6)
+      absent_or : (status ≡ 6) ⊎ DoesWork words b a status → (status ≡ 3) ⊎ (status ≡ 6)
       absent_or (inl six) = inr six
       absent_or (inr does) = inl (said_absent does files told absent)
 
-  write_said_claim : Run → WriteFaultIsSaid b a status
+  write_said_claim : Run → WriteFaultIsReported b a status
   write_said_claim (Finished quiet does) failed = absurd (failed (record { out = quiet.out; err = quiet.err }))
   write_said_claim (CannotReadFile is rose could front name due still at) failed = absurd (failed could)
   write_said_claim (CannotReadInput is rose could h) failed = absurd (failed could)
@@ -273,7 +273,7 @@ module _ (words : List Text) (b a : World) (status : ℕ) where
   six_not (Some (LongFile name)) is = absurd (omega arith)
   six_not (Some LongInput) is = absurd (omega arith)
 
-  want_claim : Run → WantKeeps words b a status
+  want_claim : Run → OutOfMemoryKeepsTexts words b a status
   want_claim (Finished quiet does) six = absurd (six_not does.outcome.cause (status_so does 6 six))
   want_claim (CannotReadFile is rose could front name due still at) six = absurd (omega arith)
   want_claim (CannotReadInput is rose could h) six = absurd (omega arith)
@@ -285,21 +285,21 @@ module _ (words : List Text) (b a : World) (status : ℕ) where
   big_claim : Run → TooBigHasCause words b a status
   big_claim ran five = let p = finishes ran (inr (inr (inr five))) in big_at p.1 five
 
-  long_file_claim : Run → LongFileIsSaid words b a status
+  long_file_claim : Run → LongFileIsReported words b a status
   long_file_claim ran calm files told long = long_or (completes ran calm)
     where
-      long_or : (status ≡ 6) ⊎ Does words b a status → (status ≡ 5) ⊎ (status ≡ 6)
+      long_or : (status ≡ 6) ⊎ DoesWork words b a status → (status ≡ 5) ⊎ (status ≡ 6)
       long_or (inl six) = inr six
       long_or (inr does) = inl (said_long does files told long)
 
-  long_input_claim : Run → LongInputIsSaid words b a status
+  long_input_claim : Run → LongInputIsReported words b a status
   long_input_claim ran calm input told past = past_or (completes ran calm)
     where
-      past_or : (status ≡ 6) ⊎ Does words b a status → (status ≡ 5) ⊎ (status ≡ 6)
+      past_or : (status ≡ 6) ⊎ DoesWork words b a status → (status ≡ 5) ⊎ (status ≡ 6)
       past_or (inl six) = inr six
       past_or (inr does) = inl (said_past does input told (past does.work does.is_asked))
 
-  part_claim : Run → WritesPart words b a
+  part_claim : Run → WritesOutputPrefix words b a
   part_claim (Finished quiet does) = inr (does.work, does.is_asked, (does.outcome.out, does.on_out, yields_part does.work.plan b.left does.outcome does.yields))
   part_claim (CannotReadFile is rose could front name due still at) = still_part words b a still
   part_claim (CannotReadInput is rose could h) = behind_part words b a _ _ (λ w at. got_part w.plan b.left a.left b.out a.out at) h
@@ -308,11 +308,11 @@ module _ (words : List Text) (b a : World) (status : ℕ) where
   part_claim (CannotSay is out rose says) = says_part words b a _ says
   part_claim (NoMemory is could input done) = done_part words b a _ done
 
-  each_claim : WritesPart words b a → WritesPartOfEach words b a
+  each_claim : WritesOutputPrefix words b a → WritesPrefixOfAnyWork words b a
   each_claim (inl none) files told w asked = inl none
   each_claim (inr some) files told w asked =
       let same : some.0 ≡ w = work_once words files some.0 w (subst (λ (x : Option Files). IsWork words x some.0) told some.1) asked in
-      inr (some.2.0, some.2.1, subst (λ (x : Work). IsOutPart x.plan b.left some.2.0) same some.2.2)
+      inr (some.2.0, some.2.1, subst (λ (x : Work). IsOutputPrefix x.plan b.left some.2.0) same some.2.2)
 
   status_claim : Run → IsStatus status
   status_claim (Finished quiet does) = known_status status does.outcome.cause does.status_is
@@ -323,7 +323,7 @@ module _ (words : List Text) (b a : World) (status : ℕ) where
   status_claim (CannotSay is out rose says) = inr (inr (inl is))
   status_claim (NoMemory is could input done) = inr (inr (inr is))
 
-  pub keeps : Run → Keeps words b a status
+  pub keeps : Run → MeetsClaims words b a status
   keeps ran = record {
     complete = completes ran;
     done = finishes ran;

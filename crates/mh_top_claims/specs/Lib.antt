@@ -1,10 +1,10 @@
 pub mod Preparing
-pub mod TableTurns
+pub mod NextTableFile
 pub mod Work
-pub mod Asking
-pub mod AtLine
+pub mod MayAskForFiles
+pub mod AnswerAtLine
 pub mod Run
 pub mod Claims
 pub mod ErrorLists
-pub mod Exact
+pub mod VerdictClaims
 pub mod code

@@ -1,52 +1,53 @@
-//! Laws about the definition of the work. Each is the contract of a function that does nothing.
+//! Laws on the definition of the work: it is unique, it exists, and each line has its answer. Each law is the contract
+//! of a function that does nothing.
 ghost use Rattle.std.specs.Prelude.{◌≡◌, ◌∷◌, ◌++◌, List, Option, Some};
 ghost use Rattle.mh_outside.specs.Shelf.{Files};
-ghost use Rattle.mh_top_claims.specs.AtLine.{IsAnsweredAt, HasVerdictAt};
-ghost use Rattle.mh_top_claims.specs.Exact.{ClearWhereUnwarned};
-ghost use Rattle.mh_top_drive.specs.Causes.{Staged};
-ghost use Rattle.mh_top_plans.specs.Plan.{Plan, Judges, by_plan};
-ghost use Rattle.mh_top_drive.specs.Ways.{AnswersAll, Outcome, Yields};
+ghost use Rattle.mh_top_claims.specs.AnswerAtLine.{IsAnsweredAt, HasVerdictAt};
+ghost use Rattle.mh_top_claims.specs.VerdictClaims.{UnwarnedIsConflictFree};
+ghost use Rattle.mh_top_drive.specs.StageResults.{StageResult};
+ghost use Rattle.mh_top_plans.specs.Plan.{Plan, Judges, plan_behavior};
+ghost use Rattle.mh_top_drive.specs.ModeBehavior.{AnswersAll, Outcome, HasOutcome};
 ghost use Rattle.mh_grammar.specs.Text.{Text};
-ghost use Rattle.mh_top_plans.specs.Verdicts.{Answering};
+ghost use Rattle.mh_top_plans.specs.Verdicts.{VerdictContext};
 ghost use Rattle.mh_top_claims.specs.Work.{Work, IsWork};
 ghost use Rattle.mh_top_claims.specs.Preparing.{IsPrepared};
 ghost use Rattle.mh_top_types.specs.Shapes.{Prepared};
 
-/// Over given files the words ask for one work, and a mode has one outcome on a given input.
+/// Over known files the words ask for at most one work, and a mode has at most one outcome on a known input.
 pub fn work_is_one()
     ensures work { (words : List Text) (files : Files) (v w : Work) →
         IsWork words (Some files) v → IsWork words (Some files) w → v ≡ w }
     ensures outcome { (plan : Plan) (input : Text) (o p : Outcome) →
-        Yields by_plan plan (Some input) o → Yields by_plan plan (Some input) p →
+        HasOutcome plan_behavior plan (Some input) o → HasOutcome plan_behavior plan (Some input) p →
         o ≡ p }
 {}
 
-/// Two runs on the same words, files and input have the same warnings, the same text on out and the same cause, and
+/// Two runs with the same words, files and input have the same warnings, the same text on out and the same cause, and
 /// leave the same input.
 pub fn runs_are_one()
     ensures { (words : List Text) (files : Files) (input : Text) (v w : Work) (o p : Outcome) →
-        IsWork words (Some files) v → Yields by_plan v.plan (Some input) o →
-        IsWork words (Some files) w → Yields by_plan w.plan (Some input) p → (v ≡ w) × (o ≡ p) }
+        IsWork words (Some files) v → HasOutcome plan_behavior v.plan (Some input) o →
+        IsWork words (Some files) w → HasOutcome plan_behavior w.plan (Some input) p → (v ≡ w) × (o ≡ p) }
 {}
 
-/// Words ask for some work, whether what comes before the warnings gives something or halts.
+/// The words always ask for some work, for each result of the stages before the warnings.
 pub fn some_work_is_asked()
-    ensures { (words : List Text) (files : Option Files) (before : Staged Prepared) → IsPrepared words files before →
+    ensures { (words : List Text) (files : Option Files) (before : StageResult Prepared) → IsPrepared words files before →
         (w : Work) × IsWork words files w }
 {}
 
-/// The text that answers lines is, for each line, the text before the line's answer, this answer, and the rest. Where
-/// lines are answered with verdicts, the answer depends on this line alone.
+/// The text that answers several lines is, for each line, the answers to the lines before, the answer to this line, and
+/// the answers to the lines after. The answer with a verdict depends on this line alone.
 pub fn lines_are_answered()
     ensures each { (plan last : Plan) (before after : List Text) (line text : Text) →
-        AnswersAll by_plan plan (before ++ line ∷ after) text last → IsAnsweredAt plan before line after text last }
-    ensures verdict { (by : Answering) (last : Plan) (before after : List Text) (line text : Text) →
-        AnswersAll by_plan (Judges by) (before ++ line ∷ after) text last → HasVerdictAt by before line after text }
+        AnswersAll plan_behavior plan (before ++ line ∷ after) text last → IsAnsweredAt plan before line after text last }
+    ensures verdict { (by : VerdictContext) (last : Plan) (before after : List Text) (line text : Text) →
+        AnswersAll plan_behavior (Judges by) (before ++ line ∷ after) text last → HasVerdictAt by before line after text }
 {}
 
-/// For a grammar without levels of precedence, no warning on err means that verdicts rest on no conflict, also where
-/// a table file is named. So the user can see on err whether the premise of the claims on acceptance and rejection
-/// holds.
+/// For a grammar without levels of precedence, no warning on err means that verdicts do not depend on the resolution of
+/// a conflict, also if a table file is named. So the user sees on err whether the premise of the claims on acceptance
+/// and rejection is true.
 pub fn unwarned_is_clear()
-    ensures { (words : List Text) (files : Option Files) → ClearWhereUnwarned words files }
+    ensures { (words : List Text) (files : Option Files) → UnwarnedIsConflictFree words files }
 {}

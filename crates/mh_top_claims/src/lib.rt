@@ -1,6 +1,6 @@
-//! What a run of the program is, by definition: the work that words ask for over files and an input (`Work`), how a
-//! run of it ends (`Run`), and what the top call promises (`Claims`, `ErrorLists`, `Exact`). The promises are proved
-//! here from these definitions alone: `proofs/EachMode` has what is proved of each mode.
+//! The definition of a run of the program: the work that words ask for over files (`Work`), the end of a run (`Run`),
+//! and the claims on the top call (`Claims`, `ErrorLists`, `VerdictClaims`). The claims are proved here from these definitions
+//! alone. The lemmas in `proofs/EachMode` have one case for each mode.
 #![tactic(auto)]
 
 mod laws;

@@ -1,8 +1,8 @@
-pub mod Binding
-pub mod Splits
-pub mod SoFar
-pub mod Answered
-pub mod Opening
-pub mod Loads
-pub mod Turns
-pub mod Once
+pub mod Then
+pub mod FirstLine
+pub mod AskLoop
+pub mod LineCalls
+pub mod OpenedModes
+pub mod IsLoaded
+pub mod ReadFilesLoop
+pub mod LoadedUnique

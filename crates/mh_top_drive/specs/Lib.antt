@@ -1,9 +1,9 @@
 pub mod Text
-pub mod Causes
+pub mod StageResults
 pub mod Statuses
-pub mod Lines
-pub mod Ways
-pub mod Drive
-pub mod FileStage
-pub mod Turns
+pub mod InputLines
+pub mod ModeBehavior
+pub mod ModeRuns
+pub mod FileContents
+pub mod NextFile
 pub mod code

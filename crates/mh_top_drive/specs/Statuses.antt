@@ -1,32 +1,32 @@
--- The exit status and the line on err of each cause for which the work ends early (this project's profile).
+-- The exit status and the line on err for each cause of an early end (the rules are this project's own).
 use Rattle.std.specs.Prelude.{ℕ, [], Option, None, Some}
 use Rattle.mh_grammar.specs.Text.{Text}
 use Rattle.mh_top_drive.specs.Text.{cannot_read, too_big, too_big_input}
 use Rattle.mh_top_drive.specs.declared.stop.Cause.{Cause}
 use Rattle.mh_top_drive.specs.declared.stop.Cause.TheVariants.{Refused, Misused, Missing, LongFile, LongInput}
 
--- the exit status of a cause
-abbrev pub code_of : Cause → ℕ
-code_of (Refused line) = 1
-code_of (Misused line) = 2
-code_of (Missing name) = 3
-code_of (LongFile name) = 5
-code_of LongInput = 5
+-- The exit status for a cause.
+abbrev pub status_of_cause : Cause → ℕ
+status_of_cause (Refused line) = 1
+status_of_cause (Misused line) = 2
+status_of_cause (Missing name) = 3
+status_of_cause (LongFile name) = 5
+status_of_cause LongInput = 5
 
--- the line of a cause on err
-abbrev pub line_of : Cause → Text
-line_of (Refused line) = line
-line_of (Misused line) = line
-line_of (Missing name) = cannot_read name
-line_of (LongFile name) = too_big name
-line_of LongInput = too_big_input
+-- The line on err for a cause.
+abbrev pub line_of_cause : Cause → Text
+line_of_cause (Refused line) = line
+line_of_cause (Misused line) = line
+line_of_cause (Missing name) = cannot_read name
+line_of_cause (LongFile name) = too_big name
+line_of_cause LongInput = too_big_input
 
--- the exit status of the program: 0 where the work was done
+-- The exit status of the program: 0 if the work has ended without a cause.
 abbrev pub status_of : Option Cause → ℕ
 status_of None = 0
-status_of (Some cause) = code_of cause
+status_of (Some cause) = status_of_cause cause
 
--- the last line on err; none where the work was done
-abbrev pub said : Option Cause → Text
-said None = []
-said (Some cause) = line_of cause
+-- The last line on err, empty if the work has ended without a cause.
+abbrev pub last_line_of : Option Cause → Text
+last_line_of None = []
+last_line_of (Some cause) = line_of_cause cause

@@ -1,4 +1,5 @@
--- The lines on err for files that cannot be read, for what is too big, and for want of memory (this project's profile).
+-- The lines on err for files and inputs that cannot be read or are too big, and for lack of memory (the words are this
+-- project's own).
 use Rattle.std.specs.Prelude.{◌++◌, codes}
 use Rattle.mh_grammar.specs.Text.{Text}
 

@@ -1,3 +1,3 @@
-pub mod Stages
-pub mod Steps
-pub mod Opening
+pub mod StageCalls
+pub mod ModeCalls
+pub mod OpenedModes

@@ -1,21 +1,20 @@
-//! Runs a mode over an input and an output: the lines that the mode asks for are answered, each before the next is
-//! read, and then the end of the mode is written. After a write that fails nothing more is written, and no further
-//! line is read.
+//! Runs a mode over an input and an output: each line that the mode asks for is answered before the next is read, and
+//! then the end of the mode is written. After a failed write nothing more is written and no further line is read.
 ghost use Rattle.std.specs.Prelude.{◌≡◌, ◌<◌, ◌^◌, length, IfOk};
-ghost use Rattle.mh_top_drive.specs.code.Steps.{ModeRan, AnswerRan, Counts, EndRan, InputCounts, LineRan, LinesRan, NextRan, OutCounts, PastRan, StopIs, WriteRan};
-ghost use Rattle.mh_top_drive.specs.code.Opening.{Driven, IsOpened};
+ghost use Rattle.mh_top_drive.specs.code.ModeCalls.{ModeRan, AnswerIsWritten, InputAndOutCounts, EndIsWritten, InputCounts, LineIsAnswered, LinesAreAnswered, NextLineIsRead, OutCounts, NoLineIsLeft, IsStopForLineFault, TextIsWritten};
+ghost use Rattle.mh_top_drive.specs.code.OpenedModes.{OpenedModeRan, IsOpened};
 ghost use Rattle.mh_grammar.specs.Text.{Text};
-ghost use Rattle.mh_top_drive.specs.Ways.{Way, most as most_of};
+ghost use Rattle.mh_top_drive.specs.ModeBehavior.{ModeBehavior, max_lines as most_of};
 
 use crate::stop::{Cause, Stop};
 use mh_grammar::Memory;
 use mh_outside::{LineFault, Sink, Source, read_line, write_whole};
 use std::alloc::Global;
 
-/// An input line has at most 1 MiB.
+/// The longest input line, in bytes without the line feed: 1 MiB.
 pub const LINE_LIMIT: usize = 1024 * 1024;
 
-/// The input has at most one million lines.
+/// The highest number of lines of an input.
 pub const MAX_LINES: usize = 1_000_000;
 
 /// Which lines of the input a mode asks for.
@@ -27,7 +26,7 @@ pub enum Asks {
 }
 
 impl Asks {
-    /// How many lines the mode may ask for.
+    /// The highest number of lines that the mode may ask for.
     fn most(self) -> usize
         ensures { result ≡ most_of self }
     {
@@ -39,39 +38,39 @@ impl Asks {
     }
 }
 
-/// A mode between two lines. Contracts speak of its plan: the state that the value stands for, of which there may be
-/// several.
+/// A mode between two lines of the input. Contracts speak of its plan, which is a state as plain data; a value may
+/// represent several.
 pub trait Mode {
-    /// The states of a mode between two lines.
+    /// The type of the states of a mode between two lines.
     ghost State: { Type 0 };
 
-    /// By the state: which lines the mode asks for, how it answers a line, and what it writes at its end.
-    ghost way: { Way State };
+    /// The behavior of the mode: which lines it asks for, how it answers a line, and what it writes at its end.
+    ghost way: { ModeBehavior State };
 
-    /// The states that a value stands for.
+    /// The relation between a value and the states that it represents.
     ghost Is: { Self → State → Type 0 };
 
     /// Which lines the mode asks for.
     fn asks(&self) -> Asks
         ensures { (plan : State) → Is self.now plan → result ≡ way.asks_of plan };
 
-    /// The text that answers a line. The answer may change the mode.
+    /// Gives the text that answers a line, and may change the mode.
     fn answer(&mut self, alloc: Global, line: &[u8]) -> Result<Vec<u8>, Memory>
         requires short { length line.now < 2 ^ 32 }
         requires some { (plan : State) × Is self.old plan }
         ensures { (plan : State) → Is self.old plan → (next : State) × Is self.new next × IfOk result (λ text.
             way.Answers plan line.now text.items next) };
 
-    /// Writes what follows the answers, in one piece or piece by piece as it is made, or halts.
+    /// Writes the text after the answers, in one piece or in several, or stops the work.
     fn end<O: Sink>(self, alloc: Global, out: &mut O) -> Result<(), Stop>
         requires some { (plan : State) × Is self plan }
-        ensures text { (plan : State) → Is self plan → EndRan (way.EndsWith plan) (O.written out.old) (O.written out.new) result }
+        ensures text { (plan : State) → Is self plan → EndIsWritten (way.EndsWith plan) (O.written out.old) (O.written out.new) result }
         ensures counts { OutCounts (O.faults out.old) (O.faults out.new) result };
 }
 
-/// Writes a text on out.
+/// Writes a text on out. The only failure is `Stop::WriteFailed`, after a prefix of the text.
 pub fn write_text<O: Sink>(out: &mut O, text: &[u8]) -> Result<(), Stop>
-    ensures text { WriteRan text.now (O.written out.old) (O.written out.new) result }
+    ensures text { TextIsWritten text.now (O.written out.old) (O.written out.new) result }
     ensures counts { OutCounts (O.faults out.old) (O.faults out.new) result }
 {
     match write_whole(out, text) {
@@ -80,9 +79,9 @@ pub fn write_text<O: Sink>(out: &mut O, text: &[u8]) -> Result<(), Stop>
     }
 }
 
-/// Why the work stops where no line could be read.
+/// The reason to stop the work for a fault of the input.
 fn stop_of(fault: LineFault) -> Stop
-    ensures { StopIs fault result }
+    ensures { IsStopForLineFault fault result }
 {
     match fault {
         LineFault::Failed => Stop::InputFailed,
@@ -102,7 +101,7 @@ fn answer_line<O: Sink, M: Mode>(
 ) -> Result<(), Stop>
     requires short { length line.now < 2 ^ 32 }
     requires some { (plan : M.State) × M.Is mode.old plan }
-    ensures text { (plan : M.State) → M.Is mode.old plan → (next : M.State) × M.Is mode.new next × AnswerRan M.way plan next line.now
+    ensures text { (plan : M.State) → M.Is mode.old plan → (next : M.State) × M.Is mode.new next × AnswerIsWritten M.way plan next line.now
         (O.written out.old) (O.written out.new) result }
     ensures counts { OutCounts (O.faults out.old) (O.faults out.new) result }
 {
@@ -110,9 +109,9 @@ fn answer_line<O: Sink, M: Mode>(
     write_text(out, &text)
 }
 
-/// Reads the next line, where there is one.
+/// Reads the next line; `None` at the end of the input.
 fn next_line<I: Source>(alloc: Global, input: &mut I) -> Result<Option<Vec<u8>>, Stop>
-    ensures line { NextRan (I.left input.old) (I.left input.new) result }
+    ensures line { NextLineIsRead (I.left input.old) (I.left input.new) result }
     ensures counts { InputCounts (I.faults input.old) (I.faults input.new) result }
 {
     match read_line(alloc, input, LINE_LIMIT) {
@@ -121,7 +120,7 @@ fn next_line<I: Source>(alloc: Global, input: &mut I) -> Result<Option<Vec<u8>>,
     }
 }
 
-/// Reads the next line and writes the answer to it; false where the input has ended.
+/// Reads the next line and writes its answer; false at the end of the input.
 fn take_line<I: Source, O: Sink, M: Mode>(
     alloc: Global,
     input: &mut I,
@@ -129,9 +128,9 @@ fn take_line<I: Source, O: Sink, M: Mode>(
     mode: &mut M,
 ) -> Result<bool, Stop>
     requires some { (plan : M.State) × M.Is mode.old plan }
-    ensures ran { (plan : M.State) → M.Is mode.old plan → (next : M.State) × M.Is mode.new next × LineRan M.way plan next
+    ensures ran { (plan : M.State) → M.Is mode.old plan → (next : M.State) × M.Is mode.new next × LineIsAnswered M.way plan next
         (I.left input.old) (I.left input.new) (O.written out.old) (O.written out.new) result }
-    ensures counts { Counts (I.faults input.old) (I.faults input.new)
+    ensures counts { InputAndOutCounts (I.faults input.old) (I.faults input.new)
         (O.faults out.old) (O.faults out.new) result }
 {
     match next_line(alloc, input) {
@@ -144,9 +143,9 @@ fn take_line<I: Source, O: Sink, M: Mode>(
     }
 }
 
-/// Reads past the last line that the input may have: a further line halts the work.
+/// Reads once more after the last line that an input may have. The work stops if there is a further line.
 fn past_last<I: Source>(alloc: Global, input: &mut I) -> Result<(), Stop>
-    ensures ran { PastRan (I.left input.old) (I.left input.new) result }
+    ensures ran { NoLineIsLeft (I.left input.old) (I.left input.new) result }
     ensures counts { InputCounts (I.faults input.old) (I.faults input.new) result }
 {
     match read_line(alloc, input, 0) {
@@ -158,7 +157,7 @@ fn past_last<I: Source>(alloc: Global, input: &mut I) -> Result<(), Stop>
     }
 }
 
-/// Answers the lines that a mode asks for.
+/// Reads and answers the lines that a mode asks for.
 fn ask<I: Source, O: Sink, M: Mode>(
     alloc: Global,
     input: &mut I,
@@ -166,9 +165,9 @@ fn ask<I: Source, O: Sink, M: Mode>(
     mode: &mut M,
 ) -> Result<(), Stop>
     requires some { (plan : M.State) × M.Is mode.old plan }
-    ensures ran { (plan : M.State) → M.Is mode.old plan → (next : M.State) × M.Is mode.new next × LinesRan M.way plan
+    ensures ran { (plan : M.State) → M.Is mode.old plan → (next : M.State) × M.Is mode.new next × LinesAreAnswered M.way plan
         (I.left input.old) (I.left input.new) (O.written out.old) (O.written out.new) next result }
-    ensures counts { Counts (I.faults input.old) (I.faults input.new)
+    ensures counts { InputAndOutCounts (I.faults input.old) (I.faults input.new)
         (O.faults out.old) (O.faults out.new) result }
 {
     let asks = mode.asks();
@@ -186,7 +185,7 @@ fn ask<I: Source, O: Sink, M: Mode>(
     }
 }
 
-/// Runs a mode that was opened over the input and out; where none could be opened, the work stops for that reason.
+/// Runs an opened mode over the input and out. If the mode could not be opened, the work stops for that reason.
 pub fn drive_opened<I: Source, O: Sink, M: Mode + Drop>(
     alloc: Global,
     opened: Result<M, Stop>,
@@ -194,9 +193,9 @@ pub fn drive_opened<I: Source, O: Sink, M: Mode + Drop>(
     out: &mut O,
 ) -> Result<(), Stop>
     requires some { IsOpened M.Is opened }
-    ensures ran { Driven M.way M.Is opened (I.left input.old) (I.left input.new)
+    ensures ran { OpenedModeRan M.way M.Is opened (I.left input.old) (I.left input.new)
         (O.written out.old) (O.written out.new) result }
-    ensures counts { Counts (I.faults input.old) (I.faults input.new)
+    ensures counts { InputAndOutCounts (I.faults input.old) (I.faults input.new)
         (O.faults out.old) (O.faults out.new) result }
 {
     match opened {
@@ -215,7 +214,7 @@ pub fn drive<I: Source, O: Sink, M: Mode + Drop>(
     requires some { (plan : M.State) × M.Is mode plan }
     ensures ran { (plan : M.State) → M.Is mode plan → ModeRan M.way plan (I.left input.old) (I.left input.new)
         (O.written out.old) (O.written out.new) result }
-    ensures counts { Counts (I.faults input.old) (I.faults input.new)
+    ensures counts { InputAndOutCounts (I.faults input.old) (I.faults input.new)
         (O.faults out.old) (O.faults out.new) result }
 {
     let mut mode = mode;

@@ -1,12 +1,12 @@
 //! The exit statuses of the program.
 
-/// The work was done.
+/// The work is done.
 pub const DONE: u8 = 0;
 
-/// The work is refused: the grammar, a messages file, a table file, or what `--strict` forbids.
+/// The work is refused: for the grammar, a messages file, a table file, or a conflict under `--strict`.
 pub const REFUSED: u8 = 1;
 
-/// The words of the command line are misused.
+/// The words of the command line are no order.
 pub const MISUSED: u8 = 2;
 
 /// A file or the input cannot be read.
@@ -15,7 +15,7 @@ pub const READ_FAULT: u8 = 3;
 /// A write failed.
 pub const WRITE_FAULT: u8 = 4;
 
-/// A file or the input passes its limit.
+/// A file or the input is over its limit.
 pub const TOO_BIG: u8 = 5;
 
 /// Memory ran out.

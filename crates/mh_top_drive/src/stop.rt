@@ -1,7 +1,7 @@
-//! Why the work stops early.
+//! The reasons for which the work stops early.
 ghost use Rattle.std.specs.Prelude.{◌≡◌, ◌++◌, IfOk};
-ghost use Rattle.mh_top_drive.specs.Statuses.{code_of};
-ghost use Rattle.mh_top_drive.specs.code.Stages.{Halts};
+ghost use Rattle.mh_top_drive.specs.Statuses.{status_of_cause};
+ghost use Rattle.mh_top_drive.specs.code.StageCalls.{StopsWith};
 ghost use Rattle.mh_top_drive.specs.declared.stop.Cause.TheVariants.{Refused as Refused'};
 ghost use Rattle.mh_top_drive.specs.declared.stop.Stop.TheVariants.{Halted as Halted', OutOfMemory, ShelfFailed};
 
@@ -9,25 +9,25 @@ use crate::status;
 use mh_grammar::{Memory, Name, Sequence};
 use std::alloc::{AllocError, AllocFailed, Global};
 
-/// Why the work ends early by its own rules. A fault of a device and want of memory are no such cause.
+/// A cause that lies in the words, the files or the input. Faults of devices and lack of memory are not among them.
 #[derive(Drop)]
 pub enum Cause {
-    /// The work is refused, with this line on err.
+    /// The work is refused. The line is written on err.
     Refused { line: Sequence<u8> },
-    /// The words of the command line are misused; the line says how.
+    /// The words of the command line are no order. The line is written on err.
     Misused { line: Sequence<u8> },
     /// A file that the words name is missing.
     Missing { name: Name },
-    /// A file that the words name passes its limit.
+    /// A file that the words name is over its limit.
     LongFile { name: Name },
-    /// The input passes a limit.
+    /// The input is over a limit: a line is too long, or there are too many lines.
     LongInput,
 }
 
 impl Cause {
-    /// The exit status of the program.
+    /// The exit status of the program for this cause.
     pub fn code(&self) -> u8
-        ensures { result ≡ code_of self.now }
+        ensures { result ≡ status_of_cause self.now }
     {
         match self {
             Cause::Refused { .. } => status::REFUSED,
@@ -39,16 +39,16 @@ impl Cause {
     }
 }
 
-/// Why the work stopped early.
+/// The reason for which the work stopped early.
 #[derive(Drop)]
 pub enum Stop {
-    /// By its own rules.
+    /// The words, the files or the input give a cause.
     Halted { cause: Cause },
-    /// The shelf failed at the file of this name.
+    /// The shelf failed at the file with this name.
     ShelfFailed { name: Name },
     /// A read of the input failed.
     InputFailed,
-    /// A write failed, and nothing more is written.
+    /// A write failed. Nothing more is written.
     WriteFailed,
     /// Memory ran out.
     OutOfMemory,
@@ -78,7 +78,7 @@ impl From<Memory> for Stop {
     }
 }
 
-/// The three parts, one after the other. Fails for want of memory alone.
+/// Joins three parts to one text. Fails only if memory runs out.
 pub fn joined(
     alloc: Global,
     before: &[u8],
@@ -93,7 +93,7 @@ pub fn joined(
     Ok(Sequence::from_vec(bytes))
 }
 
-/// The refusal with this line.
+/// The refusal of the work with this line.
 pub fn refusal(line: Sequence<u8>) -> Stop
     ensures { result ≡ Halted' (Refused' line) }
 {
@@ -102,9 +102,9 @@ pub fn refusal(line: Sequence<u8>) -> Stop
     }
 }
 
-/// The refusal with this line, in three parts.
+/// The refusal of the work with the line that the three parts make.
 pub fn refused(alloc: Global, before: &[u8], middle: &[u8], after: &[u8]) -> Stop
-    ensures { Halts (Refused' (before.now ++ middle.now ++ after.now)) result }
+    ensures { StopsWith (Refused' (before.now ++ middle.now ++ after.now)) result }
 {
     match joined(alloc, before, middle, after) {
         Ok(line) => refusal(line),

@@ -1,3 +1,3 @@
-pub mod Refused
-pub mod Listed
-pub mod Sampled
+pub mod CatalogueRefused
+pub mod WriteEntriesLoop
+pub mod CountsSample

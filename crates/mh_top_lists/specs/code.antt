@@ -1,2 +1,2 @@
-pub mod Faults
+pub mod CatalogueFaultStops
 pub mod Entries

@@ -1,9 +1,9 @@
-//! The entries of the catalogue's rows, written one after the other.
+//! Writes the entries of the catalogue's rows, one after the other.
 ghost use Rattle.std.specs.Prelude.{◌≤◌};
 ghost use Rattle.mh_catalogue_rows.specs.Rows.{row_of, rows_of};
-ghost use Rattle.mh_top_lists.specs.code.Entries.{AreEntriesOf, AreRowsFit, IsEntryOf, IsRowFit, PartRan, TextRan};
-ghost use Rattle.mh_top_types.specs.code.Prepared.{IsFit};
-ghost use Rattle.mh_top_drive.specs.code.Steps.{OutCounts};
+ghost use Rattle.mh_top_lists.specs.code.Entries.{AreEntriesOf, AreFailingRows, IsEntryOf, IsFailingRow, WritesTextInParts, WritesWholeText};
+ghost use Rattle.mh_top_types.specs.code.Prepared.{IsConsistent};
+ghost use Rattle.mh_top_drive.specs.code.ModeCalls.{OutCounts};
 
 use mh_catalogue_rows::Row;
 use mh_outside::Sink;
@@ -20,9 +20,9 @@ fn write_entry<O: Sink, const W: usize>(
     out: &mut O,
 ) -> Result<(), Stop>
     requires few { W ≤ 8 }
-    requires fit { IsFit prepared.now }
-    requires row { IsRowFit prepared.now.tabled.halting (row_of row.now) }
-    ensures text { TextRan (IsEntryOf prepared.now (row_of row.now)) (O.written out.old) (O.written out.new) result }
+    requires fit { IsConsistent prepared.now }
+    requires row { IsFailingRow prepared.now.tabled.halting (row_of row.now) }
+    ensures text { WritesWholeText (IsEntryOf prepared.now (row_of row.now)) (O.written out.old) (O.written out.new) result }
     ensures counts { OutCounts (O.faults out.old) (O.faults out.new) result }
 {
     let text = entry_text(
@@ -36,7 +36,7 @@ fn write_entry<O: Sink, const W: usize>(
     write_text(out, &text)
 }
 
-/// Writes the entries of the rows in order, each as it is made.
+/// Writes the entries of the rows in order, each as soon as it is made.
 pub(crate) fn write_entries<O: Sink, const W: usize>(
     alloc: Global,
     prepared: &Prepared<W>,
@@ -44,9 +44,9 @@ pub(crate) fn write_entries<O: Sink, const W: usize>(
     out: &mut O,
 ) -> Result<(), Stop>
     requires few { W ≤ 8 }
-    requires fit { IsFit prepared.now }
-    requires rows { AreRowsFit prepared.now.tabled.halting (rows_of rows.now) }
-    ensures text { PartRan (AreEntriesOf prepared.now (rows_of rows.now)) (O.written out.old) (O.written out.new) result }
+    requires fit { IsConsistent prepared.now }
+    requires rows { AreFailingRows prepared.now.tabled.halting (rows_of rows.now) }
+    ensures text { WritesTextInParts (AreEntriesOf prepared.now (rows_of rows.now)) (O.written out.old) (O.written out.new) result }
     ensures counts { OutCounts (O.faults out.old) (O.faults out.new) result }
 {
     let _facts = prepared.tabled.halting.table();

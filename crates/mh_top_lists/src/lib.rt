@@ -1,4 +1,4 @@
-//! The modes that write what the catalogue of the table gives: the list of errors, and the counts of a sample.
+//! The modes that make the catalogue of the table: the list of errors, and the counts of a sample.
 #![tactic(auto)]
 
 mod entries;

@@ -1,5 +1,5 @@
-//! The mode that lists errors: the catalogue of the table is made, and then its entries are written, each as it is
-//! made.
+//! The mode that lists the errors: it makes the catalogue of the table, and then writes the entry of each row as soon
+//! as the entry is made.
 use crate::entries::write_entries;
 use crate::refusing::stop_of;
 use mh_catalogue::catalogue;
@@ -9,7 +9,7 @@ use mh_top_plans::Writer;
 use mh_top_types::Prepared;
 use std::alloc::Global;
 
-/// What writes the list of errors.
+/// The mode of `--list-errors`, as a writer of the list of errors.
 #[derive(Drop)]
 pub struct ErrorList<'a, const W: usize> {
     pub prepared: &'a Prepared<W>,
@@ -18,9 +18,9 @@ pub struct ErrorList<'a, const W: usize> {
 impl<'a, const W: usize> Writer for ErrorList<'a, W> {
     ghost use Rattle.std.specs.Prelude.{◌≤◌};
     ghost use Rattle.mh_top_plans.specs.Plan.{Errors};
-    ghost use Rattle.mh_top_types.specs.code.Prepared.{IsFit};
+    ghost use Rattle.mh_top_types.specs.code.Prepared.{IsConsistent};
 
-    ghost is_ready = { λ s. (W ≤ 8) × IsFit s.prepared.now };
+    ghost is_ready = { λ s. (W ≤ 8) × IsConsistent s.prepared.now };
 
     ghost end = { λ s. Errors s.prepared.now };
 

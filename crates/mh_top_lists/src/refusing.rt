@@ -1,6 +1,6 @@
-//! Why the work stops where there is no catalogue.
-ghost use Rattle.mh_top_lists.specs.code.Faults.{FaultStops};
-ghost use Rattle.mh_top_drive.specs.code.Stages.{Halts};
+//! The refusal of a table that has no catalogue.
+ghost use Rattle.mh_top_lists.specs.code.CatalogueFaultStops.{IsStopForCatalogueFault};
+ghost use Rattle.mh_top_drive.specs.code.StageCalls.{StopsWith};
 ghost use Rattle.mh_top_drive.specs.declared.stop.Cause.TheVariants.{Refused};
 ghost use Rattle.mh_top_plans.specs.Listing.{too_long as too_long_line};
 
@@ -8,9 +8,9 @@ use mh_catalogue_rows::CatalogueFault;
 use mh_top_drive::{Stop, refused};
 use std::alloc::Global;
 
-/// The refusal for a state in which only sentences that are too long are refused.
+/// The refusal for a state in which sentences fail, but only such whose cost is over the highest cost of a catalogue.
 fn too_long(alloc: Global, state: u32) -> Stop
-    ensures { Halts (Refused (too_long_line state)) result }
+    ensures { StopsWith (Refused (too_long_line state)) result }
 {
     match format!(in alloc; "menhir: too long: state {state}\n") {
         Ok(line) => refused(alloc, line.as_bytes(), b"", b""),
@@ -18,9 +18,9 @@ fn too_long(alloc: Global, state: u32) -> Stop
     }
 }
 
-/// Why the work stops, by the fault of the catalogue.
+/// The stop for a fault of the catalogue: the refusal with its line, or lack of memory.
 pub(crate) fn stop_of(alloc: Global, fault: CatalogueFault) -> Stop
-    ensures { FaultStops fault result }
+    ensures { IsStopForCatalogueFault fault result }
 {
     match fault {
         CatalogueFault::TooLong { state } => too_long(alloc, state),

@@ -1,9 +1,9 @@
-//! The mode that writes the counts of a sample: the catalogue of its table is made, its sentences are run, and one
-//! line has the counts.
+//! The mode that counts a sample: it makes the catalogue of the table, runs the sentences of the sample, and writes one
+//! line of counts.
 ghost use Rattle.mh_sample.specs.Counts.{IsSampleLine};
-ghost use Rattle.mh_top_drive.specs.code.Steps.{OutCounts};
-ghost use Rattle.mh_top_lists.specs.code.Entries.{TextRan};
-ghost use Rattle.mh_top_types.specs.code.Prepared.{IsFit};
+ghost use Rattle.mh_top_drive.specs.code.ModeCalls.{OutCounts};
+ghost use Rattle.mh_top_lists.specs.code.Entries.{WritesWholeText};
+ghost use Rattle.mh_top_types.specs.code.Prepared.{IsConsistent};
 
 use crate::refusing::stop_of;
 use mh_catalogue::catalogue;
@@ -14,7 +14,7 @@ use mh_top_plans::Writer;
 use mh_top_types::Prepared;
 use std::alloc::Global;
 
-/// Writes the line of counts, by how many rows the catalogue has.
+/// Writes the line of counts. `listed` is the number of rows of the catalogue.
 fn write_counts<O: Sink, const W: usize>(
     alloc: Global,
     prepared: &Prepared<W>,
@@ -22,8 +22,8 @@ fn write_counts<O: Sink, const W: usize>(
     listed: usize,
     out: &mut O,
 ) -> Result<(), Stop>
-    requires fit { IsFit prepared.now }
-    ensures text { TextRan (IsSampleLine prepared.now.grammar prepared.now.tabled.halting number listed) (O.written out.old) (O.written out.new) result }
+    requires fit { IsConsistent prepared.now }
+    ensures text { WritesWholeText (IsSampleLine prepared.now.grammar prepared.now.tabled.halting number listed) (O.written out.old) (O.written out.new) result }
     ensures counts { OutCounts (O.faults out.old) (O.faults out.new) result }
 {
     let table = &prepared.tabled.halting;
@@ -31,7 +31,7 @@ fn write_counts<O: Sink, const W: usize>(
     write_text(out, &line)
 }
 
-/// What writes the counts of the sample of a number.
+/// The mode of `--sample`, as a writer of the counts of the sample with this number.
 #[derive(Drop)]
 pub struct SampleCounts<'a, const W: usize> {
     pub prepared: &'a Prepared<W>,
@@ -41,9 +41,9 @@ pub struct SampleCounts<'a, const W: usize> {
 impl<const W: usize> Writer for SampleCounts<'_, W> {
     ghost use Rattle.std.specs.Prelude.{◌≤◌};
     ghost use Rattle.mh_top_plans.specs.Plan.{Sampled};
-    ghost use Rattle.mh_top_types.specs.code.Prepared.{IsFit};
+    ghost use Rattle.mh_top_types.specs.code.Prepared.{IsConsistent};
 
-    ghost is_ready = { λ s. (W ≤ 8) × IsFit s.prepared.now };
+    ghost is_ready = { λ s. (W ≤ 8) × IsConsistent s.prepared.now };
 
     ghost end = { λ s. Sampled s.number s.prepared.now };
 

@@ -1,6 +1,6 @@
-pub mod Misspelled
-pub mod Sampling
-pub mod Refusing
-pub mod Apart
-pub mod Ready
-pub mod Going
+pub mod IsSyntaxFault
+pub mod SampleModules
+pub mod IsGrammarFault
+pub mod AreNamesApart
+pub mod AreModulesReady
+pub mod StagesToGrammar

@@ -3,5 +3,5 @@ pub mod GrammarFile
 pub mod Modules
 pub mod GrammarStage
 pub mod Order
-pub mod FrontStage
+pub mod OrderAndGrammar
 pub mod code

@@ -1,20 +1,20 @@
--- The lines on err where words spell no order, a file spells no module, or modules give no grammar (this project's
--- profile).
+-- The lines on err for words that spell no order, a file that spells no module, and modules that give no grammar (the
+-- words are this project's own).
 use Rattle.std.specs.Prelude.{ℕ, ◌++◌, codes, decimal}
 use Rattle.mh_front.specs.declared.fault.GrammarFault.{GrammarFault}
-use Rattle.mh_front.specs.Texts.{fault_text}
+use Rattle.mh_front.specs.Texts.{grammar_fault_text}
 use Rattle.mh_grammar.specs.Text.{Text}
 use Rattle.mh_top_drive.specs.Text.{out_of_memory}
 use Rattle.mh_opts.specs.declared.order.UsageFault.{UsageFault}
 use Rattle.mh_opts.specs.declared.order.UsageFault.TheVariants.{Parse, Number, NoMode, TwoModes, Misplaced, NoGrammar, Memory}
 
--- the line for a file that spells no module
+-- The line for a file that spells no module.
 abbrev pub syntax_error : Text → ℕ → Text
 syntax_error name line = codes "menhir: " ++ (name ++ (codes ":" ++ (decimal line ++ codes ": syntax error\n")))
 
--- the line for modules that give no grammar
+-- The line for modules that give no grammar.
 abbrev pub refusal : GrammarFault → Text
-refusal fault = codes "menhir: " ++ (fault_text fault ++ codes "\n")
+refusal fault = codes "menhir: " ++ (grammar_fault_text fault ++ codes "\n")
 
 abbrev pub bad_words : Text
 bad_words = codes "menhir: usage: bad words\n"
@@ -34,7 +34,7 @@ misplaced option = codes "menhir: usage: misplaced " ++ option ++ codes "\n"
 abbrev pub no_grammar : Text
 no_grammar = codes "menhir: usage: no grammar\n"
 
--- the line for a usage fault; no words spell want of memory
+-- The line for a usage fault. The case of lack of memory is never used: no words spell this fault.
 abbrev pub usage_line : UsageFault → Text
 usage_line Parse = bad_words
 usage_line Number = bad_number

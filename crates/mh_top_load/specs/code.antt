@@ -1,4 +1,4 @@
-pub mod Capitals
-pub mod ModuleFaults
-pub mod GrammarTurns
-pub mod UsageFaults
+pub mod CapitalTokens
+pub mod GrammarFaultStops
+pub mod NextGrammarFile
+pub mod UsageFaultStops

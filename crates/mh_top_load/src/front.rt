@@ -1,37 +1,41 @@
-//! From the words to the grammar: the order that the words spell, its modules, and the grammar that they give.
+//! From the words of the command line to the grammar: the order that the words spell, its modules, and their grammar.
 //! Nothing is written, and nothing of the input is read.
 ghost use Rattle.std.specs.Prelude.{◌≡◌, ◌≤◌, List, ℕ, length, map, string_bytes, IfOk};
 ghost use Rattle.mh_grammar.specs.Costs.{HaveCosts};
 ghost use Rattle.mh_grammar.specs.Plain.{plain_of, IsInRange};
 ghost use Rattle.mh_rules.specs.declared.joined.TheConstants.{MAX_TOKENS};
-ghost use Rattle.mh_top_drive.specs.Causes.{Go};
-ghost use Rattle.mh_top_load.specs.FrontStage.{IsFront};
-ghost use Rattle.mh_top_load.specs.code.GrammarTurns.{AsksForGrammars, IsGrammarTurn};
+ghost use Rattle.mh_top_drive.specs.StageResults.{Go};
+ghost use Rattle.mh_top_load.specs.OrderAndGrammar.{IsOrderAndGrammar};
+ghost use Rattle.mh_top_load.specs.code.NextGrammarFile.{MayAskForGrammars, IsNextGrammarFile};
 ghost use Rattle.mh_top_load.specs.Order.{staged_order};
-ghost use Rattle.mh_top_drive.specs.code.Stages.{FilesGive, ShelfCounts};
-ghost use Rattle.mh_validate_valid.specs.Valid.{AreNamesApart};
+ghost use Rattle.mh_top_drive.specs.code.StageCalls.{FileStageGives, StageShelfCounts};
+ghost use Rattle.mh_validate_valid.specs.Valid.{AreTokenNamesDistinct};
 
 use crate::grammar::grammar_in;
 use crate::modules::modules_of;
 use crate::order::order_in;
 use mh_outside::Shelf;
 use mh_top_drive::Stop;
-use mh_top_types::Front;
+use mh_top_types::OrderAndGrammar;
 use std::alloc::Global;
 
-/// The order that the words spell, with its grammar.
-pub fn front_of<F: Shelf>(alloc: Global, words: &[String], shelf: &mut F) -> Result<Front, Stop>
-    requires asked { AsksForGrammars (map string_bytes words.now) (F.MayAsk shelf.old) }
-    ensures front { FilesGive (IsFront (map string_bytes words.now) (F.files shelf.old))
-        (IsGrammarTurn (map string_bytes words.now) (F.files shelf.old)) result }
+/// Gives the order that the words spell, with its grammar. Reads the grammar files of the order.
+pub fn front_of<F: Shelf>(
+    alloc: Global,
+    words: &[String],
+    shelf: &mut F,
+) -> Result<OrderAndGrammar, Stop>
+    requires asked { MayAskForGrammars (map string_bytes words.now) (F.MayAsk shelf.old) }
+    ensures front { FileStageGives (IsOrderAndGrammar (map string_bytes words.now) (F.files shelf.old))
+        (IsNextGrammarFile (map string_bytes words.now) (F.files shelf.old)) result }
     ensures order { IfOk result (λ front. staged_order (map string_bytes words.now) ≡ Go front.order) }
     ensures range { IfOk result (λ front. IsInRange (plain_of front.grammar)) }
     ensures costs { IfOk result (λ front. HaveCosts front.grammar.tokens) }
     ensures tokens { IfOk result (λ front. length front.grammar.tokens ≤ MAX_TOKENS) }
-    ensures apart { IfOk result (λ front. AreNamesApart front.grammar) }
+    ensures apart { IfOk result (λ front. AreTokenNamesDistinct front.grammar) }
     ensures may_still { IfOk result (λ _. (other : List ℕ) → F.MayAsk shelf.old other → F.MayAsk shelf.new other) }
     ensures kept { F.files shelf.new ≡ F.files shelf.old }
-    ensures counts { ShelfCounts (F.faults shelf.old) (F.faults shelf.new) result }
+    ensures counts { StageShelfCounts (F.faults shelf.old) (F.faults shelf.new) result }
 {
     let order = match order_in(alloc, words) {
         Ok(order) => order,
@@ -42,7 +46,7 @@ pub fn front_of<F: Shelf>(alloc: Global, words: &[String], shelf: &mut F) -> Res
         Err(stop) => return Err(stop),
     };
     match grammar_in(alloc, modules, order.stdlib) {
-        Ok(grammar) => Ok(Front { order, grammar }),
+        Ok(grammar) => Ok(OrderAndGrammar { order, grammar }),
         Err(stop) => Err(stop),
     }
 }

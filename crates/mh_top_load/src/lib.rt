@@ -1,4 +1,4 @@
-//! The first part of the work: from the words and the grammar files to the order and its grammar.
+//! The first stages of the work: from the words of the command line and the grammar files to the order and its grammar.
 #![tactic(auto)]
 
 mod front;

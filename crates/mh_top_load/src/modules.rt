@@ -1,11 +1,12 @@
-//! The modules of an order: those of its grammar files, or that of its sample, whose text is read as that of a file.
+//! Gives the modules of an order: those of its grammar files, or the module of its sample, whose text is read like that
+//! of a file.
 ghost use Rattle.std.specs.Prelude.{◌≡◌, ◌<◌, ◌^◌, ◌∷◌, [], List, ℕ, length, IfOk};
 ghost use Rattle.std.specs.List.{All};
 ghost use Rattle.mh_sample.specs.Texts.{grammar_text};
-ghost use Rattle.mh_top_drive.specs.code.Stages.{FilesGive, ShelfCounts, StageHas, listed};
+ghost use Rattle.mh_top_drive.specs.code.StageCalls.{FileStageGives, StageShelfCounts, StageGives, list_result};
 ghost use Rattle.mh_top_load.specs.GrammarFile.{IsModule};
 ghost use Rattle.mh_top_load.specs.Modules.{AreModules, IsSampleModule, grammar_files, sample_of as sample_in};
-ghost use Rattle.mh_top_drive.specs.Turns.{IsTurn};
+ghost use Rattle.mh_top_drive.specs.NextFile.{IsNextFile};
 
 use crate::grammar_file::{GrammarFiles, module_in};
 use mh_grammar::Memory;
@@ -16,7 +17,7 @@ use mh_sample::sample_grammar;
 use mh_top_drive::{Stop, read_files};
 use std::alloc::Global;
 
-/// The number of the sample that a job asks for.
+/// The number of the sample that a job asks for, if it asks for one.
 fn sample_of(job: &Job) -> Option<u32>
     ensures { result ≡ sample_in job.now }
 {
@@ -26,7 +27,7 @@ fn sample_of(job: &Job) -> Option<u32>
     }
 }
 
-/// The text of the sample's grammar, which is short enough to be read.
+/// The text of the grammar of a sample. It is short enough to be read.
 fn sample_text(alloc: Global, number: u32) -> Result<Vec<u8>, Memory>
     ensures text { IfOk result (λ text. text.items ≡ grammar_text number) }
     ensures short { IfOk result (λ text. length text.items < 2 ^ 31) }
@@ -43,9 +44,9 @@ fn alone(alloc: Global, made: Module) -> Result<Vec<Module>, Memory>
     Ok(modules)
 }
 
-/// The module of a sample, as the only one.
+/// The module of a sample, as a list of one.
 fn sample_modules(alloc: Global, number: u32) -> Result<Vec<Module>, Stop>
-    ensures { StageHas (IsSampleModule number) (listed result) }
+    ensures { StageGives (IsSampleModule number) (list_result result) }
 {
     let text = sample_text(alloc, number)?;
     match module_in(alloc, b"sample", &text) {
@@ -54,18 +55,18 @@ fn sample_modules(alloc: Global, number: u32) -> Result<Vec<Module>, Stop>
     }
 }
 
-/// The modules of an order.
+/// Gives the modules of an order. Reads its grammar files, or none for a sample.
 pub(crate) fn modules_of<F: Shelf>(
     alloc: Global,
     shelf: &mut F,
     order: &Order,
 ) -> Result<Vec<Module>, Stop>
     requires asked { All (F.MayAsk shelf.old) (grammar_files order.now) }
-    ensures modules { FilesGive (AreModules (F.files shelf.old) order.now)
-        (IsTurn (F.files shelf.old) IsModule (grammar_files order.now)) (listed result) }
+    ensures modules { FileStageGives (AreModules (F.files shelf.old) order.now)
+        (IsNextFile (F.files shelf.old) IsModule (grammar_files order.now)) (list_result result) }
     ensures may_still { IfOk result (λ items. (other : List ℕ) → F.MayAsk shelf.old other → F.MayAsk shelf.new other) }
     ensures kept { F.files shelf.new ≡ F.files shelf.old }
-    ensures counts { ShelfCounts (F.faults shelf.old) (F.faults shelf.new) result }
+    ensures counts { StageShelfCounts (F.faults shelf.old) (F.faults shelf.new) result }
 {
     match sample_of(&order.job) {
         Some(number) => sample_modules(alloc, number),

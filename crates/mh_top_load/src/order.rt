@@ -1,17 +1,17 @@
-//! The order that the words of the command line spell, or why they are misused.
+//! Gives the order that the words of the command line spell, or the line on their usage fault.
 ghost use Rattle.std.specs.Prelude.{◌≡◌, ◌++◌, map, string_bytes};
 ghost use Rattle.mh_top_load.specs.Order.{staged_order};
-ghost use Rattle.mh_top_load.specs.code.UsageFaults.{HaltsBy};
-ghost use Rattle.mh_top_drive.specs.code.Stages.{Halts, StageHas};
+ghost use Rattle.mh_top_load.specs.code.UsageFaultStops.{IsStopForUsageFault};
+ghost use Rattle.mh_top_drive.specs.code.StageCalls.{StopsWith, StageGives};
 ghost use Rattle.mh_top_drive.specs.declared.stop.Cause.TheVariants.{Misused as Misused'};
 
 use mh_opts::{Order, UsageFault, read_words};
 use mh_top_drive::{Cause, Stop, joined};
 use std::alloc::Global;
 
-/// The misuse with this line, in three parts.
+/// The stop for misused words, with the line that the three parts make.
 fn misused(alloc: Global, before: &[u8], middle: &[u8], after: &[u8]) -> Stop
-    ensures { Halts (Misused' (before.now ++ middle.now ++ after.now)) result }
+    ensures { StopsWith (Misused' (before.now ++ middle.now ++ after.now)) result }
 {
     match joined(alloc, before, middle, after) {
         Ok(line) => Stop::Halted {
@@ -21,9 +21,9 @@ fn misused(alloc: Global, before: &[u8], middle: &[u8], after: &[u8]) -> Stop
     }
 }
 
-/// Why the work stops where the words spell no order.
+/// The reason to stop the work for a usage fault.
 fn usage(alloc: Global, fault: &UsageFault) -> Stop
-    ensures { HaltsBy fault.now result }
+    ensures { IsStopForUsageFault fault.now result }
 {
     match fault {
         UsageFault::Parse => misused(alloc, b"menhir: usage: bad words\n", b"", b""),
@@ -41,9 +41,9 @@ fn usage(alloc: Global, fault: &UsageFault) -> Stop
     }
 }
 
-/// The order that the words spell.
+/// The order that the words spell, or the stop for their usage fault.
 pub(crate) fn order_in(alloc: Global, words: &[String]) -> Result<Order, Stop>
-    ensures { StageHas (λ s. staged_order (map string_bytes words.now) ≡ s) result }
+    ensures { StageGives (λ s. staged_order (map string_bytes words.now) ≡ s) result }
 {
     match read_words(alloc, words) {
         Ok(order) => Ok(order),

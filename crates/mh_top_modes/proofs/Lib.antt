@@ -1,2 +1,2 @@
-pub mod Both
-pub mod Telling
+pub mod AreMessagesOfBoth
+pub mod IsExplained

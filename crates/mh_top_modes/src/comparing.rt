@@ -1,14 +1,14 @@
-//! The mode that compares two messages files: which states the first names and the second does not.
+//! The mode of `--compare-errors`: the states for which the first messages file has a sentence and the second has none.
 ghost use Rattle.std.specs.Prelude.{◌≡◌, ◌≤◌, ◌^◌, length, IfOk};
 ghost use Rattle.mh_check.specs.Compiling.{missing};
 ghost use Rattle.mh_opts.specs.declared.jobs.Job.TheVariants.{CompareErrors};
-ghost use Rattle.mh_top_plans.specs.Compared.{compared};
-ghost use Rattle.mh_top_plans.specs.Files.{IsTurnOfJob};
-ghost use Rattle.mh_top_plans.specs.MessagesStage.{AreBoth};
+ghost use Rattle.mh_top_plans.specs.Compared.{comparison_result};
+ghost use Rattle.mh_top_plans.specs.Files.{IsNextFileOfJob};
+ghost use Rattle.mh_top_plans.specs.MessagesFiles.{AreMessagesOfBoth};
 ghost use Rattle.mh_top_plans.specs.code.Modes.{Opens, WritesFinal};
 ghost use Rattle.mh_top_plans.specs.Plan.{IsPlanOfJob};
-ghost use Rattle.mh_top_types.specs.code.Prepared.{IsFit};
-ghost use Rattle.mh_top_drive.specs.code.Stages.{FilesGive, ShelfCounts};
+ghost use Rattle.mh_top_types.specs.code.Prepared.{IsConsistent};
+ghost use Rattle.mh_top_drive.specs.code.StageCalls.{FileStageGives, StageShelfCounts};
 
 use mh_check::{Compiled, compare};
 use mh_grammar::{Memory, Sequence};
@@ -21,7 +21,7 @@ use std::alloc::Global;
 
 /// The final text for the states that the second file lacks.
 fn text_for(alloc: Global, first: &[u8], second: &[u8], states: &[u32]) -> Result<FinalText, Memory>
-    ensures { IfOk result (λ made. made ≡ compared first.now second.now states.now) }
+    ensures { IfOk result (λ made. made ≡ comparison_result first.now second.now states.now) }
 {
     if states.is_empty() {
         return Ok(FinalText::Written {
@@ -33,7 +33,7 @@ fn text_for(alloc: Global, first: &[u8], second: &[u8], states: &[u32]) -> Resul
     })
 }
 
-/// The final text for two files, by their messages.
+/// The final text for two files, from their messages for the states of the table.
 fn compared_text(
     alloc: Global,
     first: &[u8],
@@ -42,13 +42,13 @@ fn compared_text(
     right: &Compiled,
 ) -> Result<FinalText, Memory>
     requires { length left.now ≤ 2 ^ 32 }
-    ensures { IfOk result (λ made. made ≡ compared first.now second.now (missing left.now right.now)) }
+    ensures { IfOk result (λ made. made ≡ comparison_result first.now second.now (missing left.now right.now)) }
 {
     let states = compare(alloc, left, right)?;
     text_for(alloc, first, second, &states)
 }
 
-/// The messages of both files, the first read and checked before the second.
+/// Reads and checks two messages files, the first before the second is read, and gives the messages of both.
 fn read_both<F: Shelf, const W: usize>(
     alloc: Global,
     prepared: &Prepared<W>,
@@ -57,11 +57,11 @@ fn read_both<F: Shelf, const W: usize>(
     second: &[u8],
 ) -> Result<(Compiled, Compiled), Stop>
     requires few { W ≤ 8 }
-    requires fit { IsFit prepared.now }
+    requires fit { IsConsistent prepared.now }
     requires asked { F.MayAsk shelf.old first.now × F.MayAsk shelf.old second.now }
-    ensures both { FilesGive (AreBoth (F.files shelf.old) prepared.now first.now second.now)
-        (IsTurnOfJob (CompareErrors first.now second.now) (F.files shelf.old) prepared.now) result }
-    ensures counts { ShelfCounts (F.faults shelf.old) (F.faults shelf.new) result }
+    ensures both { FileStageGives (AreMessagesOfBoth (F.files shelf.old) prepared.now first.now second.now)
+        (IsNextFileOfJob (CompareErrors first.now second.now) (F.files shelf.old) prepared.now) result }
+    ensures counts { StageShelfCounts (F.faults shelf.old) (F.faults shelf.new) result }
     ensures kept { F.files shelf.new ≡ F.files shelf.old }
 {
     let left = match read_messages_file(alloc, prepared, shelf, first) {
@@ -74,7 +74,8 @@ fn read_both<F: Shelf, const W: usize>(
     }
 }
 
-/// Compares the named files: a refusal, where the first names states that the second does not.
+/// Compares two messages files. The final text is a refusal if the first has a sentence for a state for which the
+/// second has none.
 pub fn compare_errors<F: Shelf, const W: usize>(
     alloc: Global,
     prepared: &Prepared<W>,
@@ -83,12 +84,12 @@ pub fn compare_errors<F: Shelf, const W: usize>(
     second: &[u8],
 ) -> Result<FinalText, Stop>
     requires few { W ≤ 8 }
-    requires fit { IsFit prepared.now }
+    requires fit { IsConsistent prepared.now }
     requires asked { F.MayAsk shelf.old first.now × F.MayAsk shelf.old second.now }
     ensures opens { Opens WritesFinal
         (IsPlanOfJob (CompareErrors first.now second.now) (F.files shelf.old) prepared.now)
-        (IsTurnOfJob (CompareErrors first.now second.now) (F.files shelf.old) prepared.now) result }
-    ensures counts { ShelfCounts (F.faults shelf.old) (F.faults shelf.new) result }
+        (IsNextFileOfJob (CompareErrors first.now second.now) (F.files shelf.old) prepared.now) result }
+    ensures counts { StageShelfCounts (F.faults shelf.old) (F.faults shelf.new) result }
     ensures kept { F.files shelf.new ≡ F.files shelf.old }
 {
     prepared.tabled.halting.table().facts();

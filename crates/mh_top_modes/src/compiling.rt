@@ -1,11 +1,11 @@
-//! The mode that writes the messages of a messages file by the states that they are for.
+//! The mode of `--compile-errors`: the messages of a messages file, by their states.
 ghost use Rattle.std.specs.Prelude.{◌≡◌, ◌≤◌};
 ghost use Rattle.mh_opts.specs.declared.jobs.Job.TheVariants.{CompileErrors};
-ghost use Rattle.mh_top_plans.specs.Files.{IsTurnOfJob};
+ghost use Rattle.mh_top_plans.specs.Files.{IsNextFileOfJob};
 ghost use Rattle.mh_top_plans.specs.code.Modes.{Opens, WritesFinal};
 ghost use Rattle.mh_top_plans.specs.Plan.{IsPlanOfJob};
-ghost use Rattle.mh_top_types.specs.code.Prepared.{IsFit};
-ghost use Rattle.mh_top_drive.specs.code.Stages.{ShelfCounts};
+ghost use Rattle.mh_top_types.specs.code.Prepared.{IsConsistent};
+ghost use Rattle.mh_top_drive.specs.code.StageCalls.{StageShelfCounts};
 
 use mh_check::compiled_text;
 use mh_outside::Shelf;
@@ -14,7 +14,7 @@ use mh_top_plans::{FinalText, read_messages_file, written};
 use mh_top_types::Prepared;
 use std::alloc::Global;
 
-/// The messages of the named file by their states, as text.
+/// Gives the messages of a messages file by their states, as text.
 pub fn compile_errors<F: Shelf, const W: usize>(
     alloc: Global,
     prepared: &Prepared<W>,
@@ -22,12 +22,12 @@ pub fn compile_errors<F: Shelf, const W: usize>(
     file: &[u8],
 ) -> Result<FinalText, Stop>
     requires few { W ≤ 8 }
-    requires fit { IsFit prepared.now }
+    requires fit { IsConsistent prepared.now }
     requires asked { F.MayAsk shelf.old file.now }
     ensures opens { Opens WritesFinal
         (IsPlanOfJob (CompileErrors file.now) (F.files shelf.old) prepared.now)
-        (IsTurnOfJob (CompileErrors file.now) (F.files shelf.old) prepared.now) result }
-    ensures counts { ShelfCounts (F.faults shelf.old) (F.faults shelf.new) result }
+        (IsNextFileOfJob (CompileErrors file.now) (F.files shelf.old) prepared.now) result }
+    ensures counts { StageShelfCounts (F.faults shelf.old) (F.faults shelf.new) result }
     ensures kept { F.files shelf.new ≡ F.files shelf.old }
 {
     prepared.tabled.halting.table().facts();

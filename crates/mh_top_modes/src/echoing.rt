@@ -1,11 +1,11 @@
-//! The mode that writes the sentences of a messages file, one a line.
+//! The mode of `--echo-errors`: the sentences of a messages file, one a line.
 ghost use Rattle.std.specs.Prelude.{◌≡◌, ◌≤◌};
 ghost use Rattle.mh_opts.specs.declared.jobs.Job.TheVariants.{EchoErrors};
-ghost use Rattle.mh_top_plans.specs.Files.{IsTurnOfJob};
+ghost use Rattle.mh_top_plans.specs.Files.{IsNextFileOfJob};
 ghost use Rattle.mh_top_plans.specs.code.Modes.{Opens, WritesFinal};
 ghost use Rattle.mh_top_plans.specs.Plan.{IsPlanOfJob};
-ghost use Rattle.mh_top_types.specs.code.Prepared.{IsFit};
-ghost use Rattle.mh_top_drive.specs.code.Stages.{ShelfCounts};
+ghost use Rattle.mh_top_types.specs.code.Prepared.{IsConsistent};
+ghost use Rattle.mh_top_drive.specs.code.StageCalls.{StageShelfCounts};
 
 use mh_msgfile::echo;
 use mh_outside::Shelf;
@@ -14,7 +14,7 @@ use mh_top_plans::{FinalText, read_spelled_file, written};
 use mh_top_types::Prepared;
 use std::alloc::Global;
 
-/// The sentences of the named file, as text.
+/// Gives the sentences of a messages file, as text.
 pub fn echo_errors<F: Shelf, const W: usize>(
     alloc: Global,
     prepared: &Prepared<W>,
@@ -22,12 +22,12 @@ pub fn echo_errors<F: Shelf, const W: usize>(
     file: &[u8],
 ) -> Result<FinalText, Stop>
     requires few { W ≤ 8 }
-    requires fit { IsFit prepared.now }
+    requires fit { IsConsistent prepared.now }
     requires asked { F.MayAsk shelf.old file.now }
     ensures opens { Opens WritesFinal
         (IsPlanOfJob (EchoErrors file.now) (F.files shelf.old) prepared.now)
-        (IsTurnOfJob (EchoErrors file.now) (F.files shelf.old) prepared.now) result }
-    ensures counts { ShelfCounts (F.faults shelf.old) (F.faults shelf.new) result }
+        (IsNextFileOfJob (EchoErrors file.now) (F.files shelf.old) prepared.now) result }
+    ensures counts { StageShelfCounts (F.faults shelf.old) (F.faults shelf.new) result }
     ensures kept { F.files shelf.new ≡ F.files shelf.old }
 {
     match read_spelled_file(alloc, prepared, shelf, file) {

@@ -1,4 +1,5 @@
-//! The mode that explains the first line of the input: the entry of its sentence, or why the sentence has none.
+//! The mode of `--interpret-error`: the entry of the sentence in the first line of the input, or a refusal that says
+//! why the line has no entry.
 ghost use Rattle.std.specs.Prelude.{◌≡◌, ◌<◌, ◌≤◌, ◌^◌, ◌++◌, ℕ, [], length, codes, IfOk};
 ghost use Rattle.std.specs.List.{All};
 ghost use Rattle.mh_tables_core.specs.Failing.{Fails};
@@ -6,9 +7,9 @@ ghost use Rattle.mh_report_comments.specs.Comments.{IsEntryText};
 ghost use Rattle.mh_run.specs.Verdicts.{ending_for};
 ghost use Rattle.mh_check.specs.Texts.{ending_text as ending_words, early_text};
 ghost use Rattle.mh_top_plans.specs.Explained.{IsExplained, IsExplainedSentence, input_refusal};
-ghost use Rattle.mh_top_drive.specs.code.Steps.{ModeRan, Counts};
-ghost use Rattle.mh_top_plans.specs.Plan.{Explains, by_plan};
-ghost use Rattle.mh_top_types.specs.code.Prepared.{IsFit};
+ghost use Rattle.mh_top_drive.specs.code.ModeCalls.{ModeRan, InputAndOutCounts};
+ghost use Rattle.mh_top_plans.specs.Plan.{Explains, plan_behavior};
+ghost use Rattle.mh_top_types.specs.code.Prepared.{IsConsistent};
 
 use mh_check::{ending_text, write_early};
 use mh_grammar::{Memory, Sentence, Sequence};
@@ -21,7 +22,7 @@ use mh_top_plans::{FinalText, write_final};
 use mh_top_types::Prepared;
 use std::alloc::Global;
 
-/// The refusal of the input for a reason in three parts.
+/// The refusal of the input, with the reason that the three parts make.
 fn refuse_input(
     alloc: Global,
     before: &[u8],
@@ -39,7 +40,7 @@ fn refuse_input(
     })
 }
 
-/// The refusal of a sentence that is refused early, at this place.
+/// The refusal of a sentence that is refused before its last token, at this index from 0.
 fn refuse_early(alloc: Global, at: u32) -> Result<FinalText, Memory>
     ensures { IfOk result (λ made. made ≡ input_refusal (early_text at)) }
 {
@@ -50,7 +51,7 @@ fn refuse_early(alloc: Global, at: u32) -> Result<FinalText, Memory>
     })
 }
 
-/// The refusal of a sentence that is not refused, by its verdict.
+/// The refusal of a sentence that is accepted or overshoots, by its verdict.
 fn refuse_ending(alloc: Global, verdict: Verdict) -> Result<FinalText, Memory>
     ensures { IfOk result (λ made. made ≡ input_refusal (ending_words (ending_for verdict))) }
 {
@@ -68,7 +69,7 @@ fn entry_of<const W: usize>(
     sentence: &Sentence,
 ) -> Result<Sequence<u8>, Memory>
     requires few { W ≤ 8 }
-    requires fit { IsFit prepared.now }
+    requires fit { IsConsistent prepared.now }
     requires fails { (state : ℕ) × Fails prepared.now.tabled.halting sentence.now.start sentence.now.tokens state }
     requires size { length sentence.now.tokens < 2 ^ 32 }
     ensures { IfOk result (λ text. IsEntryText prepared.now.grammar prepared.now.tabled.automaton
@@ -92,7 +93,7 @@ fn explain_sentence<const W: usize>(
     sentence: &Sentence,
 ) -> Result<FinalText, Memory>
     requires few { W ≤ 8 }
-    requires fit { IsFit prepared.now }
+    requires fit { IsConsistent prepared.now }
     requires start { sentence.now.start < length prepared.now.tabled.halting.grammar.starts }
     requires tokens { All (λ z. z < prepared.now.tabled.halting.grammar.tokens) sentence.now.tokens }
     requires size { length sentence.now.tokens < 2 ^ 32 }
@@ -117,7 +118,7 @@ fn explain_line<const W: usize>(
     line: &[u8],
 ) -> Result<FinalText, Memory>
     requires few { W ≤ 8 }
-    requires fit { IsFit prepared.now }
+    requires fit { IsConsistent prepared.now }
     requires short { length line.now < 2 ^ 32 }
     ensures { IfOk result (λ made. IsExplained prepared.now line.now made) }
 {
@@ -135,8 +136,8 @@ fn explain_line<const W: usize>(
     }
 }
 
-/// The mode that asks for the first line alone and explains this line at its end. An input without a line is
-/// explained as an empty line is.
+/// A mode that asks for the first line only, and writes its entry or its refusal at the end. An input without lines is
+/// treated as an empty line.
 #[derive(Drop)]
 struct Explaining<'a, const W: usize> {
     prepared: &'a Prepared<W>,
@@ -145,14 +146,14 @@ struct Explaining<'a, const W: usize> {
 
 impl<'a, const W: usize> Mode for Explaining<'a, W> {
     ghost use Rattle.std.specs.Prelude.{◌≡◌, ◌≤◌, ◌<◌, ◌^◌, length};
-    ghost use Rattle.mh_top_plans.specs.Plan.{Plan, by_plan, Explains};
-    ghost use Rattle.mh_top_types.specs.code.Prepared.{IsFit};
+    ghost use Rattle.mh_top_plans.specs.Plan.{Plan, plan_behavior, Explains};
+    ghost use Rattle.mh_top_types.specs.code.Prepared.{IsConsistent};
 
     ghost State = { Plan };
 
-    ghost way = { by_plan };
+    ghost way = { plan_behavior };
 
-    ghost Is = { λ s plan. (W ≤ 8) × IsFit s.prepared.now × (length s.line < 2 ^ 32) × (plan ≡ Explains s.prepared.now s.line) };
+    ghost Is = { λ s plan. (W ≤ 8) × IsConsistent s.prepared.now × (length s.line < 2 ^ 32) × (plan ≡ Explains s.prepared.now s.line) };
 
     fn asks(&self) -> Asks {
         Asks::FirstLine
@@ -169,7 +170,7 @@ impl<'a, const W: usize> Mode for Explaining<'a, W> {
     }
 }
 
-/// Explains the first line of the input.
+/// Writes the entry of the sentence in the first line of the input, or refuses the line.
 pub fn explain<I: Source, O: Sink, const W: usize>(
     alloc: Global,
     prepared: &Prepared<W>,
@@ -177,10 +178,10 @@ pub fn explain<I: Source, O: Sink, const W: usize>(
     out: &mut O,
 ) -> Result<(), Stop>
     requires few { W ≤ 8 }
-    requires fit { IsFit prepared.now }
-    ensures ran { ModeRan by_plan (Explains prepared.now []) (I.left input.old) (I.left input.new)
+    requires fit { IsConsistent prepared.now }
+    ensures ran { ModeRan plan_behavior (Explains prepared.now []) (I.left input.old) (I.left input.new)
         (O.written out.old) (O.written out.new) result }
-    ensures counts { Counts (I.faults input.old) (I.faults input.new)
+    ensures counts { InputAndOutCounts (I.faults input.old) (I.faults input.new)
         (O.faults out.old) (O.faults out.new) result }
 {
     let mode = Explaining {

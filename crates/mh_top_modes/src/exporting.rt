@@ -1,7 +1,7 @@
-//! The mode that writes the table as a file of its own.
+//! The mode of `--write-tables`: the automaton and its table as a table file.
 ghost use Rattle.std.specs.Prelude.{◌≡◌, ◌≤◌, IfOk};
-ghost use Rattle.mh_top_types.specs.code.Prepared.{IsFit};
-ghost use Rattle.mh_top_plans.specs.Plan.{tables_of};
+ghost use Rattle.mh_top_types.specs.code.Prepared.{IsConsistent};
+ghost use Rattle.mh_top_plans.specs.Plan.{table_file_text};
 
 use mh_grammar::{Memory, Sequence};
 use mh_outside::Sink;
@@ -11,7 +11,7 @@ use mh_top_plans::Writer;
 use mh_top_types::Prepared;
 use std::alloc::Global;
 
-/// What writes the table file.
+/// The mode of `--write-tables`, as a writer of the table file.
 #[derive(Drop)]
 pub struct TableFile<'a, const W: usize> {
     pub prepared: &'a Prepared<W>,
@@ -20,8 +20,8 @@ pub struct TableFile<'a, const W: usize> {
 /// The text of the table file.
 fn exported<const W: usize>(alloc: Global, prepared: &Prepared<W>) -> Result<Sequence<u8>, Memory>
     requires few { W ≤ 8 }
-    requires fit { IsFit prepared.now }
-    ensures { IfOk result (λ text. text ≡ tables_of prepared.now) }
+    requires fit { IsConsistent prepared.now }
+    ensures { IfOk result (λ text. text ≡ table_file_text prepared.now) }
 {
     let text = write_tables(
         alloc,
@@ -35,14 +35,14 @@ fn exported<const W: usize>(alloc: Global, prepared: &Prepared<W>) -> Result<Seq
 
 impl<const W: usize> Writer for TableFile<'_, W> {
     ghost use Rattle.std.specs.Prelude.{◌≤◌};
-    ghost use Rattle.mh_top_plans.specs.FinalText.{ending_of};
-    ghost use Rattle.mh_top_plans.specs.Plan.{Known, tables_of};
+    ghost use Rattle.mh_top_plans.specs.FinalText.{end_of_final_text};
+    ghost use Rattle.mh_top_plans.specs.Plan.{Known, table_file_text};
     ghost use Rattle.mh_top_plans.specs.declared.at_end.FinalText.TheVariants.{Written};
-    ghost use Rattle.mh_top_types.specs.code.Prepared.{IsFit};
+    ghost use Rattle.mh_top_types.specs.code.Prepared.{IsConsistent};
 
-    ghost is_ready = { λ s. (W ≤ 8) × IsFit s.prepared.now };
+    ghost is_ready = { λ s. (W ≤ 8) × IsConsistent s.prepared.now };
 
-    ghost end = { λ s. Known (ending_of (Written (tables_of s.prepared.now))) };
+    ghost end = { λ s. Known (end_of_final_text (Written (table_file_text s.prepared.now))) };
 
     fn write<O: Sink>(self, alloc: Global, out: &mut O) -> Result<(), Stop> {
         let text = exported(alloc, self.prepared)?;

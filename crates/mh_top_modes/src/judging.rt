@@ -1,4 +1,4 @@
-//! The mode that answers each line of the input with its verdict.
+//! The mode of `--interpret`: each line of the input is a sentence, and the answer is its verdict.
 ghost use Rattle.std.specs.Prelude.{◌≡◌, ◌<◌, ◌≤◌, ◌^◌, ◌++◌, List, ℕ, length, IfOk, OnOk};
 ghost use Rattle.std.specs.List.{All};
 ghost use Rattle.mh_grammar.specs.Plain.{plain_of};
@@ -6,14 +6,14 @@ ghost use Rattle.mh_engine.specs.Outcomes.{tree_ending_for};
 ghost use Rattle.mh_run.specs.Verdicts.{ending_for};
 ghost use Rattle.mh_msgfile.specs.Sentences.{vocabulary_in, vocabulary_of};
 ghost use Rattle.mh_check.specs.Compiling.{message_at};
-ghost use Rattle.mh_top_plans.specs.code.Modes.{Followed, Opens};
+ghost use Rattle.mh_top_plans.specs.code.Modes.{OpenedAndRan, Opens};
 ghost use Rattle.mh_opts.specs.declared.jobs.Job.TheVariants.{Interpret as Interpret'};
-ghost use Rattle.mh_top_plans.specs.Plan.{Judges, IsPlanOfJob, MessagesFor};
-ghost use Rattle.mh_top_plans.specs.Files.{IsTurnOfJob, named};
-ghost use Rattle.mh_top_drive.specs.code.Stages.{FilesGive, ShelfCounts};
-ghost use Rattle.mh_top_drive.specs.code.Steps.{Counts, FileCounts};
-ghost use Rattle.mh_top_types.specs.code.Prepared.{IsFit};
-ghost use Rattle.mh_top_plans.specs.Verdicts.{AnswersOne, IsOutcomeText, IsVerdictText, SentenceText, message_or, outcome_text as outcome_line, refusal_text as refusal_line, verdict_text as verdict_line};
+ghost use Rattle.mh_top_plans.specs.Plan.{Judges, IsPlanOfJob, AreOptionalMessages};
+ghost use Rattle.mh_top_plans.specs.Files.{IsNextFileOfJob, optional_file};
+ghost use Rattle.mh_top_drive.specs.code.StageCalls.{FileStageGives, StageShelfCounts};
+ghost use Rattle.mh_top_drive.specs.code.ModeCalls.{InputAndOutCounts, ModeShelfCounts};
+ghost use Rattle.mh_top_types.specs.code.Prepared.{IsConsistent};
+ghost use Rattle.mh_top_plans.specs.Verdicts.{IsAnswerToLine, IsOutcomeText, IsVerdictText, IsSentenceAnswer, message_or_none, outcome_text as outcome_line, refusal_text as refusal_line, verdict_text as verdict_line};
 
 use mh_check::Compiled;
 use mh_engine::{TreeOutcome, run_with_trees};
@@ -29,28 +29,28 @@ use mh_top_types::Prepared;
 use mh_tree::print_tree;
 use std::alloc::Global;
 
-/// The mode: by what each line is answered.
+/// The mode of `--interpret`: all that the answer to a line depends on.
 #[derive(Drop)]
 struct Judging<'a> {
-    /// Whether an accepted sentence is shown with its tree.
+    /// True if an accepted sentence is shown with its tree.
     trees: bool,
     grammar: &'a Grammar,
     lexicon: Lexicon,
     halting: &'a Halting,
-    /// The messages for refused sentences, where a messages file is given.
+    /// The messages for refused sentences, if the order has a messages file.
     messages: Option<Compiled>,
     ghost numbers: { vocabulary_in lexicon ≡ vocabulary_of grammar.now },
     ghost same: { halting.now.grammar ≡ plain_of grammar.now },
 }
 
-/// Writes the message of a state, or a line that says that there is none.
+/// Appends the message of a state, or the line for a state without a message.
 fn write_message(
     alloc: Global,
     text: &mut Vec<u8>,
     messages: &Compiled,
     state: u32,
 ) -> Result<(), Memory>
-    ensures { OnOk result (text.new.items ≡ text.old.items ++ message_or state (message_at messages.now state)) }
+    ensures { OnOk result (text.new.items ≡ text.old.items ++ message_or_none state (message_at messages.now state)) }
 {
     match messages.message(state) {
         Some(message) => text.extend_from_slice(message)?,
@@ -74,7 +74,7 @@ fn refusal_text(alloc: Global, messages: &Option<Compiled>, state: u32) -> Resul
     Ok(text)
 }
 
-/// The answer for a verdict.
+/// The answer to a sentence with this verdict.
 fn verdict_text(
     alloc: Global,
     messages: &Option<Compiled>,
@@ -89,7 +89,7 @@ fn verdict_text(
     }
 }
 
-/// The answer to a sentence by its verdict.
+/// The answer to a sentence, from its verdict.
 fn verdict_answer(alloc: Global, by: &Judging<'_>, sentence: &Sentence) -> Result<Vec<u8>, Memory>
     requires start { sentence.now.start < length by.now.halting.now.grammar.starts }
     requires tokens { All (λ z. z < by.now.halting.now.grammar.tokens) sentence.now.tokens }
@@ -105,7 +105,7 @@ fn verdict_answer(alloc: Global, by: &Judging<'_>, sentence: &Sentence) -> Resul
     verdict_text(alloc, &by.messages, verdict)
 }
 
-/// The answer for the outcome of a run with trees.
+/// The answer to a sentence whose run with trees has this outcome.
 fn outcome_text(alloc: Global, by: &Judging<'_>, outcome: &TreeOutcome) -> Result<Vec<u8>, Memory>
     ensures { IfOk result (λ text. text.items ≡ outcome_line by.now.grammar.now by.now.messages (tree_ending_for outcome.now)) }
 {
@@ -121,7 +121,7 @@ fn outcome_text(alloc: Global, by: &Judging<'_>, outcome: &TreeOutcome) -> Resul
     }
 }
 
-/// The answer to a sentence by its run with trees.
+/// The answer to a sentence, from its run with trees.
 fn tree_answer(alloc: Global, by: &Judging<'_>, sentence: &Sentence) -> Result<Vec<u8>, Memory>
     requires start { sentence.now.start < length by.now.halting.now.grammar.starts }
     requires tokens { All (λ z. z < by.now.halting.now.grammar.tokens) sentence.now.tokens }
@@ -137,13 +137,13 @@ fn tree_answer(alloc: Global, by: &Judging<'_>, sentence: &Sentence) -> Result<V
     outcome_text(alloc, by, &outcome)
 }
 
-/// The answer to a sentence.
+/// The answer to a sentence, with trees or without.
 fn sentence_text(alloc: Global, by: &Judging<'_>, sentence: &Sentence) -> Result<Vec<u8>, Memory>
     requires start { sentence.now.start < length by.now.halting.now.grammar.starts }
     requires tokens { All (λ z. z < by.now.halting.now.grammar.tokens) sentence.now.tokens }
     requires few { length sentence.now.tokens < 2 ^ 32 }
     ensures { IfOk result (λ text.
-        SentenceText by.now.trees by.now.grammar.now by.now.halting.now by.now.messages sentence.now text.items) }
+        IsSentenceAnswer by.now.trees by.now.grammar.now by.now.halting.now by.now.messages sentence.now text.items) }
 {
     if by.trees {
         tree_answer(alloc, by, sentence)
@@ -155,7 +155,7 @@ fn sentence_text(alloc: Global, by: &Judging<'_>, sentence: &Sentence) -> Result
 /// The text that answers a line.
 fn line_text(alloc: Global, by: &Judging<'_>, line: &[u8]) -> Result<Vec<u8>, Memory>
     requires short { length line.now < 2 ^ 32 }
-    ensures { IfOk result (λ text. AnswersOne
+    ensures { IfOk result (λ text. IsAnswerToLine
         (record { trees = by.now.trees; grammar = by.now.grammar.now; table = by.now.halting.now; messages = by.now.messages })
         line.now text.items) }
 {
@@ -177,11 +177,11 @@ fn line_text(alloc: Global, by: &Judging<'_>, line: &[u8]) -> Result<Vec<u8>, Me
 
 impl<'a> Mode for Judging<'a> {
     ghost use Rattle.std.specs.Prelude.{◌≡◌};
-    ghost use Rattle.mh_top_plans.specs.Plan.{Plan, by_plan, Judges};
+    ghost use Rattle.mh_top_plans.specs.Plan.{Plan, plan_behavior, Judges};
 
     ghost State = { Plan };
 
-    ghost way = { by_plan };
+    ghost way = { plan_behavior };
 
     ghost Is = { λ s plan. plan ≡ Judges (record { trees = s.trees; grammar = s.grammar.now; table = s.halting.now; messages = s.messages }) };
 
@@ -198,19 +198,19 @@ impl<'a> Mode for Judging<'a> {
     }
 }
 
-/// Reads the messages file that the order names, where the order names one.
+/// Reads the messages file of the order, if it has one.
 fn messages_for<F: Shelf, const W: usize>(
     alloc: Global,
     prepared: &Prepared<W>,
     shelf: &mut F,
 ) -> Result<Option<Compiled>, Stop>
     requires few { W ≤ 8 }
-    requires fit { IsFit prepared.now }
-    requires asked { All (F.MayAsk shelf.old) (named prepared.now.order.messages) }
-    ensures messages { FilesGive (MessagesFor prepared.now.order.messages (F.files shelf.old) prepared.now)
-        (IsTurnOfJob Interpret' (F.files shelf.old) prepared.now) result }
+    requires fit { IsConsistent prepared.now }
+    requires asked { All (F.MayAsk shelf.old) (optional_file prepared.now.order.messages) }
+    ensures messages { FileStageGives (AreOptionalMessages prepared.now.order.messages (F.files shelf.old) prepared.now)
+        (IsNextFileOfJob Interpret' (F.files shelf.old) prepared.now) result }
     ensures kept { F.files shelf.new ≡ F.files shelf.old }
-    ensures counts { ShelfCounts (F.faults shelf.old) (F.faults shelf.new) result }
+    ensures counts { StageShelfCounts (F.faults shelf.old) (F.faults shelf.new) result }
 {
     match &prepared.order.messages {
         None => Ok(None),
@@ -221,19 +221,19 @@ fn messages_for<F: Shelf, const W: usize>(
     }
 }
 
-/// Opens the mode, with the messages of the file that the order names.
+/// Opens the mode: reads the messages file of the order, if it has one.
 fn judge_by<'a, F: Shelf, const W: usize>(
     alloc: Global,
     prepared: &'a Prepared<W>,
     shelf: &mut F,
 ) -> Result<Judging<'a>, Stop>
     requires few { W ≤ 8 }
-    requires fit { IsFit prepared.now }
-    requires asked { All (F.MayAsk shelf.old) (named prepared.now.order.messages) }
+    requires fit { IsConsistent prepared.now }
+    requires asked { All (F.MayAsk shelf.old) (optional_file prepared.now.order.messages) }
     ensures opens { Opens (λ by plan. plan ≡ Judges (record { trees = by.trees; grammar = by.grammar.now; table = by.halting.now; messages = by.messages }))
         (IsPlanOfJob Interpret' (F.files shelf.old) prepared.now)
-        (IsTurnOfJob Interpret' (F.files shelf.old) prepared.now) result }
-    ensures counts { ShelfCounts (F.faults shelf.old) (F.faults shelf.new) result }
+        (IsNextFileOfJob Interpret' (F.files shelf.old) prepared.now) result }
+    ensures counts { StageShelfCounts (F.faults shelf.old) (F.faults shelf.new) result }
     ensures kept { F.files shelf.new ≡ F.files shelf.old }
 {
     let grammar = &prepared.grammar;
@@ -264,14 +264,14 @@ pub fn interpret<F: Shelf, I: Source, O: Sink, const W: usize>(
     out: &mut O,
 ) -> Result<(), Stop>
     requires few { W ≤ 8 }
-    requires fit { IsFit prepared.now }
-    requires asked { All (F.MayAsk shelf.old) (named prepared.now.order.messages) }
-    ensures ran { Followed (IsPlanOfJob Interpret' (F.files shelf.old) prepared.now)
-        (IsTurnOfJob Interpret' (F.files shelf.old) prepared.now)
+    requires fit { IsConsistent prepared.now }
+    requires asked { All (F.MayAsk shelf.old) (optional_file prepared.now.order.messages) }
+    ensures ran { OpenedAndRan (IsPlanOfJob Interpret' (F.files shelf.old) prepared.now)
+        (IsNextFileOfJob Interpret' (F.files shelf.old) prepared.now)
         (I.left input.old) (I.left input.new) (O.written out.old) (O.written out.new) result }
-    ensures counts { Counts (I.faults input.old) (I.faults input.new)
+    ensures counts { InputAndOutCounts (I.faults input.old) (I.faults input.new)
         (O.faults out.old) (O.faults out.new) result }
-    ensures read { FileCounts (F.faults shelf.old) (F.faults shelf.new) result }
+    ensures read { ModeShelfCounts (F.faults shelf.old) (F.faults shelf.new) result }
     ensures kept { F.files shelf.new ≡ F.files shelf.old }
 {
     let opened = judge_by(alloc, prepared, shelf);

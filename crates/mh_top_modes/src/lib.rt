@@ -1,5 +1,5 @@
-//! The modes of the jobs, but for those that write what the catalogue gives: verdicts and sessions on the lines of
-//! the input, the entry of the first line, the automaton and its table file, and what is made of messages files.
+//! The modes that make no catalogue: verdicts and sessions on the lines of the input, the entry of the first line, the
+//! automaton as text and as a table file, and the four modes on messages files.
 #![tactic(auto)]
 
 mod comparing;

@@ -1,13 +1,13 @@
-//! The mode that serves a session: each line of the input is a command on named branches of a parse.
+//! The mode of `--session`: each line of the input is a command on the named branches of a parser.
 ghost use Rattle.std.specs.Prelude.{◌≡◌, ◌≤◌, []};
 ghost use Rattle.mh_grammar.specs.Plain.{plain_of};
 ghost use Rattle.mh_msgfile.specs.Sentences.{vocabulary_in, vocabulary_of};
 ghost use Rattle.mh_session_branches.specs.Answers.{Branches};
-ghost use Rattle.mh_session.specs.Standing.{StandsFor};
-ghost use Rattle.mh_top_drive.specs.code.Steps.{Counts};
-ghost use Rattle.mh_top_plans.specs.code.Modes.{Followed, Opens};
+ghost use Rattle.mh_session.specs.Represents.{Represents};
+ghost use Rattle.mh_top_drive.specs.code.ModeCalls.{InputAndOutCounts};
+ghost use Rattle.mh_top_plans.specs.code.Modes.{OpenedAndRan, Opens};
 ghost use Rattle.mh_top_plans.specs.Plan.{Serves};
-ghost use Rattle.mh_top_types.specs.code.Prepared.{IsFit};
+ghost use Rattle.mh_top_types.specs.code.Prepared.{IsConsistent};
 
 use mh_grammar::{Grammar, Memory};
 use mh_msgfile::Lexicon;
@@ -17,7 +17,7 @@ use mh_top_drive::{Asks, Mode, Stop, drive_opened};
 use mh_top_types::Prepared;
 use std::alloc::Global;
 
-/// The mode: the session, and by what each line is read.
+/// The mode of `--session`: the session, and the names by which lines are read.
 #[derive(Drop)]
 struct Serving<'a> {
     grammar: &'a Grammar,
@@ -30,14 +30,14 @@ struct Serving<'a> {
 impl<'a> Mode for Serving<'a> {
     ghost use Rattle.std.specs.Prelude.{◌≡◌};
     ghost use Rattle.mh_session_branches.specs.Answers.{Branches};
-    ghost use Rattle.mh_session.specs.Standing.{StandsFor};
-    ghost use Rattle.mh_top_plans.specs.Plan.{Plan, by_plan, Serves};
+    ghost use Rattle.mh_session.specs.Represents.{Represents};
+    ghost use Rattle.mh_top_plans.specs.Plan.{Plan, plan_behavior, Serves};
 
     ghost State = { Plan };
 
-    ghost way = { by_plan };
+    ghost way = { plan_behavior };
 
-    ghost Is = { λ s plan. (branches : Branches) × StandsFor s.session branches × (plan ≡ Serves s.grammar.now s.session.table branches) };
+    ghost Is = { λ s plan. (branches : Branches) × Represents s.session branches × (plan ≡ Serves s.grammar.now s.session.table branches) };
 
     fn asks(&self) -> Asks {
         Asks::EachLine
@@ -52,14 +52,14 @@ impl<'a> Mode for Serving<'a> {
     }
 }
 
-/// Opens the mode, with a session that has no names yet.
+/// Opens the mode, with a session without names.
 fn serve_on<'a, const W: usize>(
     alloc: Global,
     prepared: &'a Prepared<W>,
 ) -> Result<Serving<'a>, Stop>
     requires few { W ≤ 8 }
-    requires fit { IsFit prepared.now }
-    ensures { Opens (λ by plan. (branches : Branches) × StandsFor by.session branches × (plan ≡ Serves by.grammar.now by.session.table branches))
+    requires fit { IsConsistent prepared.now }
+    ensures { Opens (λ by plan. (branches : Branches) × Represents by.session branches × (plan ≡ Serves by.grammar.now by.session.table branches))
         (λ plan. plan ≡ Serves prepared.now.grammar prepared.now.tabled.halting [])
         (λ name. ⊥) result }
 {
@@ -82,10 +82,10 @@ pub fn run_session<I: Source, O: Sink, const W: usize>(
     out: &mut O,
 ) -> Result<(), Stop>
     requires few { W ≤ 8 }
-    requires fit { IsFit prepared.now }
-    ensures ran { Followed (λ plan. plan ≡ Serves prepared.now.grammar prepared.now.tabled.halting []) (λ name. ⊥)
+    requires fit { IsConsistent prepared.now }
+    ensures ran { OpenedAndRan (λ plan. plan ≡ Serves prepared.now.grammar prepared.now.tabled.halting []) (λ name. ⊥)
         (I.left input.old) (I.left input.new) (O.written out.old) (O.written out.new) result }
-    ensures counts { Counts (I.faults input.old) (I.faults input.new)
+    ensures counts { InputAndOutCounts (I.faults input.old) (I.faults input.new)
         (O.faults out.old) (O.faults out.new) result }
 {
     let opened = serve_on(alloc, prepared);

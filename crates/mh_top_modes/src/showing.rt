@@ -1,7 +1,7 @@
-//! The mode that writes the automaton as text.
+//! The mode of `--show-automaton`: the automaton as text.
 ghost use Rattle.std.specs.Prelude.{◌≤◌, IfOk};
 ghost use Rattle.mh_report.specs.Automata.{IsAutomatonText};
-ghost use Rattle.mh_top_types.specs.code.Prepared.{IsFit};
+ghost use Rattle.mh_top_types.specs.code.Prepared.{IsConsistent};
 
 use mh_grammar::{Memory, Sequence};
 use mh_outside::Sink;
@@ -11,7 +11,7 @@ use mh_top_plans::Writer;
 use mh_top_types::Prepared;
 use std::alloc::Global;
 
-/// What writes the text of the automaton.
+/// The mode of `--show-automaton`, as a writer of the text of the automaton.
 #[derive(Drop)]
 pub struct AutomatonText<'a, const W: usize> {
     pub prepared: &'a Prepared<W>,
@@ -20,7 +20,7 @@ pub struct AutomatonText<'a, const W: usize> {
 /// The text of the automaton.
 fn shown<const W: usize>(alloc: Global, prepared: &Prepared<W>) -> Result<Sequence<u8>, Memory>
     requires few { W ≤ 8 }
-    requires fit { IsFit prepared.now }
+    requires fit { IsConsistent prepared.now }
     ensures { IfOk result (λ text. IsAutomatonText prepared.now.grammar prepared.now.tabled.automaton
         prepared.now.tabled.mode prepared.now.tabled.halting text) }
 {
@@ -37,9 +37,9 @@ fn shown<const W: usize>(alloc: Global, prepared: &Prepared<W>) -> Result<Sequen
 impl<'a, const W: usize> Writer for AutomatonText<'a, W> {
     ghost use Rattle.std.specs.Prelude.{◌≤◌};
     ghost use Rattle.mh_top_plans.specs.Plan.{Automaton};
-    ghost use Rattle.mh_top_types.specs.code.Prepared.{IsFit};
+    ghost use Rattle.mh_top_types.specs.code.Prepared.{IsConsistent};
 
-    ghost is_ready = { λ s. (W ≤ 8) × IsFit s.prepared.now };
+    ghost is_ready = { λ s. (W ≤ 8) × IsConsistent s.prepared.now };
 
     ghost end = { λ s. Automaton s.prepared.now };
 

@@ -1,13 +1,13 @@
-//! The mode that brings a messages file up to date: its comment lines are made anew, and all else stays.
+//! The mode of `--update-errors`: a messages file with new comment lines for its sentences, otherwise unchanged.
 ghost use Rattle.std.specs.Prelude.{◌≡◌, ◌≤◌, length};
-ghost use Rattle.mh_msgfile.specs.Messages.{AreOf};
+ghost use Rattle.mh_msgfile.specs.Messages.{AreSentencesOf};
 ghost use Rattle.mh_opts.specs.declared.jobs.Job.TheVariants.{UpdateErrors};
-ghost use Rattle.mh_top_plans.specs.Files.{IsTurnOfJob};
-ghost use Rattle.mh_top_plans.specs.MessagesStage.{IsUpdatedFile, IsUpdatedOf};
+ghost use Rattle.mh_top_plans.specs.Files.{IsNextFileOfJob};
+ghost use Rattle.mh_top_plans.specs.MessagesFiles.{IsUpdatedFile, IsUpdatedOf};
 ghost use Rattle.mh_top_plans.specs.code.Modes.{Opens, WritesFinal};
 ghost use Rattle.mh_top_plans.specs.Plan.{IsPlanOfJob};
-ghost use Rattle.mh_top_types.specs.code.Prepared.{IsFit};
-ghost use Rattle.mh_top_drive.specs.code.Stages.{FilesGive, ShelfCounts, StageHas};
+ghost use Rattle.mh_top_types.specs.code.Prepared.{IsConsistent};
+ghost use Rattle.mh_top_drive.specs.code.StageCalls.{FileStageGives, StageShelfCounts, StageGives};
 
 use mh_check::CheckFault;
 use mh_grammar::Sequence;
@@ -19,7 +19,7 @@ use mh_top_types::Prepared;
 use mh_update::update;
 use std::alloc::Global;
 
-/// A file that was spelled, brought up to date.
+/// Gives the messages file with new comment lines for its sentences, as text, or its refusal.
 fn updated_of<const W: usize>(
     alloc: Global,
     prepared: &Prepared<W>,
@@ -27,9 +27,9 @@ fn updated_of<const W: usize>(
     file: &MsgFile,
 ) -> Result<Sequence<u8>, Stop>
     requires few { W ≤ 8 }
-    requires fit { IsFit prepared.now }
-    requires known { AreOf (length prepared.now.tabled.halting.grammar.starts) prepared.now.tabled.halting.grammar.tokens file.now }
-    ensures { StageHas (IsUpdatedOf prepared.now name.now file.now) result }
+    requires fit { IsConsistent prepared.now }
+    requires known { AreSentencesOf (length prepared.now.tabled.halting.grammar.starts) prepared.now.tabled.halting.grammar.tokens file.now }
+    ensures { StageGives (IsUpdatedOf prepared.now name.now file.now) result }
 {
     let tabled = &prepared.tabled;
     match update(
@@ -45,7 +45,7 @@ fn updated_of<const W: usize>(
     }
 }
 
-/// Reads the named file, and brings it up to date.
+/// Reads the named messages file, and brings it up to date.
 fn read_updated_file<F: Shelf, const W: usize>(
     alloc: Global,
     prepared: &Prepared<W>,
@@ -53,11 +53,11 @@ fn read_updated_file<F: Shelf, const W: usize>(
     name: &[u8],
 ) -> Result<Sequence<u8>, Stop>
     requires few { W ≤ 8 }
-    requires fit { IsFit prepared.now }
+    requires fit { IsConsistent prepared.now }
     requires asked { F.MayAsk shelf.old name.now }
-    ensures updated { FilesGive (IsUpdatedFile (F.files shelf.old) prepared.now name.now)
+    ensures updated { FileStageGives (IsUpdatedFile (F.files shelf.old) prepared.now name.now)
         (λ other. other ≡ name.now) result }
-    ensures counts { ShelfCounts (F.faults shelf.old) (F.faults shelf.new) result }
+    ensures counts { StageShelfCounts (F.faults shelf.old) (F.faults shelf.new) result }
     ensures kept { F.files shelf.new ≡ F.files shelf.old }
 {
     match read_spelled_file(alloc, prepared, shelf, name) {
@@ -66,7 +66,7 @@ fn read_updated_file<F: Shelf, const W: usize>(
     }
 }
 
-/// The named file, brought up to date.
+/// Reads the named messages file, and gives it with new comment lines, as text.
 pub fn update_errors<F: Shelf, const W: usize>(
     alloc: Global,
     prepared: &Prepared<W>,
@@ -74,12 +74,12 @@ pub fn update_errors<F: Shelf, const W: usize>(
     file: &[u8],
 ) -> Result<FinalText, Stop>
     requires few { W ≤ 8 }
-    requires fit { IsFit prepared.now }
+    requires fit { IsConsistent prepared.now }
     requires asked { F.MayAsk shelf.old file.now }
     ensures opens { Opens WritesFinal
         (IsPlanOfJob (UpdateErrors file.now) (F.files shelf.old) prepared.now)
-        (IsTurnOfJob (UpdateErrors file.now) (F.files shelf.old) prepared.now) result }
-    ensures counts { ShelfCounts (F.faults shelf.old) (F.faults shelf.new) result }
+        (IsNextFileOfJob (UpdateErrors file.now) (F.files shelf.old) prepared.now) result }
+    ensures counts { StageShelfCounts (F.faults shelf.old) (F.faults shelf.new) result }
     ensures kept { F.files shelf.new ≡ F.files shelf.old }
 {
     match read_updated_file(alloc, prepared, shelf, file) {

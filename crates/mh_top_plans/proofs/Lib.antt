@@ -1,5 +1,5 @@
-pub mod Turning
-pub mod Reading
-pub mod Messaging
-pub mod Following
-pub mod Pairs
+pub mod IsNextFileOfJob
+pub mod FilesOfMode
+pub mod MessagesFileLines
+pub mod OpenedAndRan
+pub mod AreMessagesOfBoth

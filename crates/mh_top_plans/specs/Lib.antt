@@ -2,7 +2,7 @@ pub mod Verdicts
 pub mod FinalText
 pub mod Compared
 pub mod Explained
-pub mod MessagesStage
+pub mod MessagesFiles
 pub mod Listing
 pub mod Sampled
 pub mod Plan

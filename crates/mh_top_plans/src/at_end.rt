@@ -1,9 +1,9 @@
-//! Modes that ask for no line of the input, and write only at their end.
+//! Modes that ask for no line of the input and write only at their end.
 ghost use Rattle.std.specs.Prelude.{◌≡◌};
-ghost use Rattle.mh_top_drive.specs.code.Opening.{Driven, IsOpened};
-ghost use Rattle.mh_top_drive.specs.code.Steps.{Counts, EndRan, ModeRan, OutCounts};
-ghost use Rattle.mh_top_plans.specs.FinalText.{ending_of};
-ghost use Rattle.mh_top_plans.specs.Plan.{End, Ends, EndsBy, by_plan};
+ghost use Rattle.mh_top_drive.specs.code.OpenedModes.{OpenedModeRan, IsOpened};
+ghost use Rattle.mh_top_drive.specs.code.ModeCalls.{InputAndOutCounts, EndIsWritten, ModeRan, OutCounts};
+ghost use Rattle.mh_top_plans.specs.FinalText.{end_of_final_text};
+ghost use Rattle.mh_top_plans.specs.Plan.{FinalOutput, Ends, IsFinalOutput, plan_behavior};
 ghost use Rattle.mh_top_plans.specs.code.Modes.{WritesFinal};
 ghost use Rattle.mh_top_plans.specs.declared.at_end.FinalText.TheVariants.{Written as Written'};
 
@@ -12,34 +12,34 @@ use mh_outside::{Sink, Source};
 use mh_top_drive::{Asks, Mode, Stop, drive, refusal, write_text};
 use std::alloc::Global;
 
-/// What writes the end of a mode that asks for no line. Such a mode is a value with this trait, run by `write_at_end`.
+/// A mode that asks for no line, and writes only at its end. The call `write_at_end` runs it.
 pub trait Writer {
-    /// What the writer relies on.
+    /// The precondition of writing.
     ghost is_ready: { Self → Type 0 } = { λ _. Unit {0} };
 
-    /// The end that it writes.
-    ghost end: { Self → End };
+    /// What is written, as data.
+    ghost end: { Self → FinalOutput };
 
-    /// Writes the end, in one piece or piece by piece, or halts.
+    /// Writes the end, in one piece or in several, or stops the work.
     fn write<O: Sink>(self, alloc: Global, out: &mut O) -> Result<(), Stop>
         requires ready { is_ready self }
-        ensures text { EndRan (EndsBy (end self)) (O.written out.old) (O.written out.new) result }
+        ensures text { EndIsWritten (IsFinalOutput (end self)) (O.written out.old) (O.written out.new) result }
         ensures counts { OutCounts (O.faults out.old) (O.faults out.new) result };
 }
 
-/// A writer as a mode.
+/// A writer, seen as a mode.
 #[derive(Drop)]
-struct AtEnd<T> {
+struct WriterMode<T> {
     writer: T,
 }
 
-impl<T: Writer + Drop> Mode for AtEnd<T> {
+impl<T: Writer + Drop> Mode for WriterMode<T> {
     ghost use Rattle.std.specs.Prelude.{◌≡◌};
-    ghost use Rattle.mh_top_plans.specs.Plan.{Plan, by_plan, Ends};
+    ghost use Rattle.mh_top_plans.specs.Plan.{Plan, plan_behavior, Ends};
 
     ghost State = { Plan };
 
-    ghost way = { by_plan };
+    ghost way = { plan_behavior };
 
     ghost Is = { λ s plan. T.is_ready s.writer × (plan ≡ Ends (T.end s.writer)) };
 
@@ -64,24 +64,24 @@ pub fn write_at_end<I: Source, O: Sink, T: Writer + Drop>(
     out: &mut O,
 ) -> Result<(), Stop>
     requires ready { T.is_ready writer }
-    ensures ran { ModeRan by_plan (Ends (T.end writer)) (I.left input.old) (I.left input.new)
+    ensures ran { ModeRan plan_behavior (Ends (T.end writer)) (I.left input.old) (I.left input.new)
         (O.written out.old) (O.written out.new) result }
-    ensures counts { Counts (I.faults input.old) (I.faults input.new)
+    ensures counts { InputAndOutCounts (I.faults input.old) (I.faults input.new)
         (O.faults out.old) (O.faults out.new) result }
 {
-    drive(alloc, AtEnd { writer }, input, out)
+    drive(alloc, WriterMode { writer }, input, out)
 }
 
-/// All that a mode writes, once this is made.
+/// The whole output of a mode that writes one text or refuses the work.
 #[derive(Drop)]
 pub enum FinalText {
-    /// This text on out.
+    /// The text is written on out.
     Written { text: Sequence<u8> },
-    /// Nothing on out: the work is refused, with this line on err.
+    /// Nothing is written on out. The work is refused with this line on err.
     Refusal { line: Sequence<u8> },
 }
 
-/// The final text on out.
+/// The final text that writes this on out.
 pub fn written(text: Vec<u8>) -> FinalText
     ensures { result ≡ Written' text.items }
 {
@@ -90,9 +90,9 @@ pub fn written(text: Vec<u8>) -> FinalText
     }
 }
 
-/// Writes the final text of a mode, or refuses the work.
+/// Writes the final text of a mode, or refuses the work with its line.
 pub fn write_final<O: Sink>(out: &mut O, made: FinalText) -> Result<(), Stop>
-    ensures text { EndRan (λ e. e ≡ ending_of made) (O.written out.old) (O.written out.new) result }
+    ensures text { EndIsWritten (λ e. e ≡ end_of_final_text made) (O.written out.old) (O.written out.new) result }
     ensures counts { OutCounts (O.faults out.old) (O.faults out.new) result }
 {
     match made {
@@ -101,25 +101,24 @@ pub fn write_final<O: Sink>(out: &mut O, made: FinalText) -> Result<(), Stop>
     }
 }
 
-/// What writes a final text.
+/// The writer of a final text.
 #[derive(Drop)]
 struct FinalWriter {
     made: FinalText,
 }
 
 impl Writer for FinalWriter {
-    ghost use Rattle.mh_top_plans.specs.FinalText.{ending_of};
+    ghost use Rattle.mh_top_plans.specs.FinalText.{end_of_final_text};
     ghost use Rattle.mh_top_plans.specs.Plan.{Known};
 
-    ghost end = { λ s. Known (ending_of s.made) };
+    ghost end = { λ s. Known (end_of_final_text s.made) };
 
     fn write<O: Sink>(self, _alloc: Global, out: &mut O) -> Result<(), Stop> {
         write_final(out, self.made)
     }
 }
 
-/// Runs the mode that writes what was made of its files. Where nothing was made, the work stops, and nothing is
-/// written.
+/// Runs the mode that writes a final text. If no text was made, the work stops, and nothing is written.
 pub fn write_made<I: Source, O: Sink>(
     alloc: Global,
     made: Result<FinalText, Stop>,
@@ -127,9 +126,9 @@ pub fn write_made<I: Source, O: Sink>(
     out: &mut O,
 ) -> Result<(), Stop>
     requires some { IsOpened WritesFinal made }
-    ensures ran { Driven by_plan WritesFinal made (I.left input.old) (I.left input.new)
+    ensures ran { OpenedModeRan plan_behavior WritesFinal made (I.left input.old) (I.left input.new)
         (O.written out.old) (O.written out.new) result }
-    ensures counts { Counts (I.faults input.old) (I.faults input.new)
+    ensures counts { InputAndOutCounts (I.faults input.old) (I.faults input.new)
         (O.faults out.old) (O.faults out.new) result }
 {
     match made {

@@ -1,5 +1,5 @@
-//! What the modes share: the modes as plain data (in specs), those that write only at their end, and the messages
-//! files that modes read.
+//! What the modes share: plans, which are modes as plain data (in specs), the modes that write only at their end, and
+//! the reading of messages files.
 #![tactic(auto)]
 
 mod at_end;

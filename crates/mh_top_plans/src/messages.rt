@@ -1,13 +1,13 @@
-//! Messages files of the modes: read from the shelf, spelled, and checked against the table.
+//! Reads the messages files of the modes from the shelf, and checks them against the table.
 ghost use Rattle.std.specs.Prelude.{◌≡◌, ◌<◌, ◌≤◌, ◌^◌, List, ℕ, length, IfOk};
 ghost use Rattle.mh_grammar.specs.Plain.{plain_of, IsInRange};
-ghost use Rattle.mh_msgfile.specs.Messages.{AreOf, Tells as TellsFile};
-ghost use Rattle.mh_check.specs.Compiling.{Tells};
+ghost use Rattle.mh_msgfile.specs.Messages.{AreSentencesOf, ReportsFault as TellsFile};
+ghost use Rattle.mh_check.specs.Compiling.{ReportsCheckFault};
 ghost use Rattle.mh_check.specs.Texts.{file_line, check_line};
-ghost use Rattle.mh_top_plans.specs.MessagesStage.{AreMessages, AreMessagesOf, IsMessagesFile};
-ghost use Rattle.mh_top_drive.specs.FileStage.{IsFile};
-ghost use Rattle.mh_top_types.specs.code.Prepared.{IsFit};
-ghost use Rattle.mh_top_drive.specs.code.Stages.{FilesGive, Halts, ShelfCounts, StageHas};
+ghost use Rattle.mh_top_plans.specs.MessagesFiles.{AreMessages, AreMessagesOf, IsMessagesFile};
+ghost use Rattle.mh_top_drive.specs.FileContents.{IsFileContent};
+ghost use Rattle.mh_top_types.specs.code.Prepared.{IsConsistent};
+ghost use Rattle.mh_top_drive.specs.code.StageCalls.{FileStageGives, StopsWith, StageShelfCounts, StageGives};
 ghost use Rattle.mh_top_drive.specs.declared.stop.Cause.TheVariants.{Refused as Refused'};
 
 use mh_check::{CheckFault, Compiled, check_fault_line, compile, file_fault_line};
@@ -15,12 +15,12 @@ use mh_grammar::{Grammar, Memory, Sequence};
 use mh_msgfile::{MsgFault, MsgFile, read_messages};
 use mh_outside::Shelf;
 use mh_tables_core::Halting;
-use mh_top_drive::{Spelling, Stop, read_file, refusal};
+use mh_top_drive::{FileFormat, Stop, read_file, refusal};
 use mh_top_types::Prepared;
 use std::alloc::Global;
 
-/// How messages files are read for a grammar and its table: as they are spelled by the grammar's names, or as the
-/// messages that they give the states of the table.
+/// The form of messages files for a grammar and its table. The content of a file is a messages file by the names of the
+/// grammar, or the messages for the states of the table.
 #[derive(Drop)]
 struct MessagesFiles<'a> {
     grammar: &'a Grammar,
@@ -28,9 +28,9 @@ struct MessagesFiles<'a> {
     ghost same: { table.now.grammar ≡ plain_of grammar.now },
 }
 
-/// The refusal of a file that spells no messages file.
+/// The refusal of a file whose bytes spell no messages file.
 fn no_file(alloc: Global, name: &[u8], fault: &MsgFault) -> Stop
-    ensures { TellsFile fault.now (λ found. Halts (Refused' (file_line name.now found)) result) }
+    ensures { TellsFile fault.now (λ found. StopsWith (Refused' (file_line name.now found)) result) }
 {
     match file_fault_line(alloc, name, fault) {
         Ok(line) => refusal(Sequence::from_vec(line)),
@@ -38,9 +38,9 @@ fn no_file(alloc: Global, name: &[u8], fault: &MsgFault) -> Stop
     }
 }
 
-/// The refusal of a messages file that does not fit the table.
+/// The refusal of a messages file with a fault against the table. The fault is not lack of memory.
 pub fn no_fit(alloc: Global, name: &[u8], fault: &CheckFault) -> Stop
-    ensures { Tells fault.now (λ found. Halts (Refused' (check_line name.now found)) result) }
+    ensures { ReportsCheckFault fault.now (λ found. StopsWith (Refused' (check_line name.now found)) result) }
 {
     match check_fault_line(alloc, name, fault) {
         Ok(line) => refusal(Sequence::from_vec(line)),
@@ -48,15 +48,15 @@ pub fn no_fit(alloc: Global, name: &[u8], fault: &CheckFault) -> Stop
     }
 }
 
-/// The messages of the states by a file that was spelled, where the file fits the table.
+/// The messages for the states of the table, or the refusal of a messages file with a fault.
 fn messages_of(
     alloc: Global,
     table: &Halting,
     name: &[u8],
     file: &MsgFile,
 ) -> Result<Compiled, Stop>
-    requires { AreOf (length table.now.grammar.starts) table.now.grammar.tokens file.now }
-    ensures { StageHas (AreMessagesOf table.now name.now file.now) result }
+    requires { AreSentencesOf (length table.now.grammar.starts) table.now.grammar.tokens file.now }
+    ensures { StageGives (AreMessagesOf table.now name.now file.now) result }
 {
     match compile(alloc, table, file) {
         Ok(compiled) => Ok(compiled),
@@ -65,12 +65,12 @@ fn messages_of(
     }
 }
 
-/// The messages file that the bytes of the named file spell.
+/// The messages file that the bytes of the named file spell, or its refusal.
 fn spelled_in(alloc: Global, grammar: &Grammar, name: &[u8], bytes: &[u8]) -> Result<MsgFile, Stop>
     requires range { IsInRange (plain_of grammar.now) }
     requires size { length bytes.now < 2 ^ 31 }
-    ensures stage { StageHas (IsMessagesFile grammar.now name.now bytes.now) result }
-    ensures fits { IfOk result (λ file. AreOf (length grammar.now.starts) (length grammar.now.tokens) file) }
+    ensures stage { StageGives (IsMessagesFile grammar.now name.now bytes.now) result }
+    ensures fits { IfOk result (λ file. AreSentencesOf (length grammar.now.starts) (length grammar.now.tokens) file) }
 {
     match read_messages(alloc, bytes, grammar) {
         Ok(file) => Ok(file),
@@ -79,7 +79,7 @@ fn spelled_in(alloc: Global, grammar: &Grammar, name: &[u8], bytes: &[u8]) -> Re
     }
 }
 
-/// The messages of the states by the bytes of the named file.
+/// The messages for the states of the table, from the bytes of the named file, or its refusal.
 fn messages_in(
     alloc: Global,
     files: &MessagesFiles<'_>,
@@ -87,7 +87,7 @@ fn messages_in(
     bytes: &[u8],
 ) -> Result<Compiled, Stop>
     requires { length bytes.now < 2 ^ 31 }
-    ensures { StageHas (AreMessages files.now.grammar.now files.now.table.now name.now bytes.now) result }
+    ensures { StageGives (AreMessages files.now.grammar.now files.now.table.now name.now bytes.now) result }
 {
     files.table.table().facts();
     match spelled_in(alloc, files.grammar, name, bytes) {
@@ -96,8 +96,8 @@ fn messages_in(
     }
 }
 
-impl Spelling<Compiled> for MessagesFiles<'_> {
-    ghost use Rattle.mh_top_plans.specs.MessagesStage.{AreMessages};
+impl FileFormat<Compiled> for MessagesFiles<'_> {
+    ghost use Rattle.mh_top_plans.specs.MessagesFiles.{AreMessages};
 
     ghost Spells = { λ s. AreMessages s.grammar.now s.table.now };
 
@@ -106,8 +106,8 @@ impl Spelling<Compiled> for MessagesFiles<'_> {
     }
 }
 
-impl Spelling<MsgFile> for MessagesFiles<'_> {
-    ghost use Rattle.mh_top_plans.specs.MessagesStage.{IsMessagesFile};
+impl FileFormat<MsgFile> for MessagesFiles<'_> {
+    ghost use Rattle.mh_top_plans.specs.MessagesFiles.{IsMessagesFile};
 
     ghost Spells = { λ s. IsMessagesFile s.grammar.now };
 
@@ -117,7 +117,7 @@ impl Spelling<MsgFile> for MessagesFiles<'_> {
     }
 }
 
-/// Reads the named messages file, and gives the messages of the states of the table.
+/// Reads the named messages file, and gives the messages for the states of the table.
 pub fn read_messages_file<F: Shelf, const W: usize>(
     alloc: Global,
     prepared: &Prepared<W>,
@@ -125,12 +125,12 @@ pub fn read_messages_file<F: Shelf, const W: usize>(
     name: &[u8],
 ) -> Result<Compiled, Stop>
     requires few { W ≤ 8 }
-    requires fit { IsFit prepared.now }
+    requires fit { IsConsistent prepared.now }
     requires asked { F.MayAsk shelf.old name.now }
-    ensures messages { FilesGive (IsFile (F.files shelf.old) (AreMessages prepared.now.grammar prepared.now.tabled.halting) name.now)
+    ensures messages { FileStageGives (IsFileContent (F.files shelf.old) (AreMessages prepared.now.grammar prepared.now.tabled.halting) name.now)
         (λ other. other ≡ name.now) result }
     ensures may_still { (other : List ℕ) → F.MayAsk shelf.old other → F.MayAsk shelf.new other }
-    ensures counts { ShelfCounts (F.faults shelf.old) (F.faults shelf.new) result }
+    ensures counts { StageShelfCounts (F.faults shelf.old) (F.faults shelf.new) result }
     ensures kept { F.files shelf.new ≡ F.files shelf.old }
 {
     let files = MessagesFiles {
@@ -140,7 +140,7 @@ pub fn read_messages_file<F: Shelf, const W: usize>(
     read_file(alloc, shelf, &files, name)
 }
 
-/// Reads the named messages file, and gives what it spells. The file is not checked against the table.
+/// Reads the named messages file without checking it against the table.
 pub fn read_spelled_file<F: Shelf, const W: usize>(
     alloc: Global,
     prepared: &Prepared<W>,
@@ -148,11 +148,11 @@ pub fn read_spelled_file<F: Shelf, const W: usize>(
     name: &[u8],
 ) -> Result<MsgFile, Stop>
     requires few { W ≤ 8 }
-    requires fit { IsFit prepared.now }
+    requires fit { IsConsistent prepared.now }
     requires asked { F.MayAsk shelf.old name.now }
-    ensures spelled { FilesGive (IsFile (F.files shelf.old) (IsMessagesFile prepared.now.grammar) name.now)
+    ensures spelled { FileStageGives (IsFileContent (F.files shelf.old) (IsMessagesFile prepared.now.grammar) name.now)
         (λ other. other ≡ name.now) result }
-    ensures counts { ShelfCounts (F.faults shelf.old) (F.faults shelf.new) result }
+    ensures counts { StageShelfCounts (F.faults shelf.old) (F.faults shelf.new) result }
     ensures kept { F.files shelf.new ≡ F.files shelf.old }
 {
     let files = MessagesFiles {

@@ -1,2 +1,2 @@
-pub mod Built
-pub mod Faults
+pub mod BuiltSource
+pub mod FaultStops

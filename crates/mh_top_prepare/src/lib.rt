@@ -1,4 +1,4 @@
-//! The last part of the work before the warnings: the table of the grammar, built or taken from a table file.
+//! The last stages before the warnings: the automaton of the grammar, built or taken from a table file, and its table.
 #![tactic(auto)]
 
 mod prepared;

@@ -1,37 +1,36 @@
-//! The order with its grammar and its table. Nothing is written, and nothing of the input is read.
-ghost use Rattle.std.specs.Prelude.{◌≡◌, ◌≤◌, ◌*◌, List, ℕ, length, IfOk, Some};
+//! Adds the table to the order and its grammar. Nothing is written, and nothing of the input is read.
+ghost use Rattle.std.specs.Prelude.{◌≡◌, List, ℕ, IfOk, Some};
 ghost use Rattle.mh_grammar.specs.Costs.{HaveCosts};
-ghost use Rattle.mh_grammar.specs.Plain.{plain_of, IsInRange};
-ghost use Rattle.mh_top_types.specs.code.Prepared.{IsFit};
-ghost use Rattle.mh_top_tables.specs.Turns.{AsksForTables};
-ghost use Rattle.mh_top_drive.specs.code.Stages.{FilesGive, ShelfCounts, StageHas};
-ghost use Rattle.mh_top_tables.specs.code.Sources.{IsNumbered};
-ghost use Rattle.mh_validate_valid.specs.Valid.{AreNamesApart};
-ghost use Rattle.mh_top_tables.specs.Preparing.{IsTabledFrom, IsTabledFront};
+ghost use Rattle.mh_top_types.specs.code.Prepared.{IsConsistent};
+ghost use Rattle.mh_top_tables.specs.MayAskForTables.{MayAskForTables};
+ghost use Rattle.mh_top_drive.specs.code.StageCalls.{FileStageGives, StageShelfCounts, StageGives};
+ghost use Rattle.mh_top_tables.specs.code.SourceFacts.{HasNumberedStates};
+ghost use Rattle.mh_validate_valid.specs.Valid.{AreTokenNamesDistinct};
+ghost use Rattle.mh_top_tables.specs.PreparedStage.{IsPreparedFromSource, IsPreparedFromFiles};
+ghost use Rattle.mh_items.specs.Fitting.{FitsSets};
 
 use crate::tabled::table_of;
 use mh_outside::Shelf;
 use mh_top_drive::Stop;
-use mh_top_tables::{Source, source_of};
-use mh_top_types::{Front, Prepared, PreparedWith};
+use mh_top_tables::{AutomatonSource, source_of};
+use mh_top_types::{OrderAndGrammar, Prepared, PreparedWith};
 use std::alloc::Global;
 
-/// The order with its grammar and its table, by where the automaton comes from. Here and in `prepare`, `drop` lets
-/// the grammar go at once, because letting go of field after field at the end of the scope takes long to prove.
+/// Gives the order with its grammar and its table, for an automaton from the given source. Here and in `prepare`,
+/// `drop` frees the grammar at once, because freeing one field after the other at the end of the scope takes long to
+/// prove.
 fn prepare_from<const W: usize>(
     alloc: Global,
-    front: Front,
-    source: &Source,
+    front: OrderAndGrammar,
+    source: &AutomatonSource,
 ) -> Result<Prepared<W>, Stop>
-    requires few { W ≤ 8 }
-    requires width { length front.grammar.tokens ≤ 64 * W }
-    requires range { IsInRange (plain_of front.grammar) }
+    requires fits { FitsSets W front.grammar }
     requires costs { HaveCosts front.grammar.tokens }
-    requires apart { AreNamesApart front.grammar }
-    requires numbered { IsNumbered source.now }
-    ensures prepared { StageHas (IsTabledFrom front source.now) result }
+    requires apart { AreTokenNamesDistinct front.grammar }
+    requires numbered { HasNumberedStates source.now }
+    ensures prepared { StageGives (IsPreparedFromSource front source.now) result }
     ensures order { IfOk result (λ prepared. prepared.order ≡ front.order) }
-    ensures fit { IfOk result (λ prepared. IsFit prepared) }
+    ensures fit { IfOk result (λ prepared. IsConsistent prepared) }
 {
     match table_of(alloc, source, &front.grammar) {
         Ok(tabled) => Ok(PreparedWith {
@@ -46,24 +45,22 @@ fn prepare_from<const W: usize>(
     }
 }
 
-/// The order with its grammar and its table. Where the order names a table file, this is read.
+/// Gives the order with its grammar and its table. Reads the table file if the order names one.
 pub fn prepare<F: Shelf, const W: usize>(
     alloc: Global,
-    front: Front,
+    front: OrderAndGrammar,
     shelf: &mut F,
 ) -> Result<Prepared<W>, Stop>
-    requires few { W ≤ 8 }
-    requires width { length front.grammar.tokens ≤ 64 * W }
-    requires range { IsInRange (plain_of front.grammar) }
+    requires fits { FitsSets W front.grammar }
     requires costs { HaveCosts front.grammar.tokens }
-    requires apart { AreNamesApart front.grammar }
-    requires asked { AsksForTables front.order (F.MayAsk shelf.old) }
-    ensures prepared { FilesGive (IsTabledFront (F.files shelf.old) front) (λ name. front.order.tables ≡ Some name) result }
+    requires apart { AreTokenNamesDistinct front.grammar }
+    requires asked { MayAskForTables front.order (F.MayAsk shelf.old) }
+    ensures prepared { FileStageGives (IsPreparedFromFiles (F.files shelf.old) front) (λ name. front.order.tables ≡ Some name) result }
     ensures order { IfOk result (λ prepared. prepared.order ≡ front.order) }
-    ensures fit { IfOk result (λ prepared. IsFit prepared) }
+    ensures fit { IfOk result (λ prepared. IsConsistent prepared) }
     ensures kept { F.files shelf.new ≡ F.files shelf.old }
     ensures may_still { (other : List ℕ) → F.MayAsk shelf.old other → F.MayAsk shelf.new other }
-    ensures counts { ShelfCounts (F.faults shelf.old) (F.faults shelf.new) result }
+    ensures counts { StageShelfCounts (F.faults shelf.old) (F.faults shelf.new) result }
 {
     match source_of(alloc, shelf, &front.order) {
         Ok(source) => {

@@ -1,14 +1,14 @@
 //! The refusal of a table file that is not valid for the grammar.
-ghost use Rattle.mh_top_prepare.specs.code.Faults.{RejectsBy};
+ghost use Rattle.mh_top_prepare.specs.code.FaultStops.{IsStopForInvalidTable};
 
 use mh_top_drive::Stop;
 use mh_top_tables::invalid;
 use mh_validate::ValidFault;
 use std::alloc::Global;
 
-/// The refusal of a file that is not valid, or want of memory.
+/// The stop for a table file that is not valid: its refusal, or lack of memory.
 pub(crate) fn not_valid(alloc: Global, name: &[u8], fault: ValidFault) -> Stop
-    ensures { RejectsBy name.now fault result }
+    ensures { IsStopForInvalidTable name.now fault result }
 {
     match fault {
         ValidFault::Invalid { state, reason } => invalid(alloc, name, state, reason),

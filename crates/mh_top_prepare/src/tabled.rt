@@ -1,22 +1,22 @@
-//! The automaton of a grammar, built or taken from a table file, with its table, on which every run ends, and the
-//! list of its conflicts.
-ghost use Rattle.std.specs.Prelude.{◌≡◌, ◌<◌, ◌≤◌, ◌*◌, ◌^◌, length, Err, IfOk};
+//! Makes the automaton of a grammar, or takes it from a table file, and makes its table and its conflicts.
+ghost use Rattle.std.specs.Prelude.{◌≡◌, ◌<◌, ◌^◌, length, Err, IfOk};
 ghost use Rattle.mh_grammar.specs.Costs.{HaveCosts};
-ghost use Rattle.mh_grammar.specs.Plain.{plain_of, IsInRange};
+ghost use Rattle.mh_grammar.specs.Plain.{plain_of};
 ghost use Rattle.mh_items_kernels.specs.Automaton.{IsAutomaton};
-ghost use Rattle.mh_top_prepare.specs.code.Built.{source_in};
-ghost use Rattle.mh_top_prepare.specs.code.Faults.{IsValidated, RejectsStates};
+ghost use Rattle.mh_top_prepare.specs.code.BuiltSource.{source_in};
+ghost use Rattle.mh_top_prepare.specs.code.FaultStops.{IsValidated, IsStopForStatesFault};
 ghost use Rattle.mh_top_tables.specs.TableStage.{IsAutomatonStage, IsTableStage};
 ghost use Rattle.mh_top_tables.specs.TableTexts.{too_many_states as too_many_states_line};
-ghost use Rattle.mh_top_tables.specs.Tabled.{IsResolvedStage};
-ghost use Rattle.mh_top_drive.specs.Causes.{Go, Halt};
-ghost use Rattle.mh_top_drive.specs.code.Stages.{StageHas};
+ghost use Rattle.mh_top_tables.specs.ResolvedStage.{IsResolvedStage};
+ghost use Rattle.mh_top_drive.specs.StageResults.{Go, Halt};
+ghost use Rattle.mh_top_drive.specs.code.StageCalls.{StageGives};
 ghost use Rattle.mh_top_drive.specs.declared.stop.Cause.TheVariants.{Refused};
-ghost use Rattle.mh_top_tables.specs.declared.sources.Source.TheVariants.{File};
-ghost use Rattle.mh_top_tables.specs.code.Sources.{IsNumbered};
+ghost use Rattle.mh_top_tables.specs.declared.sources.AutomatonSource.TheVariants.{File};
+ghost use Rattle.mh_top_tables.specs.code.SourceFacts.{HasNumberedStates};
 ghost use Rattle.mh_resolve_cells.specs.States.{IsTableOf};
 ghost use Rattle.mh_resolve_cells.specs.Conflicts.{AreConflicts};
-ghost use Rattle.mh_validate_valid.specs.Valid.{AreNamesApart};
+ghost use Rattle.mh_validate_valid.specs.Valid.{AreTokenNamesDistinct};
+ghost use Rattle.mh_items.specs.Fitting.{FitsSets};
 
 use crate::table_file::not_valid;
 use mh_canon::canonical;
@@ -26,14 +26,14 @@ use mh_pager::merged;
 use mh_resolve_cells::Mode;
 use mh_tabfile_form::RawTable;
 use mh_top_drive::Stop;
-use mh_top_tables::{Source, too_many_states, where_halting, with_table};
-use mh_top_types::Tabled;
+use mh_top_tables::{AutomatonSource, too_many_states, where_halting, with_table};
+use mh_top_types::TabledAutomaton;
 use mh_validate::{Valid, validate};
 use std::alloc::Global;
 
-/// The refusal of a grammar whose automaton has too many states, or want of memory.
+/// The stop for an automaton that cannot be built: the refusal for too many states, or lack of memory.
 fn no_automaton(alloc: Global, fault: StatesFault) -> Stop
-    ensures { RejectsStates fault result }
+    ensures { IsStopForStatesFault fault result }
 {
     match fault {
         StatesFault::TooManyStates => too_many_states(alloc),
@@ -41,15 +41,13 @@ fn no_automaton(alloc: Global, fault: StatesFault) -> Stop
     }
 }
 
-/// The automaton of a grammar in a mode: merged (Pager 1977), or canonical (Knuth 1965).
+/// Builds the automaton of a grammar in a mode: merged (Pager 1977), or canonical (Knuth 1965).
 fn automaton_in<const W: usize>(
     alloc: Global,
     grammar: &Grammar,
     mode: Mode,
 ) -> Result<Automaton<W>, StatesFault>
-    requires few { W ≤ 8 }
-    requires width { length grammar.now.tokens ≤ 64 * W }
-    requires range { IsInRange (plain_of grammar.now) }
+    requires fits { FitsSets W grammar.now }
     ensures made { IfOk result (λ automaton. IsAutomatonStage (source_in mode) grammar.now (Go automaton)) }
     ensures over { result ≡ Err StatesFault.TooManyStates → IsAutomatonStage (source_in mode) grammar.now (Halt (Refused too_many_states_line)) }
     ensures automaton { IfOk result (λ automaton. IsAutomaton (plain_of grammar.now) automaton) }
@@ -60,17 +58,15 @@ fn automaton_in<const W: usize>(
     }
 }
 
-/// The automaton of a grammar in a mode, with its table.
+/// Builds the automaton of a grammar in a mode, with its table.
 fn built_table<const W: usize>(
     alloc: Global,
     grammar: &Grammar,
     mode: Mode,
-) -> Result<Tabled<W>, Stop>
-    requires few { W ≤ 8 }
-    requires width { length grammar.now.tokens ≤ 64 * W }
-    requires range { IsInRange (plain_of grammar.now) }
+) -> Result<TabledAutomaton<W>, Stop>
+    requires fits { FitsSets W grammar.now }
     requires costs { HaveCosts grammar.now.tokens }
-    ensures stage { StageHas (IsTableStage (source_in mode) grammar.now) result }
+    ensures stage { StageGives (IsTableStage (source_in mode) grammar.now) result }
     ensures automaton { IfOk result (λ tabled. IsAutomaton (plain_of grammar.now) tabled.automaton) }
 {
     match automaton_in(alloc, grammar, mode) {
@@ -84,12 +80,11 @@ fn with_valid<const W: usize>(
     alloc: Global,
     grammar: &Grammar,
     valid: Valid<W>,
-) -> Result<Tabled<W>, Stop>
-    requires few { W ≤ 8 }
-    requires width { length grammar.now.tokens ≤ 64 * W }
+) -> Result<TabledAutomaton<W>, Stop>
+    requires fits { FitsSets W grammar.now }
     requires table { IsTableOf grammar.now valid.automaton valid.mode valid.table }
     requires conflicts { AreConflicts grammar.now valid.automaton valid.conflicts.items }
-    ensures { StageHas (IsResolvedStage valid.entry.mode grammar.now valid.entry.automaton) result }
+    ensures { StageGives (IsResolvedStage valid.entry.mode grammar.now valid.entry.automaton) result }
 {
     let Valid {
         automaton,
@@ -100,18 +95,16 @@ fn with_valid<const W: usize>(
     where_halting(alloc, grammar, automaton, table, conflicts, mode)
 }
 
-/// What a table file says, where the file is valid for the grammar.
+/// The automaton, table and conflicts of a table file that is valid for the grammar, or its refusal.
 fn validated<const W: usize>(
     alloc: Global,
     grammar: &Grammar,
     name: &[u8],
     raw: &RawTable,
 ) -> Result<Valid<W>, Stop>
-    requires few { W ≤ 8 }
-    requires width { length grammar.now.tokens ≤ 64 * W }
-    requires range { IsInRange (plain_of grammar.now) }
+    requires fits { FitsSets W grammar.now }
     requires costs { HaveCosts grammar.now.tokens }
-    requires apart { AreNamesApart grammar.now }
+    requires apart { AreTokenNamesDistinct grammar.now }
     requires numbered { length raw.now.states < 2 ^ 32 }
     ensures stage { IsValidated name.now raw.now grammar.now result }
     ensures automaton { IfOk result (λ valid. IsAutomaton (plain_of grammar.now) valid.automaton) }
@@ -122,20 +115,18 @@ fn validated<const W: usize>(
     }
 }
 
-/// The automaton of a table file with its table, where the file is valid for the grammar. No automaton is built.
+/// The automaton of a table file with its table, if the file is valid for the grammar. No automaton is built.
 fn table_in<const W: usize>(
     alloc: Global,
     grammar: &Grammar,
     name: &[u8],
     raw: &RawTable,
-) -> Result<Tabled<W>, Stop>
-    requires few { W ≤ 8 }
-    requires width { length grammar.now.tokens ≤ 64 * W }
-    requires range { IsInRange (plain_of grammar.now) }
+) -> Result<TabledAutomaton<W>, Stop>
+    requires fits { FitsSets W grammar.now }
     requires costs { HaveCosts grammar.now.tokens }
-    requires apart { AreNamesApart grammar.now }
+    requires apart { AreTokenNamesDistinct grammar.now }
     requires numbered { length raw.now.states < 2 ^ 32 }
-    ensures stage { StageHas (IsTableStage (File name.now raw.now) grammar.now) result }
+    ensures stage { StageGives (IsTableStage (File name.now raw.now) grammar.now) result }
     ensures automaton { IfOk result (λ tabled. IsAutomaton (plain_of grammar.now) tabled.automaton) }
 {
     match validated(alloc, grammar, name, raw) {
@@ -144,26 +135,24 @@ fn table_in<const W: usize>(
     }
 }
 
-/// The automaton of a grammar with its table and its conflicts, by where the automaton comes from. The work halts
-/// where the automaton has too many states or its file is not valid for the grammar, and then where some run on the
-/// table never ends.
+/// The automaton from the given source with its table and its conflicts. The work stops if the automaton has too many
+/// states or its file is not valid for the grammar, and then if some relative run on the table makes more than 10,000
+/// reductions.
 pub(crate) fn table_of<const W: usize>(
     alloc: Global,
-    source: &Source,
+    source: &AutomatonSource,
     grammar: &Grammar,
-) -> Result<Tabled<W>, Stop>
-    requires few { W ≤ 8 }
-    requires width { length grammar.now.tokens ≤ 64 * W }
-    requires range { IsInRange (plain_of grammar.now) }
+) -> Result<TabledAutomaton<W>, Stop>
+    requires fits { FitsSets W grammar.now }
     requires costs { HaveCosts grammar.now.tokens }
-    requires apart { AreNamesApart grammar.now }
-    requires numbered { IsNumbered source.now }
-    ensures stage { StageHas (IsTableStage source.now grammar.now) result }
+    requires apart { AreTokenNamesDistinct grammar.now }
+    requires numbered { HasNumberedStates source.now }
+    ensures stage { StageGives (IsTableStage source.now grammar.now) result }
     ensures automaton { IfOk result (λ tabled. IsAutomaton (plain_of grammar.now) tabled.automaton) }
 {
     match source {
-        Source::Merged => built_table(alloc, grammar, Mode::Merged),
-        Source::Canonical => built_table(alloc, grammar, Mode::Canonical),
-        Source::File { name, raw } => table_in(alloc, grammar, name.as_slice(), raw),
+        AutomatonSource::Merged => built_table(alloc, grammar, Mode::Merged),
+        AutomatonSource::Canonical => built_table(alloc, grammar, Mode::Canonical),
+        AutomatonSource::File { name, raw } => table_in(alloc, grammar, name.as_slice(), raw),
     }
 }

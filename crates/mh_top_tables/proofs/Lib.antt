@@ -1,4 +1,4 @@
-pub mod Rejecting
-pub mod Sourcing
-pub mod Tabling
-pub mod Sourced
+pub mod IsTableFault
+pub mod IsAutomatonSource
+pub mod ResolvedStage
+pub mod HasNumberedStates

@@ -1,6 +1,6 @@
-//! The refusal of a table on which some run never ends.
+//! The refusal of a table with a relative run that makes more than 10,000 reductions.
 ghost use Rattle.std.specs.Prelude.{◌≡◌, ◌<◌, length, IfOk, string_bytes, MatchOption, ⊤};
-ghost use Rattle.mh_top_drive.specs.code.Stages.{Halts};
+ghost use Rattle.mh_top_drive.specs.code.StageCalls.{StopsWith};
 ghost use Rattle.mh_top_drive.specs.declared.stop.Cause.TheVariants.{Refused};
 ghost use Rattle.mh_msgfile.specs.Sentences.{token_names};
 ghost use Rattle.mh_top_tables.specs.Loops.{look_text, loop_place, loops_line};
@@ -9,7 +9,7 @@ use mh_grammar::{Grammar, Token};
 use mh_top_drive::{Stop, refused};
 use std::alloc::{AllocError, Global};
 
-/// The name of the next token, or words for none.
+/// The name of the next token, or the words for none.
 fn look_name(grammar: &Grammar, token: Option<Token>) -> &[u8]
     requires { MatchOption token ⊤ (λ token. token < length grammar.now.tokens) }
     ensures { result.now ≡ look_text (token_names grammar.now) token }
@@ -20,7 +20,7 @@ fn look_name(grammar: &Grammar, token: Option<Token>) -> &[u8]
     }
 }
 
-/// The beginning of the line: the state of a relative run, alone or above another state.
+/// The beginning of the line: the state in which a relative run begins, and the state below it if there is one.
 fn place_of(alloc: Global, below: Option<u32>, state: u32) -> Result<String, AllocError>
     ensures { IfOk result (λ text. string_bytes text ≡ loop_place below state) }
 {
@@ -30,8 +30,8 @@ fn place_of(alloc: Global, below: Option<u32>, state: u32) -> Result<String, All
     }
 }
 
-/// The refusal of a table on which some relative run never ends, with its state, the state below where there is one,
-/// and the next token.
+/// The refusal of a table with a relative run that makes more than 10,000 reductions, with the state in which the run
+/// begins, the state below it if there is one, and the next token if there is one.
 pub(crate) fn loops(
     alloc: Global,
     grammar: &Grammar,
@@ -40,7 +40,7 @@ pub(crate) fn loops(
     token: Option<Token>,
 ) -> Stop
     requires { MatchOption token ⊤ (λ token. token < length grammar.now.tokens) }
-    ensures { Halts (Refused (loops_line (token_names grammar.now) below state token)) result }
+    ensures { StopsWith (Refused (loops_line (token_names grammar.now) below state token)) result }
 {
     match place_of(alloc, below, state) {
         Ok(place) => refused(alloc, place.as_bytes(), look_name(grammar, token), b"\n"),

@@ -1,6 +1,6 @@
-//! The refusals where there is no table.
+//! The refusals of grammars without an automaton: too many states, or a table file that is not valid.
 ghost use Rattle.std.specs.Prelude.{◌≡◌, IfOk, string_bytes};
-ghost use Rattle.mh_top_drive.specs.code.Stages.{Halts};
+ghost use Rattle.mh_top_drive.specs.code.StageCalls.{StopsWith};
 ghost use Rattle.mh_top_drive.specs.declared.stop.Cause.TheVariants.{Refused};
 ghost use Rattle.mh_top_tables.specs.TableTexts.{invalid_line, reason_name as reason_name_of, test_text, too_many_states as too_many_states_line};
 
@@ -10,7 +10,7 @@ use std::alloc::{AllocError, Global};
 
 /// The refusal of a grammar whose automaton has too many states.
 pub fn too_many_states(alloc: Global) -> Stop
-    ensures { Halts (Refused too_many_states_line) result }
+    ensures { StopsWith (Refused too_many_states_line) result }
 {
     refused(alloc, b"menhir: too many states\n", b"", b"")
 }
@@ -29,7 +29,7 @@ fn reason_name(reason: Reason) -> &'static str
     }
 }
 
-/// The part of the refusal that follows the name of the file.
+/// The part of the refusal after the name of the file.
 fn test_in(alloc: Global, state: Option<u32>, reason: &str) -> Result<String, AllocError>
     ensures { IfOk result (λ text. string_bytes text ≡ test_text state reason.now) }
 {
@@ -39,9 +39,10 @@ fn test_in(alloc: Global, state: Option<u32>, reason: &str) -> Result<String, Al
     }
 }
 
-/// The refusal of a file that is not valid, by the first test that fails.
+/// The refusal of a table file that is not valid, with the first test that fails and its state, if it is a test of a
+/// state.
 pub fn invalid(alloc: Global, name: &[u8], state: Option<u32>, reason: Reason) -> Stop
-    ensures { Halts (Refused (invalid_line name.now state reason)) result }
+    ensures { StopsWith (Refused (invalid_line name.now state reason)) result }
 {
     match test_in(alloc, state, reason_name(reason)) {
         Ok(test) => refused(alloc, b"menhir: ", name, test.as_bytes()),

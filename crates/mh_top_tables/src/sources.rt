@@ -1,10 +1,10 @@
-//! Where the automaton of an order comes from. A table file is read here; whether it is valid for the grammar is
+//! Gives the source of the automaton of an order. A table file is read here; whether it is valid for the grammar is
 //! tested later.
 ghost use Rattle.std.specs.Prelude.{◌≡◌, Bool, List, ℕ, IfOk, Some};
-ghost use Rattle.mh_top_drive.specs.code.Stages.{FilesGive, ShelfCounts};
-ghost use Rattle.mh_top_tables.specs.code.Sources.{IsNumbered};
-ghost use Rattle.mh_top_tables.specs.Sources.{IsSource, IsSourceBy, built_by};
-ghost use Rattle.mh_top_tables.specs.Turns.{AsksForTables};
+ghost use Rattle.mh_top_drive.specs.code.StageCalls.{FileStageGives, StageShelfCounts};
+ghost use Rattle.mh_top_tables.specs.code.SourceFacts.{HasNumberedStates};
+ghost use Rattle.mh_top_tables.specs.AutomatonSources.{IsAutomatonSource, IsAutomatonSourceBy, source_to_build};
+ghost use Rattle.mh_top_tables.specs.MayAskForTables.{MayAskForTables};
 
 use crate::table_file::TableFiles;
 use mh_grammar::{Name, from_bytes};
@@ -14,39 +14,39 @@ use mh_tabfile_form::RawTable;
 use mh_top_drive::{Stop, read_file};
 use std::alloc::Global;
 
-/// Where the automaton comes from.
+/// The source of the automaton of an order.
 #[derive(Drop)]
-pub enum Source {
+pub enum AutomatonSource {
     /// The merged automaton of the grammar is built.
     Merged,
     /// The canonical automaton of the grammar is built.
     Canonical,
-    /// The named table file has the automaton; this is its content.
+    /// The automaton is taken from the table file with this name and content.
     File { name: Name, raw: RawTable },
 }
 
-/// The source of an automaton that is built.
-fn built(canonical: bool) -> Source
-    ensures { result ≡ built_by canonical }
+/// The source of an automaton that is built, canonical or merged.
+fn built(canonical: bool) -> AutomatonSource
+    ensures { result ≡ source_to_build canonical }
 {
     if canonical {
-        Source::Canonical
+        AutomatonSource::Canonical
     } else {
-        Source::Merged
+        AutomatonSource::Merged
     }
 }
 
-/// The named table file as a source.
-fn file_source<F: Shelf>(alloc: Global, shelf: &mut F, name: &[u8]) -> Result<Source, Stop>
+/// Reads the named table file, and gives it as a source.
+fn file_source<F: Shelf>(alloc: Global, shelf: &mut F, name: &[u8]) -> Result<AutomatonSource, Stop>
     requires asked { F.MayAsk shelf.old name.now }
-    ensures source { (canonical : Bool) → FilesGive (IsSourceBy (Some name.now) canonical (F.files shelf.old)) (λ other. other ≡ name.now) result }
-    ensures numbered { IfOk result IsNumbered }
+    ensures source { (canonical : Bool) → FileStageGives (IsAutomatonSourceBy (Some name.now) canonical (F.files shelf.old)) (λ other. other ≡ name.now) result }
+    ensures numbered { IfOk result HasNumberedStates }
     ensures kept { F.files shelf.new ≡ F.files shelf.old }
     ensures may_still { (other : List ℕ) → F.MayAsk shelf.old other → F.MayAsk shelf.new other }
-    ensures counts { ShelfCounts (F.faults shelf.old) (F.faults shelf.new) result }
+    ensures counts { StageShelfCounts (F.faults shelf.old) (F.faults shelf.new) result }
 {
     match read_file(alloc, shelf, &TableFiles, name) {
-        Ok(raw) => Ok(Source::File {
+        Ok(raw) => Ok(AutomatonSource::File {
             name: from_bytes(alloc, name)?,
             raw,
         }),
@@ -54,14 +54,18 @@ fn file_source<F: Shelf>(alloc: Global, shelf: &mut F, name: &[u8]) -> Result<So
     }
 }
 
-/// Where the automaton of an order comes from. Where the order names a table file, this is read.
-pub fn source_of<F: Shelf>(alloc: Global, shelf: &mut F, order: &Order) -> Result<Source, Stop>
-    requires asked { AsksForTables order.now (F.MayAsk shelf.old) }
-    ensures source { FilesGive (IsSource (F.files shelf.old) order.now) (λ name. order.now.tables ≡ Some name) result }
-    ensures numbered { IfOk result IsNumbered }
+/// Gives the source of the automaton of an order. Reads the table file if the order names one.
+pub fn source_of<F: Shelf>(
+    alloc: Global,
+    shelf: &mut F,
+    order: &Order,
+) -> Result<AutomatonSource, Stop>
+    requires asked { MayAskForTables order.now (F.MayAsk shelf.old) }
+    ensures source { FileStageGives (IsAutomatonSource (F.files shelf.old) order.now) (λ name. order.now.tables ≡ Some name) result }
+    ensures numbered { IfOk result HasNumberedStates }
     ensures kept { F.files shelf.new ≡ F.files shelf.old }
     ensures may_still { (other : List ℕ) → F.MayAsk shelf.old other → F.MayAsk shelf.new other }
-    ensures counts { ShelfCounts (F.faults shelf.old) (F.faults shelf.new) result }
+    ensures counts { StageShelfCounts (F.faults shelf.old) (F.faults shelf.new) result }
 {
     match &order.tables {
         Some(name) => file_source(alloc, shelf, name.as_slice()),

@@ -1,12 +1,13 @@
-//! An automaton with its table and its conflicts; a table on which some run never ends is refused.
-ghost use Rattle.std.specs.Prelude.{◌≤◌, ◌*◌, length};
+//! Makes the table of an automaton with its conflicts. A table with a relative run that makes more than 10,000
+//! reductions is refused, so that every run on the table ends.
 ghost use Rattle.mh_grammar.specs.Costs.{HaveCosts};
-ghost use Rattle.mh_grammar.specs.Plain.{plain_of, IsInRange};
+ghost use Rattle.mh_grammar.specs.Plain.{plain_of};
 ghost use Rattle.mh_items_kernels.specs.Automaton.{IsAutomaton};
-ghost use Rattle.mh_top_tables.specs.Tabled.{IsResolvedStage};
-ghost use Rattle.mh_top_drive.specs.code.Stages.{StageHas};
+ghost use Rattle.mh_top_tables.specs.ResolvedStage.{IsResolvedStage};
+ghost use Rattle.mh_top_drive.specs.code.StageCalls.{StageGives};
 ghost use Rattle.mh_resolve_cells.specs.States.{IsTableOf};
 ghost use Rattle.mh_resolve_cells.specs.Conflicts.{AreConflicts};
+ghost use Rattle.mh_items.specs.Fitting.{FitsSets};
 
 use crate::looping::loops;
 use mh_grammar::{Grammar, Sequence};
@@ -16,10 +17,10 @@ use mh_resolve_cells::{Conflict, Mode};
 use mh_tables::{HaltFault, check_halts};
 use mh_tables_core::Table;
 use mh_top_drive::Stop;
-use mh_top_types::{Tabled, TabledWith};
+use mh_top_types::{TabledAutomaton, TabledAutomatonWith};
 use std::alloc::Global;
 
-/// The automaton with this table, where every run on the table ends.
+/// The automaton with this table, if every run on the table ends, and the refusal of the table otherwise.
 pub fn where_halting<const W: usize>(
     alloc: Global,
     grammar: &Grammar,
@@ -27,15 +28,14 @@ pub fn where_halting<const W: usize>(
     table: Table,
     conflicts: Vec<Conflict>,
     mode: Mode,
-) -> Result<Tabled<W>, Stop>
-    requires few { W ≤ 8 }
-    requires width { length grammar.now.tokens ≤ 64 * W }
+) -> Result<TabledAutomaton<W>, Stop>
+    requires fits { FitsSets W grammar.now }
     requires table { IsTableOf grammar.now automaton mode table }
     requires conflicts { AreConflicts grammar.now automaton conflicts.items }
-    ensures { StageHas (IsResolvedStage mode grammar.now automaton.entry) result }
+    ensures { StageGives (IsResolvedStage mode grammar.now automaton.entry) result }
 {
     match check_halts(alloc, table) {
-        Ok(halting) => Ok(TabledWith {
+        Ok(halting) => Ok(TabledAutomatonWith {
             automaton,
             halting,
             conflicts: Sequence::from_vec(conflicts),
@@ -52,19 +52,17 @@ pub fn where_halting<const W: usize>(
     }
 }
 
-/// The automaton with the table that the resolution of its conflicts gives, where every run on the table ends.
+/// Resolves the conflicts of the automaton, and gives the automaton with its table, if every run on the table ends.
 pub fn with_table<const W: usize>(
     alloc: Global,
     grammar: &Grammar,
     automaton: Automaton<W>,
     mode: Mode,
-) -> Result<Tabled<W>, Stop>
-    requires few { W ≤ 8 }
-    requires width { length grammar.now.tokens ≤ 64 * W }
-    requires range { IsInRange (plain_of grammar.now) }
+) -> Result<TabledAutomaton<W>, Stop>
+    requires fits { FitsSets W grammar.now }
     requires costs { HaveCosts grammar.now.tokens }
     requires automaton { IsAutomaton (plain_of grammar.now) automaton }
-    ensures { StageHas (IsResolvedStage mode grammar.now automaton.entry) result }
+    ensures { StageGives (IsResolvedStage mode grammar.now automaton.entry) result }
 {
     let (table, conflicts) = resolve(alloc, grammar, &automaton, mode)?;
     where_halting(alloc, grammar, automaton, table, conflicts, mode)

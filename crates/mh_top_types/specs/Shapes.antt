@@ -1,13 +1,14 @@
--- What is prepared, as definitions see it: whatever the width of a set of tokens, the set is the list of its members.
+-- The types `Prepared` and `TabledAutomaton` as definitions see them: a set of tokens is the list of its members, for
+-- every width of the set in the code.
 use Rattle.std.specs.Prelude.{List}
 use Rattle.mh_grammar.specs.declared.types.Look.{Look}
-use Rattle.mh_top_types.specs.declared.tabled.TabledWith.{TabledWith}
+use Rattle.mh_top_types.specs.declared.tabled.TabledAutomatonWith.{TabledAutomatonWith}
 use Rattle.mh_top_types.specs.declared.prepared.PreparedWith.{PreparedWith}
 
--- an automaton with its table and conflicts
-abbrev pub Tabled : Type 0
-Tabled = TabledWith (List Look)
+-- An automaton with its table, the conflicts, and the mode of the table.
+abbrev pub TabledAutomaton : Type 0
+TabledAutomaton = TabledAutomatonWith (List Look)
 
--- an order with its grammar and its table
+-- An order with the grammar of its files and the table of this grammar.
 abbrev pub Prepared : Type 0
 Prepared = PreparedWith (List Look)

@@ -1,13 +1,14 @@
-//! The automaton of a grammar with its table, and the list of its conflicts.
+//! The automaton of a grammar with its table and its conflicts.
 use mh_grammar::Sequence;
 use mh_items_kernels::AutomatonWith;
 use mh_resolve_cells::{Conflict, Mode};
 use mh_sets::TokenSet;
 use mh_tables_core::Halting;
 
-/// The automaton of a grammar, its table, on which every run ends, and the list of its conflicts.
+/// The automaton of a grammar, its table, on which every run ends, and its conflicts in order. `L` is the type of
+/// lookahead sets.
 #[derive(Drop)]
-pub struct TabledWith<L> {
+pub struct TabledAutomatonWith<L> {
     pub automaton: AutomatonWith<L>,
     pub halting: Halting,
     pub conflicts: Sequence<Conflict>,
@@ -15,5 +16,5 @@ pub struct TabledWith<L> {
     pub mode: Mode,
 }
 
-/// The same with sets of tokens of a width.
-pub type Tabled<const W: usize> = TabledWith<TokenSet<W>>;
+/// A `TabledAutomatonWith` whose lookahead sets have `W` words of 64 bits.
+pub type TabledAutomaton<const W: usize> = TabledAutomatonWith<TokenSet<W>>;

@@ -1,9 +1,9 @@
 //! The last line on err, and the exit status.
 ghost use Rattle.std.specs.Prelude.{◌++◌};
-ghost use Rattle.mh_outside.specs.Faults.{Counts};
+ghost use Rattle.mh_outside.specs.Faults.{CountsFault};
 ghost use Rattle.mh_outside.specs.Sink.{WritesWhole};
-ghost use Rattle.mh_top_drive.specs.Statuses.{code_of, line_of};
-ghost use Rattle.mh_top_warnings.specs.code.LastLine.{Reported, SaysLine};
+ghost use Rattle.mh_top_drive.specs.Statuses.{status_of_cause, line_of_cause};
+ghost use Rattle.mh_top_warnings.specs.code.LastLine.{ReportsStop, WritesLastLine};
 
 use mh_outside::{Sink, WriteFault, write_whole};
 use mh_top_drive::{Cause, Stop, status};
@@ -11,7 +11,7 @@ use mh_top_drive::{Cause, Stop, status};
 /// Writes two parts, one after the other. The call takes no memory.
 fn write_both<E: Sink>(err: &mut E, first: &[u8], second: &[u8]) -> Result<(), WriteFault>
     ensures bytes { WritesWhole (E.written err.old) (E.written err.new) (first.now ++ second.now) result }
-    ensures counts { Counts (E.faults err.old) (E.faults err.new) result }
+    ensures counts { CountsFault (E.faults err.old) (E.faults err.new) result }
 {
     match write_whole(err, first) {
         Ok(()) => write_whole(err, second),
@@ -27,7 +27,7 @@ fn write_line<E: Sink>(
     after: &[u8],
 ) -> Result<(), WriteFault>
     ensures bytes { WritesWhole (E.written err.old) (E.written err.new) (before.now ++ middle.now ++ after.now) result }
-    ensures counts { Counts (E.faults err.old) (E.faults err.new) result }
+    ensures counts { CountsFault (E.faults err.old) (E.faults err.new) result }
 {
     match write_both(err, before, middle) {
         Ok(()) => write_whole(err, after),
@@ -35,9 +35,15 @@ fn write_line<E: Sink>(
     }
 }
 
-/// Writes the last line, in three parts, and gives the status: that of the line, or that of a write fault.
-fn say<E: Sink>(err: &mut E, before: &[u8], middle: &[u8], after: &[u8], status: u8) -> u8
-    ensures { SaysLine status (before.now ++ middle.now ++ after.now) (E.written err.old) (E.written err.new)
+/// Writes the last line, in three parts, and gives the status: that of the line, or that of a failed write.
+fn write_last_line<E: Sink>(
+    err: &mut E,
+    before: &[u8],
+    middle: &[u8],
+    after: &[u8],
+    status: u8,
+) -> u8
+    ensures { WritesLastLine status (before.now ++ middle.now ++ after.now) (E.written err.old) (E.written err.new)
         (E.faults err.old) (E.faults err.new) result }
 {
     match write_line(err, before, middle, after) {
@@ -46,43 +52,49 @@ fn say<E: Sink>(err: &mut E, before: &[u8], middle: &[u8], after: &[u8], status:
     }
 }
 
-/// Writes the line of a cause, and gives its status.
-fn say_cause<E: Sink>(err: &mut E, cause: &Cause) -> u8
-    ensures { SaysLine (code_of cause.now) (line_of cause.now) (E.written err.old) (E.written err.new)
+/// Writes the line for a cause, and gives the status of the cause.
+fn write_cause_line<E: Sink>(err: &mut E, cause: &Cause) -> u8
+    ensures { WritesLastLine (status_of_cause cause.now) (line_of_cause cause.now) (E.written err.old) (E.written err.new)
         (E.faults err.old) (E.faults err.new) result }
 {
     let status = cause.code();
     match cause {
-        Cause::Refused { line } => say(err, line.as_slice(), b"", b"", status),
-        Cause::Misused { line } => say(err, line.as_slice(), b"", b"", status),
-        Cause::Missing { name } => say(
+        Cause::Refused { line } => write_last_line(err, line.as_slice(), b"", b"", status),
+        Cause::Misused { line } => write_last_line(err, line.as_slice(), b"", b"", status),
+        Cause::Missing { name } => write_last_line(
             err,
             b"menhir: cannot read ",
             name.as_slice(),
             b"\n",
             status,
         ),
-        Cause::LongFile { name } => say(err, b"menhir: too big: ", name.as_slice(), b"\n", status),
-        Cause::LongInput => say(err, b"menhir: too big: the input\n", b"", b"", status),
+        Cause::LongFile { name } => write_last_line(
+            err,
+            b"menhir: too big: ",
+            name.as_slice(),
+            b"\n",
+            status,
+        ),
+        Cause::LongInput => write_last_line(err, b"menhir: too big: the input\n", b"", b"", status),
     }
 }
 
-/// Writes the line that says why the work stopped, and gives the exit status. After a write that failed nothing is
-/// written.
+/// Writes the line for the reason for which the work stopped, and gives the exit status. After a failed write nothing
+/// is written.
 pub fn report<E: Sink>(err: &mut E, stop: Stop) -> u8
-    ensures { Reported stop (E.written err.old) (E.written err.new)
+    ensures { ReportsStop stop (E.written err.old) (E.written err.new)
         (E.faults err.old) (E.faults err.new) result }
 {
     match stop {
-        Stop::Halted { cause } => say_cause(err, &cause),
-        Stop::ShelfFailed { name } => say(
+        Stop::Halted { cause } => write_cause_line(err, &cause),
+        Stop::ShelfFailed { name } => write_last_line(
             err,
             b"menhir: cannot read ",
             name.as_slice(),
             b"\n",
             status::READ_FAULT,
         ),
-        Stop::InputFailed => say(
+        Stop::InputFailed => write_last_line(
             err,
             b"menhir: cannot read the input\n",
             b"",
@@ -90,7 +102,7 @@ pub fn report<E: Sink>(err: &mut E, stop: Stop) -> u8
             status::READ_FAULT,
         ),
         Stop::WriteFailed => status::WRITE_FAULT,
-        Stop::OutOfMemory => say(
+        Stop::OutOfMemory => write_last_line(
             err,
             b"menhir: out of memory\n",
             b"",

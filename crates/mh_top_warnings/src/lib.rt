@@ -1,5 +1,5 @@
-//! What the program writes on err: the warnings on conflicts, and the last line, which says why the work stopped.
-//! Whether the conflicts refuse the grammar is decided here, too.
+//! The texts on err: the warnings on conflicts, and the last line, which says why the work stopped. Whether the
+//! conflicts refuse the grammar under `--strict` is decided here, too.
 #![tactic(auto)]
 
 mod last_line;

@@ -1,6 +1,6 @@
-//! The warnings on conflicts, and whether they refuse the grammar.
+//! The warnings on conflicts, and whether the grammar is refused for its conflicts.
 ghost use Rattle.std.specs.Prelude.{◌≡◌, ◌≤◌, ◌&&◌};
-ghost use Rattle.mh_top_drive.specs.code.Steps.{OutCounts};
+ghost use Rattle.mh_top_drive.specs.code.ModeCalls.{OutCounts};
 ghost use Rattle.mh_top_warnings.specs.code.Warnings.{Warned};
 ghost use Rattle.mh_top_warnings.specs.Warnings.{has_warning as has_warning_in, is_warned as is_warned_of, warnings_of};
 
@@ -11,7 +11,7 @@ use mh_top_drive::{Stop, write_text};
 use mh_top_types::Prepared;
 use std::alloc::Global;
 
-/// Whether there is a warning for conflicts of a kind: not for those that levels solve.
+/// True if conflicts of the kind have a warning: all but those that levels of precedence solve.
 fn is_warned(kind: ConflictKind) -> bool
     ensures { result ≡ is_warned_of kind }
 {
@@ -22,14 +22,14 @@ fn is_warned(kind: ConflictKind) -> bool
     }
 }
 
-/// Whether there is a warning for some of these conflicts.
+/// True if some of the conflicts have a warning.
 fn has_warning(conflicts: &[Conflict]) -> bool
     ensures { result ≡ has_warning_in conflicts.now }
 {
     conflicts.iter().any(|conflict| is_warned(conflict.kind))
 }
 
-/// Whether the grammar is refused for its conflicts, under `--strict`.
+/// True if the grammar is refused for its conflicts: under `--strict`, if one has a warning.
 pub fn is_refused<const W: usize>(prepared: &Prepared<W>) -> bool
     requires { W ≤ 8 }
     ensures { result ≡ (prepared.now.order.strict && has_warning_in prepared.now.tabled.conflicts) }

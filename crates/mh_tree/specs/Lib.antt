@@ -1,3 +1,3 @@
 pub mod Shapes
-pub mod Falls
-pub mod Coding
+pub mod ChildHeights
+pub mod TreeCode

@@ -1,4 +1,4 @@
-//! The tokens that a tree spells.
+//! The tokens at the leaves of a tree.
 ghost use Rattle.std.specs.Prelude.{◌≡◌, ◌++◌, IfOk, OnOk};
 ghost use Rattle.mh_grammar.specs.Trees as spec;
 ghost use Rattle.mh_grammar.specs.Trees.{forest_yield, forest_of};
@@ -7,8 +7,8 @@ use crate::tree::{Shape, Tree};
 use mh_grammar::{Memory, Token};
 use std::alloc::Global;
 
-/// The tokens of the tree's leaves, from left to right: its yield (Aho, Lam, Sethi and Ullman). Fails for want of memory
-/// alone.
+/// The tokens at the leaves of the tree, from left to right: its yield (Aho, Lam, Sethi and Ullman). Fails only if
+/// memory runs out.
 pub fn yield_of(alloc: Global, tree: &Tree) -> Result<Vec<Token>, Memory>
     ensures { IfOk result (λ v. v.items ≡ spec.yield_of tree.now) }
 {

@@ -1,4 +1,4 @@
-//! Shared syntax trees of a bounded height: how they are made, looked at, shared and dropped.
+//! Shared syntax trees of bounded height: construction, access, sharing and dropping.
 ghost use Rattle.std.specs.Prelude.{◌≡◌, ◌↔◌, ℕ, IfOk, IfSome, IsTrue};
 ghost use Rattle.std.specs.Prelude.{◌<◌, ◌≤◌};
 ghost use Rattle.std.specs.List.{All};
@@ -10,8 +10,8 @@ use std::alloc::Global;
 use std::marker::Model;
 use std::rc::Rc;
 
-/// A shared syntax tree: a token, or a production over a tree for each symbol of its right side (Knuth 1965). Its height
-/// is from 1 to `MAX_HEIGHT`.
+/// A shared syntax tree: a token, or a production with a tree for each symbol of its right side (Knuth 1965). Its
+/// height is from 1 to `MAX_HEIGHT`.
 #[cycle(tree)]
 pub struct Tree {
     shape: Rc<Shape>,
@@ -31,7 +31,7 @@ impl Model for Tree {
 
     ghost Value = { SyntaxTree };
 
-    ghost use Rattle.mh_tree.specs.Coding.{tree_code};
+    ghost use Rattle.mh_tree.specs.TreeCode.{tree_code};
 
     ghost coded = { tree_code };
 
@@ -44,12 +44,12 @@ impl Model for Tree {
 
     ghost size = { height_of };
 
-    ghost use Rattle.mh_tree.specs.Falls.{depth_le-height};
+    ghost use Rattle.mh_tree.specs.ChildHeights.{depth_le-height};
 
     ghost size_decreases = { λ t h. depth_le-height t.shape.value };
 }
 
-// A loop over the nodes that have no other owner: the stack would not hold a recursion over a high tree everywhere.
+// Drops the nodes that have no other owner in a loop. A recursion over a high tree could exceed the program's stack.
 impl Drop for Tree {
     fn drop(self) {
         let Tree { shape, height: _ } = self;
@@ -58,14 +58,14 @@ impl Drop for Tree {
         };
         'trees: while let Some(tree) = waiting.pop() {
             if let Some(mut children) = tree.into_children() {
-                // Where there is no memory to put them off, they are dropped here.
+                // If there is no memory for appending the children, they are dropped here.
                 let _ = waiting.append(&mut children);
             }
         }
     }
 }
 
-/// The children of a node that has no other owner.
+/// The children of the node, if the node has no other owner.
 fn children_of(shape: Rc<Shape>) -> Option<Vec<Tree>>
     ensures { IfSome result (λ children. (p : ℕ) × (tree_of shape.value ≡ Node p (forest_of children.items))) }
 {
@@ -83,7 +83,7 @@ impl Tree {
         &self.shape
     }
 
-    /// The children, where the node has no other owner.
+    /// The children, if the node has no other owner.
     fn into_children(self) -> Option<Vec<Tree>>
         ensures { IfSome result (λ children. (p : ℕ) × (self ≡ Node p (forest_of children.items))) }
     {
@@ -91,8 +91,8 @@ impl Tree {
         children_of(shape)
     }
 
-    /// The height: 1 for a leaf and for an empty node, else one more than that of the highest child; at most
-    /// `MAX_HEIGHT`.
+    /// The height: 1 for a leaf and for a node without children, else one more than the height of the highest child; at
+    /// most `MAX_HEIGHT`.
     pub fn height(&self) -> u32
         ensures value { result ≡ height_of self.now }
         ensures bound { result ≤ MAX_HEIGHT }
@@ -100,7 +100,7 @@ impl Tree {
         self.height
     }
 
-    /// An equal tree, which shares the nodes of this one. Fails for want of memory alone.
+    /// An equal tree that shares the nodes of this one. Fails only if memory runs out.
     pub fn share(&self) -> Result<Tree, Memory>
         ensures { IfOk result (λ t. t ≡ self.now) }
     {
@@ -111,7 +111,7 @@ impl Tree {
     }
 }
 
-/// The tree of a token, of height 1. Fails for want of memory alone.
+/// The tree of a token, of height 1. Fails only if memory runs out.
 pub fn leaf(alloc: Global, token: Token) -> Result<Tree, Memory>
     ensures { IfOk result (λ t. t ≡ Leaf token) }
 {
@@ -121,15 +121,15 @@ pub fn leaf(alloc: Global, token: Token) -> Result<Tree, Memory>
     })
 }
 
-/// Whether these trees may be the children of a node: none of them has the height `MAX_HEIGHT`.
+/// Whether these trees may become children of a node: none of them has the height `MAX_HEIGHT`.
 pub fn can_be_children(trees: &[Tree]) -> bool
     ensures { IsTrue result ↔ All (λ t. height_of t < MAX_HEIGHT) trees.now }
 {
     trees.iter().all(|tree| tree.height() < MAX_HEIGHT)
 }
 
-/// The tree of a production over its children, one higher than the highest of them. Fails for want of memory alone; the
-/// children are dropped then.
+/// The tree of a production with these children, one higher than the highest of them. Fails only if memory runs out;
+/// then the children are dropped.
 pub fn node(alloc: Global, production: u32, children: Vec<Tree>) -> Result<Tree, Memory>
     requires { All (λ t. height_of t < MAX_HEIGHT) children.items }
     ensures { IfOk result (λ t. t ≡ Node production (forest_of children.items)) }
@@ -141,7 +141,7 @@ pub fn node(alloc: Global, production: u32, children: Vec<Tree>) -> Result<Tree,
     })
 }
 
-/// The height of the highest tree, and 0 where there is none.
+/// The height of the highest tree, or 0 if there are no trees.
 fn highest(trees: &[Tree]) -> u32
     requires { All (λ t. height_of t < MAX_HEIGHT) trees.now }
     ensures value { result ≡ forest_height (forest_of trees.now) }

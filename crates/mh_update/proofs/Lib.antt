@@ -1,8 +1,8 @@
-pub mod Commented
-pub mod Walks
-pub mod Found
-pub mod Alike
-pub mod Tales
-pub mod Twice
-pub mod Unfit
-pub mod Refused
+pub mod AreComments
+pub mod LineWalk
+pub mod SentencesByLine
+pub mod SameContent
+pub mod GeneratedText
+pub mod UpdatedAgain
+pub mod UpdatedOrUnfit
+pub mod EarlyOrLast

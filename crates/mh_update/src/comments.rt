@@ -3,11 +3,11 @@ ghost use Rattle.std.specs.Prelude.{◌≡◌, ◌≤◌, ◌++◌, [], ℕ, Lis
 ghost use Rattle.std.specs.List.{AllByRecursion};
 ghost use Rattle.mh_grammar.specs.Plain.{plain_of};
 ghost use Rattle.mh_items_kernels.specs.Automaton.{IsAutomaton};
-ghost use Rattle.mh_msgfile.specs.Messages.{IsOf};
+ghost use Rattle.mh_msgfile.specs.Messages.{IsSentenceOf};
 ghost use Rattle.mh_msgfile.specs.declared.messages.MsgSentence.{MsgSentence as MsgSentence'};
-ghost use Rattle.mh_check.specs.Checks.{Breaks, FailsIn};
-ghost use Rattle.mh_check.specs.Compiling.{Tells};
-ghost use Rattle.mh_update_renewed.specs.Updates.{AreComments, IsComment, Comments as CommentsOf};
+ghost use Rattle.mh_check.specs.Checks.{BreaksSoundness, FailsIn};
+ghost use Rattle.mh_check.specs.Compiling.{ReportsCheckFault};
+ghost use Rattle.mh_update_renewed.specs.Updates.{AreComments, IsComment, AreCommentsOrFault as CommentsOf};
 
 use mh_check::{CheckFault, failing_state};
 use mh_grammar::{Grammar, Memory, Sequence};
@@ -29,7 +29,7 @@ fn comment_of<const W: usize>(
     requires few { W ≤ 8 }
     requires automaton { IsAutomaton (plain_of grammar.now) automaton.now }
     requires states { length table.now.states ≡ length automaton.now.kernels }
-    requires known { IsOf (length table.now.grammar.starts) table.now.grammar.tokens sentence.now }
+    requires known { IsSentenceOf (length table.now.grammar.starts) table.now.grammar.tokens sentence.now }
     requires fails { (s : ℕ) × FailsIn table.now sentence.now s }
     ensures { IfOk result (IsComment grammar.now automaton.now table.now sentence.now) }
 {
@@ -41,7 +41,7 @@ fn comment_of<const W: usize>(
     })
 }
 
-/// The comment of a sentence, or why it has none.
+/// The comment of a sentence, or the reason why it has none.
 fn checked_comment<const W: usize>(
     alloc: Global,
     grammar: &Grammar,
@@ -52,8 +52,8 @@ fn checked_comment<const W: usize>(
     requires few { W ≤ 8 }
     requires automaton { IsAutomaton (plain_of grammar.now) automaton.now }
     requires states { length table.now.states ≡ length automaton.now.kernels }
-    requires known { IsOf (length table.now.grammar.starts) table.now.grammar.tokens sentence.now }
-    ensures { MatchResult result (IsComment grammar.now automaton.now table.now sentence.now) (λ fault. Tells fault (Breaks table.now [] sentence.now)) }
+    requires known { IsSentenceOf (length table.now.grammar.starts) table.now.grammar.tokens sentence.now }
+    ensures { MatchResult result (IsComment grammar.now automaton.now table.now sentence.now) (λ fault. ReportsCheckFault fault (BreaksSoundness table.now [] sentence.now)) }
 {
     match failing_state(alloc, table, sentence) {
         Ok(_state) => match comment_of(alloc, grammar, automaton, table, sentence) {
@@ -64,7 +64,7 @@ fn checked_comment<const W: usize>(
     }
 }
 
-/// Puts in the comments of some sentences.
+/// Appends the comments of some sentences.
 fn put_comments<const W: usize>(
     alloc: Global,
     grammar: &Grammar,
@@ -76,7 +76,7 @@ fn put_comments<const W: usize>(
     requires few { W ≤ 8 }
     requires automaton { IsAutomaton (plain_of grammar.now) automaton.now }
     requires states { length table.now.states ≡ length automaton.now.kernels }
-    requires known { AllByRecursion (IsOf (length table.now.grammar.starts) table.now.grammar.tokens) sentences.now }
+    requires known { AllByRecursion (IsSentenceOf (length table.now.grammar.starts) table.now.grammar.tokens) sentences.now }
     ensures { (done : List MsgSentence') → AreComments grammar.now automaton.now table.now done comments.old.items → CommentsOf grammar.now automaton.now table.now (done ++ sentences.now) comments.new.items result }
 {
     for sentence in sentences {
@@ -91,7 +91,7 @@ fn put_comments<const W: usize>(
     Ok(())
 }
 
-/// Puts in the comments of all sentences of some entries, from none.
+/// Appends the comments of all sentences of these entries to an empty vector.
 pub(crate) fn all_comments<const W: usize>(
     alloc: Global,
     grammar: &Grammar,
@@ -103,7 +103,7 @@ pub(crate) fn all_comments<const W: usize>(
     requires few { W ≤ 8 }
     requires automaton { IsAutomaton (plain_of grammar.now) automaton.now }
     requires states { length table.now.states ≡ length automaton.now.kernels }
-    requires known { AllByRecursion (λ entry. AllByRecursion (IsOf (length table.now.grammar.starts) table.now.grammar.tokens) entry.sentences) entries.now }
+    requires known { AllByRecursion (λ entry. AllByRecursion (IsSentenceOf (length table.now.grammar.starts) table.now.grammar.tokens) entry.sentences) entries.now }
     requires none { comments.old.items ≡ [] }
     ensures { CommentsOf grammar.now automaton.now table.now (flat_map (λ entry. entry.sentences) entries.now) comments.new.items result }
 {

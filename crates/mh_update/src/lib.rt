@@ -1,4 +1,5 @@
-//! A messages file kept while its grammar grows: the comment lines of its sentences are made anew, and all else stays.
+//! Brings a messages file up to date after a change of its grammar: the comment lines of its sentences are made anew,
+//! and all other lines stay.
 #![tactic(auto)]
 
 mod comments;

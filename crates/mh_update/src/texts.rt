@@ -1,22 +1,22 @@
-//! The lines that tell which states one messages file names and another lacks.
+//! The lines that report the states for which one messages file has a message and another has none.
 ghost use Rattle.std.specs.Prelude.{◌≡◌, ◌++◌, IfOk, OnOk};
-ghost use Rattle.mh_update_renewed.specs.Missing.{missing_line, missing_lines, state_text};
+ghost use Rattle.mh_update_renewed.specs.MissingStates.{missing_line, missing_lines, missing_state_text};
 
 use mh_grammar::Memory;
 use std::alloc::Global;
 
-/// Writes the beginning of a state's line.
-#[tactic(auto, unfolding(mh_update_renewed::specs::Missing::state_text))]
+/// Appends the beginning of the line of a state.
+#[tactic(auto, unfolding(mh_update_renewed::specs::MissingStates::missing_state_text))]
 fn write_state(alloc: Global, text: &mut Vec<u8>, state: u32) -> Result<(), Memory>
-    ensures { OnOk result (text.new.items ≡ text.old.items ++ state_text state) }
+    ensures { OnOk result (text.new.items ≡ text.old.items ++ missing_state_text state) }
 {
     let part = format!(in alloc; "menhir: state {state} of ")?;
     text.extend_from_slice(part.as_bytes())?;
     Ok(())
 }
 
-/// Writes the line of a state.
-#[tactic(auto, unfolding(mh_update_renewed::specs::Missing::missing_line))]
+/// Appends the line of a state.
+#[tactic(auto, unfolding(mh_update_renewed::specs::MissingStates::missing_line))]
 fn write_missing(
     alloc: Global,
     text: &mut Vec<u8>,
@@ -34,8 +34,8 @@ fn write_missing(
     Ok(())
 }
 
-/// The lines on err that tell the states that the file of the first name has messages for and that of the second lacks, a line each, in
-/// order. Fails for want of memory alone.
+/// Returns the lines for the error output that report the states for which the file named `left` has a message and the
+/// file named `right` has none, one line a state, in order. Fails only if memory runs out.
 pub fn missing_text(
     alloc: Global,
     left: &[u8],

@@ -2,10 +2,10 @@
 ghost use Rattle.std.specs.Prelude.{◌≡◌, ◌≤◌, ◌-◌, ◌++◌, length, take, drop, IfOk, OnOk, MatchResult};
 ghost use Rattle.mh_grammar.specs.Plain.{plain_of};
 ghost use Rattle.mh_items_kernels.specs.Automaton.{IsAutomaton};
-ghost use Rattle.mh_msgfile.specs.Messages.{AreOf};
+ghost use Rattle.mh_msgfile.specs.Messages.{AreSentencesOf};
 ghost use Rattle.mh_check.specs.Checks.{sentences_of};
-ghost use Rattle.mh_check.specs.Compiling.{Tells};
-ghost use Rattle.mh_update_renewed.specs.Updates.{FirstUnfit, IsUpdated, own_text, own_texts, updated};
+ghost use Rattle.mh_check.specs.Compiling.{ReportsCheckFault};
+ghost use Rattle.mh_update_renewed.specs.Updates.{FirstUnfit, IsUpdated, kept_text, kept_texts_of, updated};
 
 use crate::comments::all_comments;
 use mh_check::CheckFault;
@@ -16,9 +16,9 @@ use mh_tables_core::Halting;
 use mh_update_renewed::Comment;
 use std::alloc::Global;
 
-/// Writes a line, unless the program makes this line.
+/// Appends a line, unless it is generated.
 fn write_own(text: &mut Vec<u8>, line: &[u8]) -> Result<(), Memory>
-    ensures { OnOk result (text.new.items ≡ text.old.items ++ own_text line.now) }
+    ensures { OnOk result (text.new.items ≡ text.old.items ++ kept_text line.now) }
 {
     if !line.starts_with(b"##") {
         text.extend_from_slice(line)?;
@@ -27,9 +27,9 @@ fn write_own(text: &mut Vec<u8>, line: &[u8]) -> Result<(), Memory>
     Ok(())
 }
 
-/// Writes the lines that the program does not make.
+/// Appends the lines that are not generated.
 fn write_all_own(text: &mut Vec<u8>, lines: &[Name]) -> Result<(), Memory>
-    ensures { OnOk result (text.new.items ≡ text.old.items ++ own_texts lines.now) }
+    ensures { OnOk result (text.new.items ≡ text.old.items ++ kept_texts_of lines.now) }
 {
     for line in lines {
         write_own(text, line.as_slice())?;
@@ -37,7 +37,7 @@ fn write_all_own(text: &mut Vec<u8>, lines: &[Name]) -> Result<(), Memory>
     Ok(())
 }
 
-/// The lines after the first ones.
+/// The lines after the first `count`.
 fn after(lines: &[Name], count: usize) -> &[Name]
     ensures { result.now ≡ drop count lines.now }
 {
@@ -48,7 +48,7 @@ fn after(lines: &[Name], count: usize) -> &[Name]
     }
 }
 
-/// The first lines.
+/// The first `count` lines, or all lines if there are fewer.
 fn first(lines: &[Name], count: usize) -> &[Name]
     ensures { result.now ≡ take count lines.now }
 {
@@ -59,15 +59,15 @@ fn first(lines: &[Name], count: usize) -> &[Name]
     }
 }
 
-/// Writes the lines up to that of a sentence, where the first ones are written, and the comment lines of the sentence. Lines are
-/// counted from 1.
+/// Appends the lines after the first `written` up to the line of a sentence, and then the comment lines of the
+/// sentence. Lines are numbered from 1.
 fn write_comment(
     text: &mut Vec<u8>,
     lines: &[Name],
     written: usize,
     comment: &Comment,
 ) -> Result<(), Memory>
-    ensures { OnOk result (text.new.items ≡ text.old.items ++ own_texts (take (comment.now.line - written) (drop written lines.now)) ++ comment.now.text) }
+    ensures { OnOk result (text.new.items ≡ text.old.items ++ kept_texts_of (take (comment.now.line - written) (drop written lines.now)) ++ comment.now.text) }
 {
     let count = (comment.line as usize).saturating_sub(written);
     write_all_own(text, first(after(lines, written), count))?;
@@ -75,7 +75,7 @@ fn write_comment(
     Ok(())
 }
 
-/// The lines that the program does not make, and after the line of each sentence its comment lines.
+/// The lines that are not generated, with the comment lines of each sentence after its line.
 fn with_comments(alloc: Global, lines: &[Name], comments: &[Comment]) -> Result<Vec<u8>, Memory>
     ensures { IfOk result (λ text. text.items ≡ updated lines.now comments.now) }
 {
@@ -89,9 +89,10 @@ fn with_comments(alloc: Global, lines: &[Name], comments: &[Comment]) -> Result<
     Ok(text)
 }
 
-/// A messages file brought up to date: each of its lines that does not begin with two number signs, in order, and after the line of
-/// each sentence its comment lines, by this grammar, automaton and table. Fails at the first sentence that is not refused, or before
-/// its last token; two sentences may fail in one state. `Memory` only where there was none.
+/// Brings a messages file up to date: returns its lines that do not begin with `##`, in order, with the comment lines
+/// of each sentence after its line, made by this grammar, automaton and table. Fails at the first sentence that is not
+/// refused, or is refused before its last token; two sentences may fail in the same state. Fails with `Memory` only if
+/// memory runs out.
 pub fn update<const W: usize>(
     alloc: Global,
     grammar: &Grammar,
@@ -102,8 +103,8 @@ pub fn update<const W: usize>(
     requires few { W ≤ 8 }
     requires automaton { IsAutomaton (plain_of grammar.now) automaton.now }
     requires states { length table.now.states ≡ length automaton.now.kernels }
-    requires known { AreOf (length table.now.grammar.starts) table.now.grammar.tokens file.now }
-    ensures { MatchResult result (λ text. IsUpdated grammar.now automaton.now table.now file.now text.items) (λ fault. Tells fault (FirstUnfit table.now (sentences_of file.now))) }
+    requires known { AreSentencesOf (length table.now.grammar.starts) table.now.grammar.tokens file.now }
+    ensures { MatchResult result (λ text. IsUpdated grammar.now automaton.now table.now file.now text.items) (λ fault. ReportsCheckFault fault (FirstUnfit table.now (sentences_of file.now))) }
 {
     let mut comments = Vec::new(alloc);
     let entries = file.entries.as_slice();

@@ -1,2 +1,2 @@
-pub mod Missing
+pub mod MissingStates
 pub mod Updates

@@ -1,4 +1,4 @@
-//! What a messages file becomes when it is brought up to date, and which states one of two lacks: by definition alone.
+//! The definitions of a messages file brought up to date, and of the report on the states that one of two files lacks.
 #![tactic(auto)]
 
 mod comment;

@@ -1,9 +1,9 @@
-mod Reading
-mod Named
-mod Itemed
-mod Stating
+mod RisingValues
+mod LookByName
+mod ItemsRead
+mod StateKernel
 mod FirstKernels
-pub mod Within
-pub mod Edging
-pub mod Counting
-mod Judging
+pub mod KernelWithin
+pub mod MatchedEdges
+pub mod FirstRows
+mod Outcomes

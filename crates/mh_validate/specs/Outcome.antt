@@ -1,4 +1,4 @@
--- What validating answers.
+-- The result of validating a table file.
 use Rattle.std.specs.Prelude.{◌≡◌, ℕ, Result, Ok, Err}
 use Rattle.mh_grammar.specs.declared.types.Grammar.{Grammar}
 use Rattle.mh_resolve_cells.specs.States.{IsTableOf}
@@ -9,18 +9,18 @@ use Rattle.mh_validate.specs.declared.fault.ValidFault.{ValidFault}
 use Rattle.mh_validate.specs.declared.fault.ValidFault.TheVariants.{Invalid, Memory}
 use Rattle.mh_validate.specs.declared.validation.Valid.{Valid}
 
--- the first test that fails, unless memory ran out
+-- The fault is the first failing test, unless memory ran out.
 abbrev pub IsFault : Grammar → RawTable → ValidFault → Type 0
 IsFault g raw (Invalid state reason) = IsInvalidAt g raw state reason
 IsFault g raw Memory = Unit {0}
 
--- what the file names, with its table and its conflicts
-pub record Gives {W : ℕ} (g : Grammar) (raw : RawTable) (v : Valid W) : Type 0 where
+-- The value is the automaton that the file names, with its table and its conflicts.
+pub record IsValidResult {W : ℕ} (g : Grammar) (raw : RawTable) (v : Valid W) : Type 0 where
   pub valid : IsValidFor g raw v.automaton v.table.states
   pub table : IsTableOf g v.automaton raw.mode v.table
   pub conflicts : AreConflicts g v.automaton v.conflicts.items
   pub mode : v.mode ≡ raw.mode
 
 abbrev pub IsOutcome : {W : ℕ} → Grammar → RawTable → Result (Valid W) ValidFault → Type 0
-IsOutcome g raw (Ok v) = Gives g raw v
+IsOutcome g raw (Ok v) = IsValidResult g raw v
 IsOutcome g raw (Err fault) = IsFault g raw fault

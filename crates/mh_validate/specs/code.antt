@@ -1,4 +1,4 @@
-pub mod Comparing
-pub mod Found
-pub mod Leading
-pub mod Looking
+pub mod FirstRows
+pub mod FirstKernels
+pub mod MatchedEdges
+pub mod LooksAndItems

@@ -1,7 +1,7 @@
-//! The edges of a state beside the moves of its closure.
+//! Compares the edges of a state with the moves of its closure.
 ghost use Rattle.std.specs.Prelude.{◌≡◌, ◌<◌, ◌≤◌, ◌↔◌, length, IsTrue, IfOk};
 ghost use Rattle.std.specs.List.{AllZip};
-ghost use Rattle.mh_validate.specs.code.Leading.{Leads, IsRowOf, edges_on as edges_of_moves};
+ghost use Rattle.mh_validate.specs.code.MatchedEdges.{MatchesMove, IsRowOf, edges_on as edges_of_moves};
 
 use mh_grammar::{Edge, Grammar, Memory, Sequence, symbol_name};
 use mh_items::Move;
@@ -17,7 +17,7 @@ fn leads<const W: usize>(
     raw: &RawEdge,
 ) -> bool
     requires few { W ≤ 8 }
-    ensures { IsTrue result ↔ Leads grammar.now kernels.now found.now raw.now }
+    ensures { IsTrue result ↔ MatchesMove grammar.now kernels.now found.now raw.now }
 {
     if !is_named(&raw.symbol, symbol_name(grammar, found.symbol)) {
         return false;
@@ -28,7 +28,8 @@ fn leads<const W: usize>(
     is_kernel_within(&found.kernel, &kernels[raw.target as usize])
 }
 
-/// Whether the edges are those of the moves, and lead to states that hold what is moved.
+/// Returns true if the edges match the moves, one by one: their symbols are equal, and the targets hold the moved
+/// items.
 fn all_lead<const W: usize>(
     grammar: &Grammar,
     kernels: &[Kernel<W>],
@@ -36,7 +37,7 @@ fn all_lead<const W: usize>(
     raws: &[RawEdge],
 ) -> bool
     requires few { W ≤ 8 }
-    ensures { IsTrue result ↔ AllZip (Leads grammar.now kernels.now) moves.now raws.now }
+    ensures { IsTrue result ↔ AllZip (MatchesMove grammar.now kernels.now) moves.now raws.now }
 {
     if moves.len() != raws.len() {
         return false;
@@ -49,7 +50,7 @@ fn all_lead<const W: usize>(
     true
 }
 
-/// The edges on the symbols of the moves.
+/// The edges with the symbols of the moves and the targets of the file's edges.
 fn edges_on<const W: usize>(
     alloc: Global,
     moves: &[Move<W>],
@@ -69,7 +70,7 @@ fn edges_on<const W: usize>(
     Ok(Sequence::from_vec(row))
 }
 
-/// The edges on the symbols of the moves, where they are the raw ones.
+/// The edges of a state if the file's edges match the moves, else none.
 pub(crate) fn row_of<const W: usize>(
     alloc: Global,
     grammar: &Grammar,

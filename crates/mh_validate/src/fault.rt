@@ -1,11 +1,12 @@
-//! Why a table file is not taken.
+//! Why validating a table file fails.
 use mh_validate_valid::Reason;
 
-/// Why a table file is not taken.
+/// Why validating a table file fails.
 #[derive(Clone, Copy)]
 pub enum ValidFault {
-    /// It is not valid for the grammar: the first test that fails, and the state at which it does.
+    /// The file is not valid for the grammar: the first failing test, and the state at which it fails, if the test is
+    /// one of a state.
     Invalid { state: Option<u32>, reason: Reason },
-    /// There was no memory.
+    /// Memory ran out.
     Memory,
 }

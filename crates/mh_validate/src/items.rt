@@ -1,13 +1,14 @@
-//! The items that lines spell.
-ghost use Rattle.std.specs.Prelude.{◌≡◌, ◌<◌, ◌≤◌, ◌*◌, ◌+◌, ◌↔◌, length, IsTrue, IfOk};
+//! Reads kernel items from their lines.
+ghost use Rattle.std.specs.Prelude.{◌≡◌, ◌<◌, ◌≤◌, ◌+◌, ◌↔◌, length, IsTrue, IfOk};
 ghost use Rattle.mh_grammar.specs.Plain.{plain_of, rhs_of, IsInRange};
 ghost use Rattle.std.specs.List.{Contains};
 ghost use Rattle.mh_grammar.specs.Edges.{IsRising};
-ghost use Rattle.mh_items_kernels.specs.Shapes.{KernelItem as ItemOf};
+ghost use Rattle.mh_items_kernels.specs.KernelTypes.{KernelItem as ItemOf};
 ghost use Rattle.mh_items_kernels.specs.Kernels.{IsItemBefore};
 ghost use Rattle.mh_msgfile.specs.Sentences.{vocabulary_in, vocabulary_of};
-ghost use Rattle.mh_validate_valid.specs.Valid.{AreNamesApart};
-ghost use Rattle.mh_validate.specs.code.Looking.{Finds, IsItemOf, AreItemsOf};
+ghost use Rattle.mh_validate_valid.specs.Valid.{AreTokenNamesDistinct};
+ghost use Rattle.mh_validate.specs.code.LooksAndItems.{FindsOne, IsItemOf, AreItemsOf};
+ghost use Rattle.mh_items.specs.Fitting.{FitsSets};
 
 use crate::looks::looks_of;
 use mh_grammar::{Grammar, Memory, Sequence};
@@ -16,7 +17,7 @@ use mh_msgfile::Lexicon;
 use mh_tabfile_form::RawItem;
 use std::alloc::Global;
 
-/// How many symbols a production has.
+/// The number of symbols on the right side of a production.
 fn length_of(grammar: &Grammar, production: u32) -> usize
     requires range { IsInRange (plain_of grammar.now) }
     requires production { production < length grammar.now.starts + length grammar.now.productions }
@@ -30,7 +31,7 @@ fn length_of(grammar: &Grammar, production: u32) -> usize
     grammar.productions[production - starts].rhs.len()
 }
 
-/// Whether a production is known, and has a place for a dot.
+/// Returns true if the production exists and the dot is at most the length of its right side.
 fn is_place(grammar: &Grammar, production: u32, dot: u32) -> bool
     requires range { IsInRange (plain_of grammar.now) }
     ensures { IsTrue result ↔ ((production < length grammar.now.starts + length grammar.now.productions) × (dot ≤ length (rhs_of (plain_of grammar.now) production))) }
@@ -41,18 +42,16 @@ fn is_place(grammar: &Grammar, production: u32, dot: u32) -> bool
     dot as usize <= length_of(grammar, production)
 }
 
-/// The item of a line.
+/// The item that a line spells, if it is a kernel item of the grammar.
 fn item_of<const W: usize>(
     grammar: &Grammar,
     lexicon: &Lexicon,
     raw: &RawItem,
 ) -> Option<KernelItem<W>>
-    requires few { W ≤ 8 }
-    requires width { length grammar.now.tokens ≤ 64 * W }
-    requires range { IsInRange (plain_of grammar.now) }
-    requires apart { AreNamesApart grammar.now }
+    requires fits { FitsSets W grammar.now }
+    requires apart { AreTokenNamesDistinct grammar.now }
     requires lexicon { vocabulary_in lexicon.now ≡ vocabulary_of grammar.now }
-    ensures { Finds (IsItemOf grammar.now raw.now) result }
+    ensures { FindsOne (IsItemOf grammar.now raw.now) result }
 {
     if !is_place(grammar, raw.production, raw.dot) {
         return None;
@@ -78,8 +77,8 @@ fn is_before<const W: usize>(left: &KernelItem<W>, right: &KernelItem<W>) -> boo
         || (left.production == right.production && left.dot < right.dot)
 }
 
-/// Whether an item comes after those of a rising list.
-fn is_behind<const W: usize>(items: &[KernelItem<W>], item: &KernelItem<W>) -> bool
+/// Returns true if the item is after all items of a rising list.
+fn is_after_all<const W: usize>(items: &[KernelItem<W>], item: &KernelItem<W>) -> bool
     requires few { W ≤ 8 }
     requires rising { IsRising IsItemBefore items.now }
     ensures { IsTrue result ↔ ((other : ItemOf) → Contains items.now other → IsItemBefore other item.now) }
@@ -90,26 +89,24 @@ fn is_behind<const W: usize>(items: &[KernelItem<W>], item: &KernelItem<W>) -> b
     is_before(&items[items.len() - 1], item)
 }
 
-/// The items of rising lines.
+/// The items that the lines spell, if each is a kernel item and they rise, else none.
 pub(crate) fn items_of<const W: usize>(
     alloc: Global,
     grammar: &Grammar,
     lexicon: &Lexicon,
     raws: &[RawItem],
 ) -> Result<Option<Sequence<KernelItem<W>>>, Memory>
-    requires few { W ≤ 8 }
-    requires width { length grammar.now.tokens ≤ 64 * W }
-    requires range { IsInRange (plain_of grammar.now) }
-    requires apart { AreNamesApart grammar.now }
+    requires fits { FitsSets W grammar.now }
+    requires apart { AreTokenNamesDistinct grammar.now }
     requires lexicon { vocabulary_in lexicon.now ≡ vocabulary_of grammar.now }
-    ensures { IfOk result (Finds (AreItemsOf grammar.now raws.now)) }
+    ensures { IfOk result (FindsOne (AreItemsOf grammar.now raws.now)) }
 {
     let mut items = Vec::with_capacity(alloc, raws.len())?;
     for raw in raws {
         let Some(item) = item_of(grammar, lexicon, raw) else {
             return Ok(None);
         };
-        if !is_behind(items.as_slice(), &item) {
+        if !is_after_all(items.as_slice(), &item) {
             return Ok(None);
         }
         items.push(item)?;

@@ -1,12 +1,12 @@
-//! The kernels that states have.
-ghost use Rattle.std.specs.Prelude.{◌≡◌, ◌<◌, ◌≤◌, ◌*◌, ◌↔◌, [], ◌∷◌, length, IsTrue, IfOk, OnOk};
+//! Reads the kernels of the states.
+ghost use Rattle.std.specs.Prelude.{◌≡◌, ◌<◌, ◌≤◌, ◌↔◌, [], ◌∷◌, length, IsTrue, IfOk, OnOk};
 ghost use Rattle.std.specs.List.{AllByRecursion};
-ghost use Rattle.mh_grammar.specs.Plain.{plain_of, IsInRange};
 ghost use Rattle.mh_items_kernels.specs.Automaton.{start_kernel};
 ghost use Rattle.mh_msgfile.specs.Sentences.{vocabulary_in, vocabulary_of};
-ghost use Rattle.mh_validate_valid.specs.Valid.{AreNamesApart, HasKernel, raw_state};
-ghost use Rattle.mh_validate.specs.code.Looking.{Finds, IsMovedItem, MayHave};
-ghost use Rattle.mh_validate.specs.code.Found.{AreFirstKernels};
+ghost use Rattle.mh_validate_valid.specs.Valid.{AreTokenNamesDistinct, HasKernel, raw_state};
+ghost use Rattle.mh_validate.specs.code.LooksAndItems.{FindsOne, IsNonStartItem, MayHaveItems};
+ghost use Rattle.mh_validate.specs.code.FirstKernels.{AreFirstKernels};
+ghost use Rattle.mh_items.specs.Fitting.{FitsSets};
 
 use crate::items::items_of;
 use mh_grammar::{Grammar, Memory, Sequence};
@@ -16,7 +16,7 @@ use mh_tabfile_form::{RawItem, RawTable};
 use mh_validate_valid::{is_end, is_moved};
 use std::alloc::Global;
 
-/// The lines of a state's items.
+/// The item lines of a state.
 fn items_at(raw: &RawTable, state: usize) -> &[RawItem]
     requires { state < length raw.now.states }
     ensures { result.now ≡ (raw_state raw.now state).items }
@@ -26,7 +26,7 @@ fn items_at(raw: &RawTable, state: usize) -> &[RawItem]
 
 fn are_moved<const W: usize>(grammar: &Grammar, items: &[KernelItem<W>]) -> bool
     requires few { W ≤ 8 }
-    ensures { IsTrue result ↔ AllByRecursion (IsMovedItem grammar.now) items.now }
+    ensures { IsTrue result ↔ AllByRecursion (IsNonStartItem grammar.now) items.now }
 {
     for at in 0..items.len() {
         if !is_moved(grammar, &items[at]) {
@@ -36,7 +36,7 @@ fn are_moved<const W: usize>(grammar: &Grammar, items: &[KernelItem<W>]) -> bool
     true
 }
 
-/// Whether the items are those of the kernel of a start.
+/// Returns true if the items are those of the start kernel of this start symbol.
 fn is_start<const W: usize>(items: &[KernelItem<W>], start: usize) -> bool
     requires few { W ≤ 8 }
     ensures { IsTrue result ↔ (items.now ≡ (start_kernel start).items) }
@@ -54,10 +54,10 @@ fn is_start_item<const W: usize>(item: &KernelItem<W>, start: usize) -> bool
     item.production as usize == start && item.dot == 0 && is_end(&item.looks)
 }
 
-/// Whether a state may have these items, which rise.
+/// Returns true if a state may have these rising items.
 fn may_have<const W: usize>(grammar: &Grammar, state: usize, items: &[KernelItem<W>]) -> bool
     requires few { W ≤ 8 }
-    ensures { IsTrue result ↔ MayHave grammar.now state items.now }
+    ensures { IsTrue result ↔ MayHaveItems grammar.now state items.now }
 {
     if state < grammar.starts.len() {
         is_start(items, state)
@@ -66,7 +66,7 @@ fn may_have<const W: usize>(grammar: &Grammar, state: usize, items: &[KernelItem
     }
 }
 
-/// The kernel of a state.
+/// The kernel of a state, if its items are a kernel that it may have.
 fn kernel_at<const W: usize>(
     alloc: Global,
     grammar: &Grammar,
@@ -74,13 +74,11 @@ fn kernel_at<const W: usize>(
     raw: &RawTable,
     state: usize,
 ) -> Result<Option<Kernel<W>>, Memory>
-    requires few { W ≤ 8 }
-    requires width { length grammar.now.tokens ≤ 64 * W }
-    requires range { IsInRange (plain_of grammar.now) }
-    requires apart { AreNamesApart grammar.now }
+    requires fits { FitsSets W grammar.now }
+    requires apart { AreTokenNamesDistinct grammar.now }
     requires lexicon { vocabulary_in lexicon.now ≡ vocabulary_of grammar.now }
     requires state { state < length raw.now.states }
-    ensures { IfOk result (Finds (HasKernel grammar.now raw.now state)) }
+    ensures { IfOk result (FindsOne (HasKernel grammar.now raw.now state)) }
 {
     let Some(items) = items_of(alloc, grammar, lexicon, items_at(raw, state))? else {
         return Ok(None);
@@ -91,7 +89,7 @@ fn kernel_at<const W: usize>(
     Ok(Some(Kernel { items }))
 }
 
-/// The kernels of the first states, up to the first state that has none.
+/// Appends the kernels of the first states, up to the first state that has none.
 fn fill_kernels<const W: usize>(
     alloc: Global,
     grammar: &Grammar,
@@ -99,10 +97,8 @@ fn fill_kernels<const W: usize>(
     raw: &RawTable,
     kernels: &mut Vec<Kernel<W>>,
 ) -> Result<(), Memory>
-    requires few { W ≤ 8 }
-    requires width { length grammar.now.tokens ≤ 64 * W }
-    requires range { IsInRange (plain_of grammar.now) }
-    requires apart { AreNamesApart grammar.now }
+    requires fits { FitsSets W grammar.now }
+    requires apart { AreTokenNamesDistinct grammar.now }
     requires lexicon { vocabulary_in lexicon.now ≡ vocabulary_of grammar.now }
     requires fresh { kernels.old.items ≡ [] }
     ensures { OnOk result (AreFirstKernels grammar.now raw.now kernels.new.items) }
@@ -116,37 +112,34 @@ fn fill_kernels<const W: usize>(
     Ok(())
 }
 
-/// The same, by a lexicon that is let go at one end alone.
+/// Appends the kernels of the first states, as far as they are right, with a lexicon of its own. The lexicon is dropped
+/// in one place, on success and on failure.
 fn find_kernels<const W: usize>(
     alloc: Global,
     grammar: &Grammar,
     raw: &RawTable,
     kernels: &mut Vec<Kernel<W>>,
 ) -> Result<(), Memory>
-    requires few { W ≤ 8 }
-    requires width { length grammar.now.tokens ≤ 64 * W }
-    requires range { IsInRange (plain_of grammar.now) }
-    requires apart { AreNamesApart grammar.now }
+    requires fits { FitsSets W grammar.now }
+    requires apart { AreTokenNamesDistinct grammar.now }
     requires fresh { kernels.old.items ≡ [] }
     ensures { OnOk result (AreFirstKernels grammar.now raw.now kernels.new.items) }
 {
     let lexicon = Lexicon::new(alloc, grammar)?;
     let filled = fill_kernels(alloc, grammar, &lexicon, raw, kernels);
-    // Let go of in one call, since it has many fields.
+    // The lexicon has many fields, so it is dropped by one call.
     drop(lexicon);
     filled
 }
 
-/// The kernels of the first states, up to the first state that has none. Fails for want of memory alone.
+/// The kernels of the first states, up to the first state that has none. Fails only if memory runs out.
 pub(crate) fn first_kernels<const W: usize>(
     alloc: Global,
     grammar: &Grammar,
     raw: &RawTable,
 ) -> Result<Vec<Kernel<W>>, Memory>
-    requires few { W ≤ 8 }
-    requires width { length grammar.now.tokens ≤ 64 * W }
-    requires range { IsInRange (plain_of grammar.now) }
-    requires apart { AreNamesApart grammar.now }
+    requires fits { FitsSets W grammar.now }
+    requires apart { AreTokenNamesDistinct grammar.now }
     ensures { IfOk result (λ v. AreFirstKernels grammar.now raw.now v.items) }
 {
     let mut kernels = Vec::with_capacity(alloc, raw.states.len())?;

@@ -1,5 +1,5 @@
-//! Whether a table file is valid for a grammar, and what a valid one gives: its kernels are read by their names, its
-//! edges are compared with the moves of these kernels, and its cells with those that conflict resolution gives.
+//! Validates table files for a grammar. The kernels of a file are read by their names, its edges are compared with the
+//! moves of these kernels, and its cells with those that conflict resolution gives.
 #![tactic(auto)]
 
 mod edges;

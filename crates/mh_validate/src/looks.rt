@@ -1,22 +1,23 @@
-//! The looks that names spell.
-ghost use Rattle.std.specs.Prelude.{◌≡◌, ◌≤◌, ◌*◌, ◌↔◌, length, IsTrue};
+//! Reads looks from their names.
+ghost use Rattle.std.specs.Prelude.{◌≡◌, ◌↔◌, IsTrue};
 ghost use Rattle.mh_grammar.specs.Edges.{IsLookBefore};
 ghost use Rattle.mh_msgfile.specs.Sentences.{vocabulary_in, vocabulary_of};
-ghost use Rattle.mh_validate_valid.specs.Valid.{AreNamesApart};
-ghost use Rattle.mh_validate.specs.code.Looking.{Finds, Behind, IsLookOf, AreLooksOf};
+ghost use Rattle.mh_validate_valid.specs.Valid.{AreTokenNamesDistinct};
+ghost use Rattle.mh_validate.specs.code.LooksAndItems.{FindsOne, IsAfterLast, IsLookOf, AreLooksOf};
+ghost use Rattle.mh_items.specs.Fitting.{FitsSets};
 
 use mh_grammar::{Grammar, Look, Name};
 use mh_msgfile::Lexicon;
 use mh_sets::TokenSet;
 use mh_validate_valid::is_named;
 
-/// The look of a name.
+/// The look that a name denotes: `#` is the end of the stream, and any other name is that of a token.
 fn look_of(grammar: &Grammar, lexicon: &Lexicon, name: &Name) -> Option<Look>
-    requires apart { AreNamesApart grammar.now }
+    requires apart { AreTokenNamesDistinct grammar.now }
     requires lexicon { vocabulary_in lexicon.now ≡ vocabulary_of grammar.now }
-    ensures { Finds (IsLookOf grammar.now name.now) result }
+    ensures { FindsOne (IsLookOf grammar.now name.now) result }
 {
-    // The clauses alone speak of it.
+    // Only the contract speaks of the grammar.
     let _grammar = grammar;
     if is_named(name, b"#") {
         return Some(Look::End);
@@ -37,9 +38,9 @@ fn is_before(left: Look, right: Look) -> bool
     }
 }
 
-/// Whether a look may come after the last one.
-fn is_behind(last: Option<Look>, look: Look) -> bool
-    ensures { IsTrue result ↔ Behind last look }
+/// Returns true if the look is greater than the last one, if there is a last one.
+fn is_after_last(last: Option<Look>, look: Look) -> bool
+    ensures { IsTrue result ↔ IsAfterLast last look }
 {
     match last {
         None => true,
@@ -47,17 +48,16 @@ fn is_behind(last: Option<Look>, look: Look) -> bool
     }
 }
 
-/// The set of the looks of rising names.
+/// The set of the looks that the names denote, if each denotes one and they rise.
 pub(crate) fn looks_of<const W: usize>(
     grammar: &Grammar,
     lexicon: &Lexicon,
     names: &[Name],
 ) -> Option<TokenSet<W>>
-    requires few { W ≤ 8 }
-    requires width { length grammar.now.tokens ≤ 64 * W }
-    requires apart { AreNamesApart grammar.now }
+    requires fits { FitsSets W grammar.now }
+    requires apart { AreTokenNamesDistinct grammar.now }
     requires lexicon { vocabulary_in lexicon.now ≡ vocabulary_of grammar.now }
-    ensures { Finds (AreLooksOf grammar.now names.now) result }
+    ensures { FindsOne (AreLooksOf grammar.now names.now) result }
 {
     let mut looks = TokenSet::empty();
     let mut last = None;
@@ -65,7 +65,7 @@ pub(crate) fn looks_of<const W: usize>(
         let Some(look) = look_of(grammar, lexicon, name) else {
             return None;
         };
-        if !is_behind(last, look) {
+        if !is_after_last(last, look) {
             return None;
         }
         looks.insert(look);

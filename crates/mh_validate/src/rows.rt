@@ -1,19 +1,20 @@
-//! The edges of the states, one after another.
-ghost use Rattle.std.specs.Prelude.{◌≡◌, ◌<◌, ◌≤◌, ◌*◌, [], length, IfOk, OnOk};
-ghost use Rattle.mh_grammar.specs.Plain.{plain_of, IsInRange};
-ghost use Rattle.mh_items.specs.code.Mover.{IsMover};
+//! Reads the edges of the states, one after another.
+ghost use Rattle.std.specs.Prelude.{◌≡◌, ◌<◌, [], length, IfOk, OnOk};
+ghost use Rattle.mh_grammar.specs.Plain.{plain_of};
+ghost use Rattle.mh_items.specs.Fitting.{FitsSets};
+ghost use Rattle.mh_items.specs.code.MoveBuilder.{IsMoveBuilder};
 ghost use Rattle.mh_validate_valid.specs.Valid.{AreKernels, HasEdges, raw_state};
-ghost use Rattle.mh_validate_valid.specs.code.Finding.{Finds};
-ghost use Rattle.mh_validate.specs.code.Comparing.{AreFirstRows};
+ghost use Rattle.mh_validate_valid.specs.code.SearchResult.{FindsOne};
+ghost use Rattle.mh_validate.specs.code.FirstRows.{AreFirstRows};
 
 use crate::edges::row_of;
 use mh_grammar::{Edge, Grammar, Memory, Sequence};
-use mh_items::Mover;
+use mh_items::MoveBuilder;
 use mh_items_kernels::Kernel;
 use mh_tabfile_form::{RawEdge, RawTable};
 use std::alloc::Global;
 
-/// The lines of a state's edges.
+/// The edge lines of a state.
 fn edges_at(raw: &RawTable, state: usize) -> &[RawEdge]
     requires { state < length raw.now.states }
     ensures { result.now ≡ (raw_state raw.now state).edges }
@@ -21,23 +22,21 @@ fn edges_at(raw: &RawTable, state: usize) -> &[RawEdge]
     raw.states[state].edges.as_slice()
 }
 
-/// The edges of a state, where they are right.
+/// The edges of a state if they are right, else none.
 fn row_at<const W: usize>(
     alloc: Global,
     grammar: &Grammar,
-    mover: &mut Mover<W>,
+    mover: &mut MoveBuilder<W>,
     raw: &RawTable,
     kernels: &[Kernel<W>],
     state: usize,
 ) -> Result<Option<Sequence<Edge>>, Memory>
-    requires few { W ≤ 8 }
-    requires width { length grammar.now.tokens ≤ 64 * W }
-    requires range { IsInRange (plain_of grammar.now) }
-    requires mover { IsMover (plain_of grammar.now) mover.old }
+    requires fits { FitsSets W grammar.now }
+    requires mover { IsMoveBuilder (plain_of grammar.now) mover.old }
     requires kernels { AreKernels grammar.now raw.now kernels.now }
     requires state { state < length kernels.now }
-    ensures row { IfOk result (Finds (HasEdges grammar.now raw.now kernels.now state)) }
-    ensures mover { IfOk result (λ _. IsMover (plain_of grammar.now) mover.new) }
+    ensures row { IfOk result (FindsOne (HasEdges grammar.now raw.now kernels.now state)) }
+    ensures mover { IfOk result (λ _. IsMoveBuilder (plain_of grammar.now) mover.new) }
 {
     let moves = mover.moves(alloc, grammar, &kernels[state])?;
     row_of(
@@ -49,19 +48,17 @@ fn row_at<const W: usize>(
     )
 }
 
-/// The edges of the first states, up to the first state whose edges are wrong.
+/// Appends the edges of the first states, up to the first state whose edges are wrong.
 fn fill_rows<const W: usize>(
     alloc: Global,
     grammar: &Grammar,
-    mover: &mut Mover<W>,
+    mover: &mut MoveBuilder<W>,
     raw: &RawTable,
     kernels: &[Kernel<W>],
     rows: &mut Vec<Sequence<Edge>>,
 ) -> Result<(), Memory>
-    requires few { W ≤ 8 }
-    requires width { length grammar.now.tokens ≤ 64 * W }
-    requires range { IsInRange (plain_of grammar.now) }
-    requires mover { IsMover (plain_of grammar.now) mover.old }
+    requires fits { FitsSets W grammar.now }
+    requires mover { IsMoveBuilder (plain_of grammar.now) mover.old }
     requires kernels { AreKernels grammar.now raw.now kernels.now }
     requires fresh { rows.old.items ≡ [] }
     ensures { OnOk result (AreFirstRows grammar.now raw.now kernels.now rows.new.items) }
@@ -75,7 +72,8 @@ fn fill_rows<const W: usize>(
     Ok(())
 }
 
-/// The same, by a mover that is let go at one end alone.
+/// Appends the edges of the first states, as far as they are right, with a move builder of its own. The builder is
+/// dropped in one place, on success and on failure.
 fn move_rows<const W: usize>(
     alloc: Global,
     grammar: &Grammar,
@@ -83,30 +81,26 @@ fn move_rows<const W: usize>(
     kernels: &[Kernel<W>],
     rows: &mut Vec<Sequence<Edge>>,
 ) -> Result<(), Memory>
-    requires few { W ≤ 8 }
-    requires width { length grammar.now.tokens ≤ 64 * W }
-    requires range { IsInRange (plain_of grammar.now) }
+    requires fits { FitsSets W grammar.now }
     requires kernels { AreKernels grammar.now raw.now kernels.now }
     requires fresh { rows.old.items ≡ [] }
     ensures { OnOk result (AreFirstRows grammar.now raw.now kernels.now rows.new.items) }
 {
-    let mut mover = Mover::new(alloc, grammar)?;
+    let mut mover = MoveBuilder::new(alloc, grammar)?;
     let filled = fill_rows(alloc, grammar, &mut mover, raw, kernels, rows);
-    // Let go of in one call, since it has many fields.
+    // The mover has many fields, so it is dropped by one call.
     drop(mover);
     filled
 }
 
-/// The edges of the first states, up to the first state whose edges are wrong. Fails for want of memory alone.
+/// The edges of the first states, up to the first state whose edges are wrong. Fails only if memory runs out.
 pub(crate) fn first_rows<const W: usize>(
     alloc: Global,
     grammar: &Grammar,
     raw: &RawTable,
     kernels: &[Kernel<W>],
 ) -> Result<Vec<Sequence<Edge>>, Memory>
-    requires few { W ≤ 8 }
-    requires width { length grammar.now.tokens ≤ 64 * W }
-    requires range { IsInRange (plain_of grammar.now) }
+    requires fits { FitsSets W grammar.now }
     requires kernels { AreKernels grammar.now raw.now kernels.now }
     ensures { IfOk result (λ v. AreFirstRows grammar.now raw.now kernels.now v.items) }
 {

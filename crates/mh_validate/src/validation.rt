@@ -1,22 +1,23 @@
-//! Whether a table file is valid.
-ghost use Rattle.std.specs.Prelude.{◌≡◌, ◌<◌, ◌≤◌, ◌*◌, ◌^◌, ℕ, [], Option, Some, Err, length, IfOk, OnOk};
+//! Validates a table file for a grammar.
+ghost use Rattle.std.specs.Prelude.{◌≡◌, ◌<◌, ◌^◌, ℕ, [], Option, Some, Err, length, IfOk, OnOk};
 ghost use Rattle.mh_grammar.specs.Costs.{HaveCosts};
-ghost use Rattle.mh_grammar.specs.Plain.{plain_of, IsInRange};
-ghost use Rattle.mh_items.specs.code.Closer.{IsCloser};
+ghost use Rattle.mh_grammar.specs.Plain.{plain_of};
+ghost use Rattle.mh_items.specs.Fitting.{FitsSets};
+ghost use Rattle.mh_items.specs.code.ClosureBuilder.{IsClosureBuilder};
 ghost use Rattle.mh_items_kernels.specs.Automaton.{IsAutomaton};
 ghost use Rattle.mh_resolve_cells.specs.States.{IsTableOf};
 ghost use Rattle.mh_resolve_cells.specs.Conflicts.{AreConflicts};
 ghost use Rattle.mh_validate_valid.specs.declared.reason.Reason.{Reason as ReasonOf};
-ghost use Rattle.mh_validate_valid.specs.Valid.{AreKernels, AreNamesApart, HasHeader, HasStates, IsInvalidAt, IsValidFor, reason_of, raw_state};
-ghost use Rattle.mh_tabfile_form.specs.Written.{raw_cells};
-ghost use Rattle.mh_validate.specs.code.Comparing.{AreFirstRows, AreRows, AreResolvedRows};
+ghost use Rattle.mh_validate_valid.specs.Valid.{AreKernels, AreTokenNamesDistinct, HasHeader, HasStates, IsInvalidAt, IsValidFor, reason_of, raw_state};
+ghost use Rattle.mh_tabfile_form.specs.TableContent.{raw_cells};
+ghost use Rattle.mh_validate.specs.code.FirstRows.{AreFirstRows, AreRows, AreResolvedRows};
 ghost use Rattle.mh_validate.specs.Outcome.{IsFault, IsOutcome};
 
 use crate::fault::ValidFault;
 use crate::kernels::first_kernels;
 use crate::rows::first_rows;
 use mh_grammar::{Edge, Grammar, Memory, Sequence};
-use mh_items::Closer;
+use mh_items::ClosureBuilder;
 use mh_items_kernels::{Automaton, Kernel};
 use mh_resolve::{Resolution, resolve_one, resolve_states};
 use mh_resolve_cells::{Conflict, Mode};
@@ -25,7 +26,7 @@ use mh_tables_core::{StateParts, Table, table_of};
 use mh_validate_valid::{Reason, cells_at, count_right, has_header, wrong_lines};
 use std::alloc::Global;
 
-/// What a valid table file gives: the automaton that it names, the table of that in its mode, and its conflicts.
+/// The content of a valid table file: the automaton that the file names, its table and conflicts, and the mode.
 #[derive(Drop)]
 pub struct Valid<const W: usize> {
     pub automaton: Automaton<W>,
@@ -34,32 +35,30 @@ pub struct Valid<const W: usize> {
     pub mode: Mode,
 }
 
-/// What a file states up to its edges: its kernels, and the edges of the first states.
+/// A file, its kernels, and the edges of its first states.
 #[derive(Clone, Copy)]
-struct Stated<'a, const W: usize> {
+struct FileRows<'a, const W: usize> {
     raw: &'a RawTable,
     kernels: &'a [Kernel<W>],
     rows: &'a [Sequence<Edge>],
 }
 
-/// The parts of the first states, up to the last of which the edges are known.
+/// Appends the actions of the first states, as far as their edges are known.
 fn fill_parts<const W: usize>(
     alloc: Global,
     grammar: &Grammar,
-    closer: &mut Closer<W>,
-    stated: &Stated<'_, W>,
+    closer: &mut ClosureBuilder<W>,
+    stated: &FileRows<'_, W>,
     states: &mut Vec<StateParts>,
 ) -> Result<(), Memory>
-    requires few { W ≤ 8 }
-    requires width { length grammar.now.tokens ≤ 64 * W }
-    requires range { IsInRange (plain_of grammar.now) }
-    requires closer { IsCloser (plain_of grammar.now) closer.old }
+    requires fits { FitsSets W grammar.now }
+    requires closer { IsClosureBuilder (plain_of grammar.now) closer.old }
     requires kernels { AreKernels grammar.now stated.now.raw.now stated.now.kernels.now }
     requires rows { AreFirstRows grammar.now stated.now.raw.now stated.now.kernels.now stated.now.rows.now }
     requires fresh { states.old.items ≡ [] }
     ensures { OnOk result (AreResolvedRows grammar.now stated.now.raw.now stated.now.kernels.now stated.now.rows.now states.new.items) }
 {
-    let Stated { raw, kernels, rows } = *stated;
+    let FileRows { raw, kernels, rows } = *stated;
     for state in 0..rows.len() {
         let edges = rows[state].as_slice();
         let parts = resolve_one(alloc, grammar, closer, &kernels[state], edges, raw.mode)?;
@@ -68,37 +67,34 @@ fn fill_parts<const W: usize>(
     Ok(())
 }
 
-/// The same, by a closer that is let go at one end alone.
+/// Appends the actions of all states, with a closure builder of its own. The builder is dropped in one place, on
+/// success and on failure.
 fn close_rows<const W: usize>(
     alloc: Global,
     grammar: &Grammar,
-    stated: &Stated<'_, W>,
+    stated: &FileRows<'_, W>,
     states: &mut Vec<StateParts>,
 ) -> Result<(), Memory>
-    requires few { W ≤ 8 }
-    requires width { length grammar.now.tokens ≤ 64 * W }
-    requires range { IsInRange (plain_of grammar.now) }
+    requires fits { FitsSets W grammar.now }
     requires kernels { AreKernels grammar.now stated.now.raw.now stated.now.kernels.now }
     requires rows { AreFirstRows grammar.now stated.now.raw.now stated.now.kernels.now stated.now.rows.now }
     requires fresh { states.old.items ≡ [] }
     ensures { OnOk result (AreResolvedRows grammar.now stated.now.raw.now stated.now.kernels.now stated.now.rows.now states.new.items) }
 {
-    let mut closer = Closer::new(alloc, grammar)?;
+    let mut closer = ClosureBuilder::new(alloc, grammar)?;
     let filled = fill_parts(alloc, grammar, &mut closer, stated, states);
-    // Let go of in one call, since it has many fields.
+    // The closure builder has many fields, so one call drops it.
     drop(closer);
     filled
 }
 
-/// The parts of the first states, up to the last of which the edges are known.
+/// The actions of the first states, as far as their edges are known.
 fn resolve_rows<const W: usize>(
     alloc: Global,
     grammar: &Grammar,
-    stated: &Stated<'_, W>,
+    stated: &FileRows<'_, W>,
 ) -> Result<Vec<StateParts>, Memory>
-    requires few { W ≤ 8 }
-    requires width { length grammar.now.tokens ≤ 64 * W }
-    requires range { IsInRange (plain_of grammar.now) }
+    requires fits { FitsSets W grammar.now }
     requires kernels { AreKernels grammar.now stated.now.raw.now stated.now.kernels.now }
     requires rows { AreFirstRows grammar.now stated.now.raw.now stated.now.kernels.now stated.now.rows.now }
     ensures { IfOk result (λ v. AreResolvedRows grammar.now stated.now.raw.now stated.now.kernels.now stated.now.rows.now v.items) }
@@ -108,15 +104,14 @@ fn resolve_rows<const W: usize>(
     Ok(states)
 }
 
-/// The first state whose cells are wrong, or else the state after these, whose edges are wrong.
+/// The fault of a file whose kernels are right: at the first state whose cells are wrong, else at the first state whose
+/// edges are wrong.
 fn fault_within<const W: usize>(
     alloc: Global,
     grammar: &Grammar,
-    stated: &Stated<'_, W>,
+    stated: &FileRows<'_, W>,
 ) -> ValidFault
-    requires few { W ≤ 8 }
-    requires width { length grammar.now.tokens ≤ 64 * W }
-    requires range { IsInRange (plain_of grammar.now) }
+    requires fits { FitsSets W grammar.now }
     requires header { HasHeader grammar.now stated.now.raw.now }
     requires states { HasStates grammar.now stated.now.raw.now }
     requires small { length stated.now.raw.now.states < 2 ^ 32 }
@@ -138,7 +133,7 @@ fn fault_within<const W: usize>(
     }
 }
 
-/// The fault of a state whose cells are wrong.
+/// The fault of a state whose cells or default action are wrong.
 fn wrong_at(grammar: &Grammar, raw: &RawTable, state: usize, parts: &StateParts) -> ValidFault
     requires state { state < length raw.now.states }
     requires small { length raw.now.states < 2 ^ 32 }
@@ -150,16 +145,15 @@ fn wrong_at(grammar: &Grammar, raw: &RawTable, state: usize, parts: &StateParts)
     }
 }
 
-/// An automaton whose kernels and edges are right, with its table, where the cells are right too.
+/// Returns an automaton whose kernels and edges are right, with its table, if all cells and default actions are right
+/// too.
 fn with_table<const W: usize>(
     alloc: Global,
     grammar: &Grammar,
     raw: &RawTable,
     automaton: Automaton<W>,
 ) -> Result<Valid<W>, ValidFault>
-    requires few { W ≤ 8 }
-    requires width { length grammar.now.tokens ≤ 64 * W }
-    requires range { IsInRange (plain_of grammar.now) }
+    requires fits { FitsSets W grammar.now }
     requires costs { HaveCosts grammar.now.tokens }
     requires header { HasHeader grammar.now raw.now }
     requires states { HasStates grammar.now raw.now }
@@ -187,16 +181,14 @@ fn with_table<const W: usize>(
     })
 }
 
-/// The same of a file whose header, count of states and kernels are right.
+/// Validates a file whose header, number of states and kernels are right.
 fn with_kernels<const W: usize>(
     alloc: Global,
     grammar: &Grammar,
     raw: &RawTable,
     kernels: Vec<Kernel<W>>,
 ) -> Result<Valid<W>, ValidFault>
-    requires few { W ≤ 8 }
-    requires width { length grammar.now.tokens ≤ 64 * W }
-    requires range { IsInRange (plain_of grammar.now) }
+    requires fits { FitsSets W grammar.now }
     requires costs { HaveCosts grammar.now.tokens }
     requires header { HasHeader grammar.now raw.now }
     requires states { HasStates grammar.now raw.now }
@@ -208,7 +200,7 @@ fn with_kernels<const W: usize>(
         return Err(ValidFault::Memory);
     };
     if rows.len() < raw.states.len() {
-        let stated = Stated {
+        let stated = FileRows {
             raw,
             kernels: kernels.as_slice(),
             rows: rows.as_slice(),
@@ -226,17 +218,15 @@ fn with_kernels<const W: usize>(
     )
 }
 
-/// What `validate` answers of a file, under one clause.
-fn judged<const W: usize>(
+/// The result of `validate`, stated by one clause.
+fn validation_of<const W: usize>(
     alloc: Global,
     grammar: &Grammar,
     raw: &RawTable,
 ) -> Result<Valid<W>, ValidFault>
-    requires few { W ≤ 8 }
-    requires width { length grammar.now.tokens ≤ 64 * W }
-    requires range { IsInRange (plain_of grammar.now) }
+    requires fits { FitsSets W grammar.now }
     requires costs { HaveCosts grammar.now.tokens }
-    requires apart { AreNamesApart grammar.now }
+    requires apart { AreTokenNamesDistinct grammar.now }
     requires small { length raw.now.states < 2 ^ 32 }
     ensures { IsOutcome grammar.now raw.now result }
 {
@@ -265,18 +255,16 @@ fn judged<const W: usize>(
     with_kernels(alloc, grammar, raw, kernels)
 }
 
-/// The automaton of a table file, with its table and its conflicts, where the file is valid for the grammar; else the
-/// first test that it fails. `Memory` may come at any file.
+/// Validates a table file for a grammar. Returns the automaton of the file, its table and its conflicts if the file is
+/// valid; else fails with the first failing test, or if memory runs out.
 pub fn validate<const W: usize>(
     alloc: Global,
     grammar: &Grammar,
     raw: &RawTable,
 ) -> Result<Valid<W>, ValidFault>
-    requires few { W ≤ 8 }
-    requires width { length grammar.now.tokens ≤ 64 * W }
-    requires range { IsInRange (plain_of grammar.now) }
+    requires fits { FitsSets W grammar.now }
     requires costs { HaveCosts grammar.now.tokens }
-    requires apart { AreNamesApart grammar.now }
+    requires apart { AreTokenNamesDistinct grammar.now }
     requires small { length raw.now.states < 2 ^ 32 }
     ensures valid { IfOk result (λ v. IsValidFor grammar.now raw.now v.automaton v.table.states) }
     ensures automaton { IfOk result (λ v. IsAutomaton (plain_of grammar.now) v.automaton) }
@@ -285,5 +273,5 @@ pub fn validate<const W: usize>(
     ensures mode { IfOk result (λ v. v.mode ≡ raw.now.mode) }
     ensures invalid { (state : Option ℕ) (reason : ReasonOf) → result ≡ Err (ValidFault.Invalid state reason) → IsInvalidAt grammar.now raw.now state reason }
 {
-    judged(alloc, grammar, raw)
+    validation_of(alloc, grammar, raw)
 }

@@ -1,11 +1,11 @@
-pub mod Giving
-pub mod Again
-pub mod OneKernel
-pub mod Edged
-pub mod Apart
-pub mod Once
-pub mod Pushed
-pub mod Rowing
-pub mod Lines
-pub mod Zipping
-mod Mapped
+pub mod ValidIsAutomaton
+pub mod WrittenIsValid
+pub mod KernelUnique
+pub mod EdgeLists
+pub mod ValidFailsNone
+pub mod ValidityUnique
+pub mod AppendedAt
+pub mod RowEnd
+pub mod CellLines
+pub mod FirstDifference
+mod ComparedMap

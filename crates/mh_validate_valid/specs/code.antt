@@ -1,4 +1,4 @@
-pub mod Finding
+pub mod SearchResult
 pub mod FirstCells
-pub mod Items
-pub mod Within
+pub mod MovedItems
+pub mod KernelWithin

@@ -1,10 +1,10 @@
-//! The cells or the default of states, and the test that fails where these are not what is due.
+//! Compares the cells or the default actions of states with the right ones, and names the test that fails.
 ghost use Rattle.std.specs.Prelude.{◌≡◌, ◌<◌, ◌≤◌, ◌↔◌, ◌∷◌, [], ℕ, IsTrue, length, slice_index_or};
 ghost use Rattle.mh_grammar.specs.declared.types.TheConstants.{MAX_NUMBERED};
 ghost use Rattle.mh_tables_core.specs.Table.{no_state};
 ghost use Rattle.mh_tabfile_form.specs.declared.types.RawCells.TheVariants as lines;
-ghost use Rattle.mh_tabfile_form.specs.Written.{raw_cell, raw_row, raw_cells};
-ghost use Rattle.mh_validate_valid.specs.Valid.{has_lines, reason_of, raw_state};
+ghost use Rattle.mh_tabfile_form.specs.TableContent.{raw_cell, raw_row, raw_cells};
+ghost use Rattle.mh_validate_valid.specs.Valid.{has_cell_lines, reason_of, raw_state};
 ghost use Rattle.mh_validate_valid.specs.code.FirstCells.{AreFirstCells};
 
 use crate::reason::Reason;
@@ -12,7 +12,7 @@ use mh_grammar::{Grammar, Token, token_name};
 use mh_tabfile_form::{RawCell, RawCells, RawTable};
 use mh_tables_core::{Action, StateParts};
 
-/// Whether two actions are one.
+/// Returns true if the two actions are equal.
 fn is_same(left: Action, right: Action) -> bool
     ensures { IsTrue result ↔ (left ≡ right) }
 {
@@ -26,7 +26,7 @@ fn is_cell(grammar: &Grammar, raw: &RawCell, token: Token, action: Action) -> bo
     raw.token.as_slice() == token_name(grammar, token) && is_same(raw.action, action)
 }
 
-/// Whether the lines are those of a row of cells.
+/// Returns true if the cell lines are exactly those of a row of cells.
 fn are_cells(grammar: &Grammar, raws: &[RawCell], cells: &[Action]) -> bool
     requires { length cells.now ≤ MAX_NUMBERED }
     ensures { IsTrue result ↔ (raws.now ≡ raw_row grammar.now 0 cells.now) }
@@ -47,7 +47,7 @@ fn are_cells(grammar: &Grammar, raws: &[RawCell], cells: &[Action]) -> bool
     next == raws.len()
 }
 
-/// Whether the lines of a state are those of its parts of the table.
+/// Returns true if the cells or the default action of a state are those of its parts of the table.
 fn has_parts(grammar: &Grammar, raw: &RawCells, parts: &StateParts) -> bool
     requires { length parts.now.cells ≤ MAX_NUMBERED }
     ensures { IsTrue result ↔ (raw.now ≡ raw_cells grammar.now parts.now) }
@@ -62,11 +62,11 @@ fn has_parts(grammar: &Grammar, raw: &RawCells, parts: &StateParts) -> bool
     }
 }
 
-/// Whether some cell acts.
+/// Returns true if some cell shifts or reduces.
 fn acts(grammar: &Grammar, cells: &[Action]) -> bool
-    ensures { result ≡ has_lines (lines.Cells (raw_row grammar.now 0 cells.now)) }
+    ensures { result ≡ has_cell_lines (lines.Cells (raw_row grammar.now 0 cells.now)) }
 {
-    // The clauses alone speak of it.
+    // Only the contract speaks of the grammar.
     let _grammar = grammar;
     for cell in cells {
         if !is_same(*cell, Action::Refuse) {
@@ -77,7 +77,7 @@ fn acts(grammar: &Grammar, cells: &[Action]) -> bool
 }
 
 fn are_due(grammar: &Grammar, parts: &StateParts) -> bool
-    ensures { result ≡ has_lines (raw_cells grammar.now parts.now) }
+    ensures { result ≡ has_cell_lines (raw_cells grammar.now parts.now) }
 {
     match parts.fallback {
         None => acts(grammar, parts.cells.as_slice()),
@@ -86,7 +86,7 @@ fn are_due(grammar: &Grammar, parts: &StateParts) -> bool
 }
 
 fn are_there(raw: &RawCells) -> bool
-    ensures { result ≡ has_lines raw.now }
+    ensures { result ≡ has_cell_lines raw.now }
 {
     match raw {
         RawCells::Cells(raws) => !raws.is_empty(),
@@ -94,7 +94,7 @@ fn are_there(raw: &RawCells) -> bool
     }
 }
 
-/// The test that fails where the lines of a state are not those of its parts.
+/// The test to report if the lines of a state are not those of its parts of the table.
 pub fn wrong_lines(grammar: &Grammar, raw: &RawCells, parts: &StateParts) -> Reason
     ensures { result ≡ reason_of (raw_cells grammar.now parts.now) raw.now }
 {
@@ -108,7 +108,7 @@ pub fn wrong_lines(grammar: &Grammar, raw: &RawCells, parts: &StateParts) -> Rea
     }
 }
 
-/// The lines of a state's cells or of its default.
+/// The cells or the default action of a state of the file.
 pub fn cells_at(raw: &RawTable, state: usize) -> &RawCells
     requires { state < length raw.now.states }
     ensures { result.now ≡ (raw_state raw.now state).cells }
@@ -116,7 +116,7 @@ pub fn cells_at(raw: &RawTable, state: usize) -> &RawCells
     &raw.states[state].cells
 }
 
-/// How many of the first states have the lines of these parts.
+/// The number of states before the first one whose cells or default action are not those of these parts.
 pub fn count_right(grammar: &Grammar, raw: &RawTable, parts: &[StateParts]) -> usize
     requires states { length parts.now ≤ length raw.now.states }
     requires narrow { (s : ℕ) → s < length parts.now → length (slice_index_or parts.now s no_state).cells ≤ MAX_NUMBERED }

@@ -1,8 +1,8 @@
-//! The first test: whether the header is the grammar's.
+//! The first test: the header is that of the grammar.
 ghost use Rattle.std.specs.Prelude.{◌≡◌, ◌↔◌, map, IsTrue};
 ghost use Rattle.mh_grammar.specs.Costs.{costs_of};
 ghost use Rattle.mh_grammar.specs.Names.{nonterminal_name as name_of_nonterminal, symbol_name as name_of_symbol};
-ghost use Rattle.mh_tabfile_form.specs.Written.{raw_production};
+ghost use Rattle.mh_tabfile_form.specs.TableContent.{raw_production};
 ghost use Rattle.mh_validate_valid.specs.Valid.{AreCostsOf, HasHeader};
 
 use crate::names::is_named;
@@ -11,7 +11,7 @@ use mh_grammar::{
 };
 use mh_tabfile_form::{RawProduction, RawTable};
 
-/// Whether the names are those of the tokens, in order.
+/// Returns true if the names are those of the tokens, in order.
 fn are_tokens(names: &[Name], tokens: &[TokenInfo]) -> bool
     ensures { IsTrue result ↔ (names.now ≡ map (λ t. t.name) tokens.now) }
 {
@@ -98,7 +98,7 @@ fn are_productions(grammar: &Grammar, raws: &[RawProduction], productions: &[Pro
     true
 }
 
-/// Whether the tokens, the costs, the starts and the productions are the grammar's.
+/// Returns true if the tokens, the costs, the start symbols and the productions are those of the grammar.
 pub fn has_header(grammar: &Grammar, raw: &RawTable) -> bool
     ensures { IsTrue result ↔ HasHeader grammar.now raw.now }
 {

@@ -1,13 +1,13 @@
-//! Which items a state may have that is not of a start.
+//! The items that a state may have which is not a start state.
 ghost use Rattle.std.specs.Prelude.{◌≡◌, ◌≤◌, ◌↔◌, [], ◌∷◌, IsTrue};
 ghost use Rattle.mh_grammar.specs.declared.types.Look.TheVariants.{End};
-ghost use Rattle.mh_validate_valid.specs.code.Items.{IsMovedItem};
+ghost use Rattle.mh_validate_valid.specs.code.MovedItems.{IsNonStartItem};
 
 use mh_grammar::{Grammar, Look};
 use mh_items_kernels::KernelItem;
 use mh_sets::TokenSet;
 
-/// Whether the end of the stream is the only look.
+/// Returns true if the end of the stream is the only look.
 pub fn is_end<const W: usize>(looks: &TokenSet<W>) -> bool
     requires few { W ≤ 8 }
     ensures { IsTrue result ↔ (looks.now ≡ End ∷ []) }
@@ -15,10 +15,10 @@ pub fn is_end<const W: usize>(looks: &TokenSet<W>) -> bool
     *looks == TokenSet::only(Look::End)
 }
 
-/// Whether a state that is not of a start may have an item.
+/// Returns true if a state that is not a start state may have this item.
 pub fn is_moved<const W: usize>(grammar: &Grammar, item: &KernelItem<W>) -> bool
     requires few { W ≤ 8 }
-    ensures { IsTrue result ↔ IsMovedItem grammar.now item.now }
+    ensures { IsTrue result ↔ IsNonStartItem grammar.now item.now }
 {
     if item.dot == 0 {
         return false;

@@ -1,20 +1,20 @@
-//! Laws of validity: each is an empty call that says it to contracts.
+//! Laws of validity, as calls without effect whose contracts other crates can use.
 ghost use Rattle.std.specs.Prelude.{◌≡◌, ◌<◌, ◌^◌, ℕ, List, Option, length};
 ghost use Rattle.mh_grammar.specs.Plain.{plain_of};
-ghost use Rattle.mh_items_kernels.specs.Shapes.{Automaton as AutomatonOf};
+ghost use Rattle.mh_items_kernels.specs.KernelTypes.{Automaton as AutomatonOf};
 ghost use Rattle.mh_items_kernels.specs.Automaton.{IsAutomaton};
 ghost use Rattle.mh_tables_core.specs.declared.parts.StateParts.{StateParts};
 ghost use Rattle.mh_resolve_cells.specs.States.{AreResolved};
-ghost use Rattle.mh_tabfile_form.specs.Written.{raw_of};
+ghost use Rattle.mh_tabfile_form.specs.TableContent.{raw_of};
 ghost use Rattle.mh_validate_valid.specs.declared.reason.Reason.{Reason as ReasonOf};
-ghost use Rattle.mh_validate_valid.specs.Valid.{IsValid, IsValidFor, IsInvalidAt, AreNamesApart};
+ghost use Rattle.mh_validate_valid.specs.Valid.{IsValid, IsValidFor, IsInvalidAt, AreTokenNamesDistinct};
 
 use mh_grammar::Grammar;
 use mh_items_kernels::Automaton;
 use mh_resolve_cells::Mode;
 use mh_tabfile_form::RawTable;
 
-/// A valid file spells an automaton of the grammar, with what the resolution gives for its states.
+/// A valid file spells an automaton of the grammar, with the actions that conflict resolution gives for its states.
 pub fn valid_is_automaton(grammar: &Grammar, raw: &RawTable)
     requires { length raw.now.states < 2 ^ 32 }
     ensures automaton { (a : AutomatonOf) (parts : List StateParts) → IsValidFor grammar.now raw.now a parts → IsAutomaton (plain_of grammar.now) a }
@@ -24,7 +24,7 @@ pub fn valid_is_automaton(grammar: &Grammar, raw: &RawTable)
     let _raw = raw;
 }
 
-/// What is written of an automaton with its table is valid.
+/// The written table file of an automaton and its table is valid.
 pub fn written_is_valid<const W: usize>(grammar: &Grammar, automaton: &Automaton<W>, mode: Mode)
     requires { IsAutomaton (plain_of grammar.now) automaton.now }
     ensures { (parts : List StateParts) → AreResolved grammar.now automaton.now mode parts → IsValidFor grammar.now (raw_of grammar.now automaton.now mode parts) automaton.now parts }
@@ -36,16 +36,16 @@ pub fn written_is_valid<const W: usize>(grammar: &Grammar, automaton: &Automaton
 
 /// A file that passes all tests fails none.
 pub fn valid_or_invalid(grammar: &Grammar, raw: &RawTable)
-    requires { AreNamesApart grammar.now }
+    requires { AreTokenNamesDistinct grammar.now }
     ensures { IsValid grammar.now raw.now → (state : Option ℕ) (reason : ReasonOf) → IsInvalidAt grammar.now raw.now state reason → ⊥ }
 {
     let _grammar = grammar;
     let _raw = raw;
 }
 
-/// A valid file names one automaton, and one that is not valid has one first test that fails.
+/// A valid file names one automaton. The first failing test of any other file is unique.
 pub fn validity_is_one(grammar: &Grammar, raw: &RawTable)
-    requires { AreNamesApart grammar.now }
+    requires { AreTokenNamesDistinct grammar.now }
     ensures automaton { (a b : AutomatonOf) (ps qs : List StateParts) → IsValidFor grammar.now raw.now a ps → IsValidFor grammar.now raw.now b qs → a ≡ b }
     ensures test { (s t : Option ℕ) (r q : ReasonOf) → IsInvalidAt grammar.now raw.now s r → IsInvalidAt grammar.now raw.now t q → (s ≡ t) × (r ≡ q) }
 {

@@ -1,5 +1,5 @@
-//! When a table file is valid for a grammar, laws of that, and the tests that need no memory: the header, the items of
-//! a kernel, the state that an edge leads to, and the cells or the default of a state.
+//! The definition of table files that are valid for a grammar, its laws, and the tests that need no memory: of the
+//! header, of the items of a kernel, of the target of an edge, and of the cells or the default action of a state.
 #![tactic(auto)]
 
 mod cells;

@@ -1,18 +1,19 @@
-//! The tests of a table file.
+//! The tests of a table file, as reasons why a file is not valid.
 
 /// The test that a file fails.
 #[derive(Clone, Copy, Debug, PartialEq, Eq)]
 pub enum Reason {
-    /// The tokens, their costs, the starts and the productions are the grammar's.
+    /// The tokens, their costs, the start symbols or the productions are not those of the grammar.
     Header,
-    /// There is a state for each start.
+    /// There are fewer states than start symbols.
     States,
-    /// The items of a state are a kernel that it may have.
+    /// The items of a state are not a kernel that the state may have.
     Kernel,
-    /// The edges of a state are its moves, and lead to states that hold what is moved.
+    /// The edges of a state are not those on the symbols of its moves, or an edge leads to a state that does not hold
+    /// the moved items.
     Edge,
-    /// The cells of a state are what the resolution gives.
+    /// The cells of a state are not those that conflict resolution gives.
     Cell,
-    /// So is its default.
+    /// The default action of a state is not the one that conflict resolution gives.
     Fallback,
 }

@@ -1,11 +1,12 @@
-//! Whether an edge may lead to a state: cores and looks.
+//! Compares the cores and the looks of kernels, to decide whether an edge may lead to a state.
 ghost use Rattle.std.specs.Prelude.{◌≤◌, ◌↔◌, IsTrue};
 ghost use Rattle.std.specs.List.{AllZip};
-ghost use Rattle.mh_validate_valid.specs.code.Within.{IsItemWithin, IsKernelWithin};
+ghost use Rattle.mh_validate_valid.specs.code.KernelWithin.{IsItemWithin, IsKernelWithin};
 
 use mh_items_kernels::{Kernel, KernelItem};
 
-/// Whether an item has the place of another, and its looks are among that one's.
+/// Returns true if both items have the same production and dot, and the looks of the first are among those of the
+/// second.
 fn is_item_within<const W: usize>(inner: &KernelItem<W>, outer: &KernelItem<W>) -> bool
     requires few { W ≤ 8 }
     ensures { IsTrue result ↔ IsItemWithin inner.now outer.now }
@@ -34,7 +35,8 @@ fn are_items_within<const W: usize>(inner: &[KernelItem<W>], outer: &[KernelItem
     true
 }
 
-/// Whether the core of a kernel is another's, and its looks are among that one's.
+/// Returns true if both kernels have the same core, and the looks of each item of the first are among those of the
+/// second.
 pub fn is_kernel_within<const W: usize>(inner: &Kernel<W>, outer: &Kernel<W>) -> bool
     requires few { W ≤ 8 }
     ensures { IsTrue result ↔ IsKernelWithin inner.now outer.now }

@@ -1,8 +1,8 @@
-//! Texts of automata: merged, and canonical where the words say so.
+//! Texts of automata: merged ones, and canonical ones if the words ask for them.
 use crate::runs::check_cases;
 use std::test::Fail;
 
-// The input is not read.
+// The texts of merged automata. The input is not read.
 const MERGED: &str = "0 --show-automaton g.mly
 ~
 g.mly
@@ -208,8 +208,8 @@ state 11
 ~
 ";
 
-// A token that a level refuses; a production that is reduced on errors, and the same where none is; the end of the stream,
-// given up for a token.
+// A token that a level makes an error; a production that is reduced on errors, and the same grammar without this; an
+// action at the end of the stream that is dropped because of a token.
 const CELLS: &str = "0 --canonical --show-automaton --strict g.mly
 ~
 g.mly
@@ -358,8 +358,8 @@ state 4
 menhir: warning: end-of-stream conflict in state 2
 ";
 
-// Two uses of one rule before different tokens; sums by rules and by levels; branches by levels; a file as users write
-// it.
+// The numbers of states of canonical automata: two uses of one rule before different tokens; sums by rules and by
+// levels; branches by levels; a grammar file as users write it.
 const COUNTS: &str = r#"0 --canonical --show-automaton --strict g.mly
 ~
 g.mly
@@ -452,7 +452,7 @@ state 0
 ~
 "#;
 
-// The same grammars, merged.
+// The same grammars with merged automata.
 const MERGED_COUNTS: &str = r#"0 --show-automaton --strict g.mly
 ~
 g.mly

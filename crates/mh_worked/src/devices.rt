@@ -1,5 +1,5 @@
-//! Files, inputs and outputs that fail.
-use crate::observed::{Counted, Output, Takes};
+//! Runs in which files, inputs or outputs fail.
+use crate::observed::{AcceptedSize, CountedInput, Output};
 use crate::runs::{beside, check_cases_with, copied, given_files, shelf_of, words_of};
 use mh_outside::MemShelf;
 use mh_top::menhir;
@@ -7,7 +7,7 @@ use std::alloc::Global;
 use std::process::Abort;
 use std::test::Fail;
 
-/// The file that each case has.
+/// The grammar file of every case.
 const FILE: &str = "g.mly
 %token A EOF
 %start s
@@ -65,7 +65,7 @@ merged: 4 states
 ~
 ";
 
-// What stands on out is a front of the text, and nothing is said.
+// If a write to `out` fails, `out` holds a prefix of the whole text, and nothing is written to `err`.
 const WRITES: &str = "4 --interpret g.mly
 out 1
 ~
@@ -100,7 +100,7 @@ out 1
 ~
 ";
 
-// Where the line that says why the work ends cannot be written, the status is that of a write fault.
+// If the line that reports the failure cannot be written, the status is that of a write fault.
 const LAST_LINES: &str = "4 --interpret --what g.mly
 err 1
 ~
@@ -152,7 +152,7 @@ ACCEPT
 ~
 ";
 
-// Each read fails in turn: out holds the answers to the lines that came whole.
+// Each read of the input fails in turn. The answers to all lines that were read whole are on `out`.
 const READS_IN_TURN: &str = "3 --interpret g.mly
 input 1
 ~
@@ -249,16 +249,16 @@ OVERSHOOT
 ~
 ";
 
-/// The status, and how many reads there were of an input of three lines, where a write fails.
+/// The status, and the number of reads of an input of three lines, when a write fails.
 fn status_and_reads(
     alloc: Global,
     words: &[String],
     mut shelf: MemShelf,
-    mut input: Counted,
+    mut input: CountedInput,
     fails: Vec<u64>,
 ) -> (u8, u64) {
-    let mut out = Output::new(alloc, Takes::Pieces, fails);
-    let mut err = Output::new(alloc, Takes::Pieces, Vec::new(alloc));
+    let mut out = Output::new(alloc, AcceptedSize::Pieces, fails);
+    let mut err = Output::new(alloc, AcceptedSize::Pieces, Vec::new(alloc));
     let status = menhir(alloc, words, &mut shelf, &mut input, &mut out, &mut err);
     let reads = input.reads;
     drop(shelf);
@@ -276,7 +276,7 @@ fn answers_by(
 ) -> Result<(u8, u64), Fail> {
     let shelf = shelf_of(rt, given_files(alloc, None, &[FILE])?, Vec::new(alloc));
     let (shelf, lines) = beside(shelf, copied(alloc, b"A EOF\nA EOF\nA EOF\n"))?;
-    let input = Counted::new(lines, Vec::new(alloc));
+    let input = CountedInput::new(lines, Vec::new(alloc));
     let ((shelf, input), fails) = beside((shelf, input), calls_of(alloc, fail))?;
     Ok(status_and_reads(alloc, words, shelf, input, fails))
 }
@@ -292,8 +292,8 @@ fn check_answers(rt: &impl Abort, alloc: Global, words: &[String]) -> Result<(),
     Ok(())
 }
 
-// The answer to a line is written before the next is asked for, byte by byte: where the second cannot be written, the third line
-// was not asked for.
+// The answer to a line is written before the next line is read, byte by byte. If the second answer cannot be written,
+// the third line is not read.
 #[test]
 fn no_line_is_taken_after_a_fault(rt: HostRuntime) -> Result<(), Fail> {
     let words = words_of(rt.alloc(), "--interpret g.mly")?;

@@ -1,12 +1,13 @@
-//! Lists of errors, by merged automata, and by canonical ones where the words say so. Their sentences are of least length.
+//! Lists of errors, by merged automata, and by canonical ones if the words ask for them. Their sentences have least
+//! cost.
 use crate::runs::{Outcome, check_cases, check_cases_with, run_on};
 use std::alloc::Global;
 use std::fmt::Write;
 use std::process::Abort;
 use std::test::Fail;
 
-// A list whose sentences have no others of their length beside them; the first entry alone, where the second write fails; nothing
-// but the refusal, and nothing but the warnings.
+// A list in which each sentence is the only one of its length; the first entry alone, because the second write fails;
+// only the refusal; and only the warnings.
 const TEXTS: &str = "0 --list-errors g.mly
 ~
 g.mly
@@ -121,7 +122,7 @@ menhir: usage: misplaced --interpret-show-cst
 menhir: usage: no grammar
 ";
 
-// One nonterminal stands for 1,048,576 tokens.
+// One nonterminal derives only a sequence of 1,048,576 tokens.
 const LONG: &str =
     "g.mly\n%token A B %start main %% main: x20 B {} x20: x19 x19 {} x19: x18 x18 {} x18: x17 x17 {} x17: x16 x16 {} x16: x15 x15 {} x15: x14 x14 {} x14: x13 x13 {} x13: x12 x12 {} x12: x11 x11 {} x11: x10 x10 {} x10: x9 x9 {} x9: x8 x8 {} x8: x7 x7 {} x7: x6 x6 {} x6: x5 x5 {} x5: x4 x4 {} x4: x3 x3 {} x3: x2 x2 {} x2: x1 x1 {} x1: x0 x0 {} x0: A {}";
 
@@ -138,7 +139,7 @@ menhir: too long: state 3
 menhir: too long: state 82
 ";
 
-// Neither EQ may follow the other: where one is refused behind a sum, an INT was reduced before.
+// No EQ may follow the right operand of another. When EQ is refused after a comparison, an INT was reduced before.
 const COMPARISONS: &str =
     "%token INT EQ EOF %nonassoc EQ %start main %% main: e EOF {} e: INT {} | e EQ e {}";
 
@@ -158,7 +159,7 @@ const REFUSED_EQ: &str = "main: INT EQ INT EQ
 
 ";
 
-// Each grammar, and behind `=` each state of its canonical automaton that is listed with the length of its sentence.
+// Each grammar, `=`, and each listed state of its canonical automaton with the length of its sentence.
 const ROWS: &str = "%token A B EOF %start s %% s: A EOF {} = 0 1, 1 2,
 %token A B C D %start p q %% p: x A {} q: x B {} x: C D {} = 0 1, 1 1, 2 2, 5 2, 8 3, 10 3,
 %token A B C D %start p q %% p: x A {} q: B x A {} x: C D {} = 0 1, 1 1, 2 2, 5 2, 7 3,
@@ -170,7 +171,7 @@ const ROWS: &str = "%token A B EOF %start s %% s: A EOF {} = 0 1, 1 2,
 %token A [@cost 10] B C D %start s %% s: A z {} | B B z {} z: C D {} = 0 1, 1 2, 2 2, 4 4, 6 3,
 %token A %start s %% s: {} =";
 
-// The same by merged automata.
+// The same for merged automata.
 const MERGED_ROWS: &str = "%token A B EOF %start s %% s: A EOF {} = 0 1, 1 2,
 %token A B C D %start p q %% p: x A {} q: x B {} x: C D {} = 0 1, 1 1, 2 2, 4 3, 6 3,
 %token A B C D %start p q %% p: x A {} q: B x A {} x: C D {} = 0 1, 1 1, 2 2, 4 3, 5 2, 9 4,
@@ -181,14 +182,15 @@ const MERGED_ROWS: &str = "%token A B EOF %start s %% s: A EOF {} = 0 1, 1 2,
 %token INT PLUS TIMES LPAREN RPAREN EOF %left PLUS %left TIMES %start main %% main: expr EOF {} expr: INT {} | LPAREN expr RPAREN {} | expr PLUS expr {} | expr TIMES expr {} = 0 1, 2 2, 4 2, 5 3, 6 3, 7 3, 10 4,
 %token A %start s %% s: {} =";
 
-// Each grammar, and behind `=` each state of its merged automaton that is listed with its sentence: the first of the cheapest.
+// Each grammar, `=`, and each sentence that its merged automaton lists, with its state. The sentence is the first of
+// the cheapest ones.
 const SENTENCES: &str =
     "%token A [@cost 5] B C EOF %start s %% s: x EOF {} x: A {} | B {} = s: C 0, s: B B 4,
 %token A B C EOF %start s %% s: x EOF {} x: A {} | B {} = s: C 0, s: A A 4,
 %token A [@cost 0] B C EOF %start s %% s: x EOF {} x: A {} | B {} = s: C 0, s: A A 4,
 %token A B C D %start p q %% p: x A {} q: x B {} x: C D {} = p: A 0, q: A 1, p: C A 2, p: C D B 4, q: C D A 6,";
 
-/// How many words a text has.
+/// The number of words of a text.
 fn count_words(text: &str) -> usize {
     let mut count = 0usize;
     for _word in text.split_ascii_whitespace() {
@@ -197,13 +199,13 @@ fn count_words(text: &str) -> usize {
     count
 }
 
-/// The state that a comment line tells.
+/// The state that a comment line names.
 fn state_of(line: &str) -> Option<&str> {
     line.strip_prefix("## Ends in an error in state: ")?
         .strip_suffix(".")
 }
 
-/// Adds what a list of errors says: each state, with the count of tokens of its sentence.
+/// Appends each state of a list of errors, with the number of tokens of its sentence.
 fn put_rows(rows: &mut String, list: &str) {
     let mut tokens = 0usize;
     for line in list.lines() {
@@ -220,7 +222,7 @@ fn put_rows(rows: &mut String, list: &str) {
     }
 }
 
-/// Adds what a list of errors says: each sentence with its state.
+/// Appends each sentence of a list of errors, with its state.
 fn put_sentences(rows: &mut String, list: &str) {
     for line in list.lines() {
         match state_of(line) {
@@ -242,7 +244,7 @@ fn texts(rt: HostRuntime) -> Result<(), Fail> {
     check_cases_with(&rt, rt.alloc(), LONG, TOO_LONG)
 }
 
-/// Compares what the list of errors of a grammar says.
+/// Fails if the rows of a list of errors are not the wanted ones.
 fn check_list(
     rt: &impl Abort,
     alloc: Global,
@@ -262,7 +264,7 @@ fn check_list(
     Ok(())
 }
 
-/// Compares what is said of a grammar, which stands before a `=`.
+/// Fails if the list of errors of the grammar before `=` has other rows than those after `=`.
 fn check_row(
     rt: &impl Abort,
     alloc: Global,

@@ -1,8 +1,9 @@
-//! What the sentence on the first line of the input is told.
+//! Explanations of the sentence on the first line of the input.
 use crate::runs::{ONE_SENTENCE_FILE, check_cases, check_cases_with};
 use std::test::Fail;
 
-// The first line alone counts, and the empty sentence where there is none; why a sentence has no entry.
+// Only the first line is read; without lines, the sentence is empty. If the sentence has no entry, the reason is
+// reported.
 const CASES: &str = "0 --interpret-error g.mly
 ~
 A A
@@ -78,7 +79,8 @@ menhir: cannot read the input
 menhir: usage: misplaced --interpret-show-cst
 ";
 
-// A production that was reduced since the last token that was taken; and a sentence that has to name its start.
+// A grammar in which a production was reduced after the last shift; and a grammar with two start symbols, of which the
+// sentence must name one.
 const GRAMMARS: &str = "0 --interpret-error g.mly
 ~
 g.mly

@@ -1,7 +1,7 @@
-//! Each call of each device fails in turn, in each mode. The input gives one byte at a time, and the outputs take one, so each
-//! place of a text is one call.
-use crate::observed::{Counted, Output, Takes};
-use crate::runs::{Fails, beside, copied, given_files, parts_of, shelf_of, words_of};
+//! Each call of each device fails in turn, in each mode. The input gives one byte with each call, and the outputs
+//! accept one, so each byte of a text is one call.
+use crate::observed::{AcceptedSize, CountedInput, Output};
+use crate::runs::{FailingCalls, beside, copied, given_files, parts_of, shelf_of, words_of};
 use mh_outside::MemShelf;
 use mh_top::menhir;
 use mh_worked_files::filled;
@@ -9,7 +9,7 @@ use std::alloc::Global;
 use std::process::Abort;
 use std::test::Fail;
 
-/// The words and the input of a run, and the texts on out and err where no call fails.
+/// The words and the input of a run, and the texts on `out` and `err` if no call fails.
 #[derive(Clone, Copy)]
 struct Case<'a> {
     words: &'a str,
@@ -18,10 +18,10 @@ struct Case<'a> {
     err: &'a str,
 }
 
-/// Which calls of a device fail, one a run, and what each of these runs comes to: its status, how much of the texts on out and
-/// err it leaves, how much of the input is read, and what is said behind that.
+/// The calls of a device that fail, one in each run, and the result of each of these runs: its status, how much of the
+/// texts on `out` and `err` it leaves, how much of the input it reads, and the line on `err` after that text.
 #[derive(Clone, Copy)]
-struct Row<'a> {
+struct FailureRow<'a> {
     status: &'a str,
     device: &'a str,
     calls: &'a str,
@@ -35,12 +35,12 @@ struct Row<'a> {
 #[derive(Drop)]
 struct Devices {
     shelf: MemShelf,
-    input: Counted,
+    input: CountedInput,
     out: Output,
     err: Output,
 }
 
-/// How many bytes the first lines of a text have; each line behind its last has one.
+/// The number of bytes of the first lines of a text. Each line past the last one counts as one byte.
 fn size_of(text: &str, lines: usize) -> usize {
     let mut size = 0usize;
     let mut left = lines;
@@ -51,7 +51,7 @@ fn size_of(text: &str, lines: usize) -> usize {
     size.saturating_add(left)
 }
 
-/// The first and the last of the calls by which a device gives or takes a line of its text, or `all` of it.
+/// The first and the last call by which a device passes a line of its text; if `calls` is `all`, of the whole text.
 fn calls_of(text: &str, calls: &str) -> Result<(usize, usize), Fail> {
     if calls == "all" {
         return Ok((1, text.len()));
@@ -61,8 +61,8 @@ fn calls_of(text: &str, calls: &str) -> Result<(usize, usize), Fail> {
     Ok((before.saturating_add(1), size_of(text, line)))
 }
 
-/// How many bytes of a text a run leaves, or reads, whose call of this number fails: `all`, those `before` that call, those `to`
-/// it, or so many lines.
+/// The number of bytes of a text that a run leaves or reads when the call with this number fails: `all` bytes, the
+/// bytes `before` this call, the bytes up `to` it, or the bytes of this number of lines.
 fn count_of(text: &str, much: &str, call: usize) -> Result<usize, Fail> {
     Ok(match much {
         "all" => text.len(),
@@ -72,15 +72,15 @@ fn count_of(text: &str, much: &str, call: usize) -> Result<usize, Fail> {
     })
 }
 
-/// The front of a text that a run leaves.
+/// The prefix of a text that a run leaves.
 fn front_of<'a>(text: &'a str, much: &str, call: usize) -> Result<&'a str, Fail> {
     let count = count_of(text, much, call)?;
     Ok(text.get(..count).ok_or("a text is too short")?)
 }
 
-fn row_of<'a>(words: &[&'a str], said: &'a str) -> Result<Row<'a>, Fail> {
+fn row_of<'a>(words: &[&'a str], said: &'a str) -> Result<FailureRow<'a>, Fail> {
     match words {
-        [status, device, calls, out, err, reads] => Ok(Row {
+        [status, device, calls, out, err, reads] => Ok(FailureRow {
             status: *status,
             device: *device,
             calls: *calls,
@@ -100,7 +100,7 @@ fn add_marks<'a>(words: &mut Vec<&'a str>, marks: &'a str) -> Result<(), Fail> {
     Ok(())
 }
 
-fn read_row(alloc: Global, line: &str) -> Result<Row<'_>, Fail> {
+fn read_row(alloc: Global, line: &str) -> Result<FailureRow<'_>, Fail> {
     let (marks, said) = line.split_once("; ").unwrap_or((line, ""));
     let mut words = Vec::new(alloc);
     let row = match add_marks(&mut words, marks) {
@@ -111,8 +111,8 @@ fn read_row(alloc: Global, line: &str) -> Result<Row<'_>, Fail> {
     row
 }
 
-fn fails_of(alloc: Global, device: &str, call: usize) -> Result<Fails, Fail> {
-    let mut fails = Fails::none(alloc);
+fn fails_of(alloc: Global, device: &str, call: usize) -> Result<FailingCalls, Fail> {
+    let mut fails = FailingCalls::none(alloc);
     let pushed = fails.push(device, call as u64);
     filled(fails, pushed)
 }
@@ -130,13 +130,13 @@ fn devices_of(
     let ((fails, files), input) = beside(given, copied(alloc, case.input.as_bytes()))?;
     Ok(Devices {
         shelf: shelf_of(rt, files, fails.shelf),
-        input: Counted::new(input, fails.input),
-        out: Output::new(alloc, Takes::Bytes, fails.out),
-        err: Output::new(alloc, Takes::Bytes, fails.err),
+        input: CountedInput::new(input, fails.input),
+        out: Output::new(alloc, AcceptedSize::Bytes, fails.out),
+        err: Output::new(alloc, AcceptedSize::Bytes, fails.err),
     })
 }
 
-/// The status of the work over these devices.
+/// The status of a run over these devices.
 fn status_of(alloc: Global, words: &[String], devices: &mut Devices) -> u8 {
     menhir(
         alloc,
@@ -148,7 +148,7 @@ fn status_of(alloc: Global, words: &[String], devices: &mut Devices) -> u8 {
     )
 }
 
-/// Compares what the devices have with what is wanted.
+/// Fails if the contents of the devices are not the wanted ones.
 fn check_devices(
     rt: &impl Abort,
     devices: &Devices,
@@ -162,12 +162,12 @@ fn check_devices(
     assert_eq!(rt; devices.input.reads, reads as u64);
 }
 
-/// Runs a case where one call of one device fails.
+/// Runs a case in which one call of one device fails.
 fn check_call(
     rt: &impl Abort,
     alloc: Global,
     case: Case,
-    row: Row,
+    row: FailureRow,
     call: usize,
 ) -> Result<(), Fail> {
     let out = front_of(case.out, row.out, call)?.as_bytes();
@@ -189,7 +189,7 @@ fn check_call(
     Ok(())
 }
 
-/// Runs a case once for each of a row's calls.
+/// Runs a case once for each call of a row.
 fn check_row(rt: &impl Abort, alloc: Global, case: Case, line: &str) -> Result<(), Fail> {
     let row = read_row(alloc, line)?;
     let text = match row.device {
@@ -226,7 +226,7 @@ fn check_parts(rt: &impl Abort, alloc: Global, parts: &[&str], rows: &str) -> Re
     check_rows(rt, alloc, case, rows)
 }
 
-/// Runs a case by its own rows and these.
+/// Runs a case with its own rows and with the given ones.
 fn check_case(rt: &impl Abort, alloc: Global, case: &str, rows: &str) -> Result<(), Fail> {
     let parts = parts_of(alloc, case)?;
     let result = check_parts(rt, alloc, parts.as_slice(), rows);
@@ -234,9 +234,10 @@ fn check_case(rt: &impl Abort, alloc: Global, case: &str, rows: &str) -> Result<
     result
 }
 
-/// Runs each case of a text by its own rows and these. Lines `^` stand between cases, and lines `~` between their parts: the words;
-/// the input; what is written on out, and on err, where no call fails; and its own rows. A row is a status, a device, its calls, how
-/// much then stands on out and on err, how much of the input is read, and what is said behind that, each as `Row` has it.
+/// Runs each case of a text with its own rows and with the given ones. Lines `^` are between cases, and lines `~`
+/// between the parts of a case: the words; the input; the texts on `out` and on `err` if no call fails; and the rows of
+/// the case. A row is a status, a device, its calls, how much of the texts on `out` and on `err` remains, how much of
+/// the input is read, and the last line on `err`, as the fields of `FailureRow` say.
 fn check_in_turn(rt: &impl Abort, alloc: Global, cases: &str, rows: &str) -> Result<(), Fail> {
     for case in cases.split("^\n") {
         check_case(rt, alloc, case, rows)?;
@@ -244,7 +245,8 @@ fn check_in_turn(rt: &impl Abort, alloc: Global, cases: &str, rows: &str) -> Res
     Ok(())
 }
 
-/// The files: a grammar with a conflict, of which is warned; messages for its states 0 and 1, and its table; and files that are refused.
+/// The files: a grammar with a conflict, which gives a warning; messages for states 0 and 1 of its automaton, and its
+/// table file; and files that are refused.
 const FILES: [&str; 7] = [
     "g.mly
 %token A EOF
@@ -312,7 +314,7 @@ menhir-tables 9 merged
 ",
 ];
 
-// Two lines, each with one line of answer. Line 3 of the input is its end.
+// Two lines, each answered by one line. Line 3 of the input is its end.
 const LINES: &str = "3 shelf 1 0 0 0; menhir: cannot read g.mly
 0 shelf 2 all all 3
 3 input 1 0 all to; menhir: cannot read the input
@@ -354,7 +356,7 @@ fn one_line_for_each(rt: HostRuntime) -> Result<(), Fail> {
     check_in_turn(&rt, rt.alloc(), ANSWERED, LINES)
 }
 
-// Two lines, each with two lines of answer.
+// Two lines, each answered by two lines.
 const PAIRS: &str = "3 shelf 1 0 0 0; menhir: cannot read g.mly
 3 input 1 0 all to; menhir: cannot read the input
 3 input 2 2 all to; menhir: cannot read the input
@@ -404,7 +406,7 @@ fn two_lines_for_each(rt: HostRuntime) -> Result<(), Fail> {
     check_in_turn(&rt, rt.alloc(), EXPLAINED, PAIRS)
 }
 
-// The first line alone is asked for.
+// Only the first line is read.
 const FIRST: &str = "3 shelf 1 0 0 0; menhir: cannot read g.mly
 0 shelf 2 all all 1
 3 input 1 0 all to; menhir: cannot read the input
@@ -442,7 +444,7 @@ fn the_first_line_alone(rt: HostRuntime) -> Result<(), Fail> {
     check_in_turn(&rt, rt.alloc(), ENTRY, FIRST)
 }
 
-// No line is asked for.
+// No line is read.
 const NO_LINE: &str = "3 shelf 1 0 0 0; menhir: cannot read g.mly
 0 input 1 all all 0
 4 out all before all 0
@@ -651,7 +653,8 @@ fn no_line(rt: HostRuntime) -> Result<(), Fail> {
     check_in_turn(&rt, rt.alloc(), WRITTEN, NO_LINE)
 }
 
-// Nothing is written on out, and the last line says why; where it cannot be written as a whole, the status is that of a fault.
+// Nothing is written to `out`, and the last line on `err` reports the reason. If this line cannot be written whole, the
+// status is that of a write fault.
 const REFUSED: &str = "1 shelf 4 all all 0
 1 input 1 all all 0
 1 out 1 all all 0
@@ -711,7 +714,7 @@ fn refusals_of_modes(rt: HostRuntime) -> Result<(), Fail> {
     check_in_turn(&rt, rt.alloc(), REFUSALS, REFUSED)
 }
 
-// A table file that is refused comes before the warnings.
+// A refused table file is reported before the warnings.
 const NO_TABLE: &str = "3 shelf 1 0 0 0; menhir: cannot read g.mly
 3 shelf 2 0 0 0; menhir: cannot read other
 1 shelf 3 all all 0
@@ -735,7 +738,7 @@ fn a_table_that_is_refused(rt: HostRuntime) -> Result<(), Fail> {
     check_in_turn(&rt, rt.alloc(), OTHER_TABLE, NO_TABLE)
 }
 
-// The first line has no entry.
+// The sentence on the first line has no entry.
 const ONE_LINE: &str = "3 input 1 0 1 to; menhir: cannot read the input
 1 input 2 all all 1
 1 out 1 all all 1
@@ -760,7 +763,7 @@ fn a_line_without_an_entry(rt: HostRuntime) -> Result<(), Fail> {
     check_in_turn(&rt, rt.alloc(), NO_ENTRY, ONE_LINE)
 }
 
-// Neither a file nor a line is asked for, and nothing is warned of.
+// No file and no line is read, and there is no warning.
 const NOTHING_READ: &str = "0 shelf 1 all all 0
 0 input 1 all all 0
 4 out all before all 0

@@ -134,8 +134,8 @@ REJECT
 ~
 ";
 
-// Two starts: the line names its own. Of the faults of a line the first in this order is told: its form, its start, its
-// tokens.
+// With two start symbols, each line names one. The first fault of a line is reported, in this order: its form, its
+// start symbol, its tokens.
 const STARTS: &str = "0 --interpret g.mly
 ~
 g.mly
@@ -201,8 +201,8 @@ ACCEPT
 ~
 ";
 
-// What is read past: actions with strings, characters, quoted strings and comments in them, headers, types, attributes,
-// trailers, names of producers.
+// The parts of a grammar file that are skipped: actions with strings, characters, quoted strings and comments in them,
+// headers, types, attributes, trailers, names of producers.
 const FORMS: &str = r#"0 --interpret g.mly
 ~
 g.mly
@@ -291,7 +291,8 @@ REJECT
 ~
 "#;
 
-// Where levels refuse a token, where they decide, and where an error is found behind a reduction.
+// Grammars in which levels make a token an error, in which levels resolve a conflict, and in which an error is found
+// after a reduction.
 const LEVELS: &str = "0 --interpret g.mly
 ~
 g.mly
@@ -346,7 +347,7 @@ e2: e2 OP2 a {} | a {}
 a: INT {} | LP e1 RP {}
 ";
 
-/// Adds a sum in parentheses, one of which lacks its end in every third line, but where there are none.
+/// Appends a sum in parentheses. In every third line that has parentheses, the last one is missing.
 fn push_sum(text: &mut Vec<u8>, number: u32) {
     let depth = number % 17;
     put_times(text, b"LP ", depth);
@@ -376,7 +377,7 @@ fn put_times(text: &mut Vec<u8>, part: &[u8], count: u32) {
     }
 }
 
-/// How many lines are this one.
+/// The number of lines that equal this line.
 fn count_lines(text: &[u8], line: &[u8]) -> usize {
     text.split(|byte| *byte == b'\n')
         .filter(|found| *found == line)
@@ -390,7 +391,7 @@ fn check_sums(rt: &impl Abort, got: &Outcome) {
     assert_eq!(rt; got.out.len(), 3000 * 7);
 }
 
-// 1,000 of the numbers are multiples of 3, and 59 of these are multiples of 17.
+// Of the numbers, 1,000 are multiples of 3, and 59 of these are multiples of 17.
 #[test]
 fn three_thousand_sums(rt: HostRuntime) -> Result<(), Fail> {
     let mut input = Vec::new(rt.alloc());

@@ -1,8 +1,10 @@
-//! Messages files that are kept while grammars grow: their sentences, the states that one has and another lacks, and their comment lines.
+//! Messages files that are maintained while grammars grow: their sentences, the states that one has and another lacks,
+//! and their comment lines.
 use crate::runs::{ONE_SENTENCE_FILE, check_cases_with};
 use std::test::Fail;
 
-// The sentences of a file, one a line, in its order and not in that of states, whatever becomes of them; a file that spells none is told as ever.
+// The sentences of a messages file, one a line, in the order of the file, whatever their verdicts are. The fault of a
+// file that is not a messages file is reported as in other modes.
 const ECHOED: &str = "0 --echo-errors m g.mly
 ~
 m
@@ -108,7 +110,8 @@ M
 ~
 ";
 
-// The states that the first file names and the second does not, rising; each file is read and checked before the next.
+// The states that the first file names and the second does not, in rising order. Each file is read and checked before
+// the next.
 const COMPARED: &str = "0 --compare-errors a --compare-errors b g.mly
 ~
 a
@@ -235,7 +238,8 @@ menhir: cannot read b
 menhir: usage: misplaced --compare-errors
 ";
 
-// What files become: the comment lines of each sentence are made anew, and every other line stays; two sentences may fail in one state.
+// Updated files: the comment lines of each sentence are made anew, and every other line is unchanged. Two sentences may
+// fail in one state.
 const UPDATED: &str = "0 --update-errors m g.mly
 ~
 m

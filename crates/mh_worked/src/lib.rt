@@ -1,5 +1,5 @@
-//! Worked examples of the whole tool: words and files in memory, and what the top call writes for them. Each answer was worked out by
-//! hand.
+//! Worked examples of the whole tool: words and files in memory, and the texts that the top call writes for them. Each
+//! result was worked out by hand.
 #![tactic(auto)]
 
 #[cfg(test)]

@@ -2,7 +2,7 @@
 use crate::runs::{ONE_SENTENCE_FILE, check_cases, check_cases_with};
 use std::test::Fail;
 
-// A line has at most 1,048,576 bytes, an input 1,000,000 lines, and a file 16,777,216 bytes.
+// A line has at most 1,048,576 bytes, an input at most 1,000,000 lines, and a file at most 16,777,216 bytes.
 const SIZES: &str = "5 --interpret g.mly
 ~
 A EOF
@@ -50,8 +50,8 @@ fn sizes(rt: HostRuntime) -> Result<(), Fail> {
     check_cases(&rt, rt.alloc(), LARGE_FILE)
 }
 
-// `qI: A qJ | B qJ`, where J is one more, up to the last, `qN: A | B`; the first goes on in itself, too. The words of 18 tokens alone
-// lead to 262,144 states with different cores; 200,000 are the most.
+// The rules are `qI: A qJ | B qJ`, where J is I + 1, up to the last, `qN: A | B`; the first rule is also recursive. The
+// words of 18 tokens alone lead to 262,144 states with different cores; at most 200,000 states are allowed.
 const STATES: &str = "1 --interpret g.mly
 ~
 g.mly
@@ -94,7 +94,7 @@ fn too_many_canonical_states(rt: HostRuntime) -> Result<(), Fail> {
     check_cases(&rt, rt.alloc(), CANONICAL_STATES)
 }
 
-// A right side of 8,192 symbols, by inlining; 10,000 are the most.
+// A right side of 8,192 symbols, by inlining. At most 10,000 symbols are allowed.
 const LONG_PRODUCTION: &str = "0 --interpret g.mly
 ~
 g.mly

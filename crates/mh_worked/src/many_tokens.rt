@@ -1,8 +1,9 @@
-//! Grammars of as many tokens as words have bits, of one more, and of the most that there may be, in both modes.
+//! Grammars with as many tokens as a set of a given width holds, with one token more, and with the most tokens that are
+//! allowed, in both modes.
 use crate::runs::check_cases;
 use std::test::Fail;
 
-// Each token may stand before the first: the last token before the first is taken, and behind it it is not.
+// Each token may come before T0. The last token is accepted before T0, and refused after T0.
 const CASES: &str = "0 --interpret g.mly
 ~
 g.mly

@@ -1,4 +1,4 @@
-//! Messages files: compiled, and said of what is refused.
+//! Messages files: compiled, and used for refused sentences.
 use crate::runs::{
     ONE_SENTENCE_FILE, Outcome, check_cases, check_cases_with, push_file, run_files, run_on,
 };
@@ -7,7 +7,8 @@ use std::alloc::Global;
 use std::process::Abort;
 use std::test::Fail;
 
-// What files come to: the messages of the states, rising; the first fault, in order of lines, and the shape last.
+// Compiled files: the messages by state, in rising order; or the first fault in the order of lines; a fault of the form
+// comes last.
 const COMPILED: &str = "0 --compile-errors m g.mly
 ~
 m
@@ -176,7 +177,7 @@ menhir: usage: bad words
 menhir: usage: no grammar
 ";
 
-// Two starts, of which a sentence has to name one; a token that stands in no rule.
+// A grammar with two start symbols, of which a sentence must name one; and a token that no rule uses.
 const GRAMMARS: &str = "1 --compile-errors m g.mly
 ~
 g.mly
@@ -215,7 +216,8 @@ No sentence begins with B.
 ~
 ";
 
-// What is refused has its state's message, or none; the file is read and checked before the first line is asked for.
+// A refused sentence gets the message of its state, if there is one. The messages file is read and checked before the
+// first line of the input is read.
 const SAID: &str = "0 --interpret --messages m g.mly
 ~
 m
@@ -287,7 +289,7 @@ menhir: cannot read m
 menhir: usage: misplaced --messages
 ";
 
-/// A list of errors with a message put in for each place.
+/// A list of errors in which every placeholder is replaced by a message.
 fn with_messages(alloc: Global, list: &str) -> Vec<u8> {
     let mut text = Vec::new(alloc);
     for line in list.lines() {
@@ -301,7 +303,7 @@ fn with_messages(alloc: Global, list: &str) -> Vec<u8> {
     text
 }
 
-/// The states of a list of errors, or of compiled messages, a line each.
+/// The states of a list of errors or of compiled messages, one a line.
 fn states_of(alloc: Global, text: &str, front: &str) -> Vec<u8> {
     let mut states = Vec::new(alloc);
     for line in text.lines() {
@@ -312,14 +314,14 @@ fn states_of(alloc: Global, text: &str, front: &str) -> Vec<u8> {
     states
 }
 
-/// Adds the digits in front of a text, and the end of a line.
+/// Appends the digits at the beginning of a text, and LF.
 fn put_digits(states: &mut Vec<u8>, text: &str) {
     let count = text.bytes().take_while(u8::is_ascii_digit).count();
     put(states, text.as_bytes().get(..count).unwrap_or(b""));
     put(states, b"\n");
 }
 
-/// What a messages file comes to, which stands beside a grammar.
+/// The result of compiling a messages file for a grammar.
 fn compiled_of(
     rt: &impl Abort,
     alloc: Global,
@@ -366,7 +368,7 @@ fn check_list(rt: &impl Abort, alloc: Global, grammar: &str, list: &str) -> Resu
     result
 }
 
-/// What the list of errors of a grammar, with messages put in, comes to: exactly its states.
+/// Checks that the list of errors of a grammar, with messages filled in, compiles to exactly the listed states.
 fn check_round(rt: &impl Abort, alloc: Global, grammar: &str) -> Result<(), Fail> {
     let list = run_on(rt, alloc, "--list-errors g.mly", grammar)?;
     let result = match str::from_utf8(&list.out) {

@@ -1,9 +1,9 @@
-//! Devices in memory that tell nothing to contracts: an input whose reads are counted, and an output that takes whole pieces or single
-//! bytes. All runs are over these, so the tool is made once for the tests.
+//! Devices in memory whose contents contracts do not know: an input that counts its reads, and an output that accepts
+//! whole pieces or single bytes. All runs use these devices, so the tool is compiled once for the tests.
 ghost use Rattle.std.specs.Prelude.{◌<◌, None, length, IfOk};
 ghost use Rattle.std.specs.Io.{WritesAtMost};
 ghost use Rattle.std.specs.Io.KnownBytes.{WriteAppends};
-ghost use Rattle.mh_outside.specs.Faults.{Counts};
+ghost use Rattle.mh_outside.specs.Faults.{CountsFault};
 ghost use Rattle.mh_outside.specs.Fakes.{sink_calls, source_calls};
 
 use mh_outside::{Failed, MemSink, MemSource, Sink, Source};
@@ -11,21 +11,21 @@ use std::alloc::Global;
 
 /// An input that counts its reads.
 #[derive(Drop)]
-pub struct Counted {
+pub struct CountedInput {
     input: MemSource,
     pub reads: u64,
 }
 
-impl Counted {
-    pub fn new(bytes: Vec<u8>, fails: Vec<u64>) -> Counted {
-        Counted {
+impl CountedInput {
+    pub fn new(bytes: Vec<u8>, fails: Vec<u64>) -> CountedInput {
+        CountedInput {
             input: MemSource::new(bytes, fails),
             reads: 0,
         }
     }
 }
 
-impl Source for Counted {
+impl Source for CountedInput {
     ghost left = { λ s. None };
 
     ghost faults = { λ s. (source_calls s.input).faults };
@@ -36,22 +36,22 @@ impl Source for Counted {
     }
 }
 
-/// How much of a piece an output takes at once.
+/// How much of a piece an output accepts with each call.
 #[derive(Clone, Copy)]
-pub enum Takes {
+pub enum AcceptedSize {
     Pieces,
     Bytes,
 }
 
-/// An output that takes pieces as a whole, or one byte at a time.
+/// An output that accepts whole pieces, or one byte with each call.
 #[derive(Drop)]
 pub struct Output {
     sink: MemSink,
-    takes: Takes,
+    takes: AcceptedSize,
 }
 
 impl Output {
-    pub fn new(alloc: Global, takes: Takes, fails: Vec<u64>) -> Output {
+    pub fn new(alloc: Global, takes: AcceptedSize, fails: Vec<u64>) -> Output {
         Output {
             sink: MemSink::new(alloc, fails),
             takes,
@@ -70,8 +70,8 @@ impl Sink for Output {
 
     fn write(&mut self, piece: &[u8]) -> Result<usize, Failed> {
         match self.takes {
-            Takes::Pieces => self.sink.write(piece),
-            Takes::Bytes => self.sink.write(&piece[..1]),
+            AcceptedSize::Pieces => self.sink.write(piece),
+            AcceptedSize::Bytes => self.sink.write(&piece[..1]),
         }
     }
 }

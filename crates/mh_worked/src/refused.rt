@@ -1,8 +1,8 @@
-//! Grammars that are refused, each with its line.
+//! Refused grammars, each with the line that reports the fault.
 use crate::runs::check_cases;
 use std::test::Fail;
 
-// Nothing is written on out, and the input is not read.
+// Nothing is written to `out`, and the input is not read.
 const FAULTS: &str = r#"1 --interpret g.mly
 ~
 g.mly
@@ -258,7 +258,7 @@ s: A? {}
 menhir: undefined: option
 "#;
 
-// A name that stands for nothing: of a rule, of a start, an alias, and in a declaration.
+// Undefined names: of a rule, of a start symbol, of an alias, and in a declaration.
 const UNDEFINED: &str = r#"1 --interpret g.mly
 ~
 g.mly
@@ -324,8 +324,8 @@ u(X): X {}
 menhir: undefined: X
 "#;
 
-// A token and a rule; an alias of two tokens; two formals of one name; public rules that differ in their formals or in
-// `%inline`; two levels of one name, an alias counting as its token.
+// Duplicates: a token and a rule of one name; an alias of two tokens; two formals of one name; public rules that differ
+// in their formals or in `%inline`; two levels of one name, where an alias counts as its token.
 const DUPLICATES: &str = r#"1 --interpret g.mly
 ~
 g.mly
@@ -422,7 +422,7 @@ ACCEPT
 ~
 "#;
 
-// Counts of arguments, and inline rules with arguments.
+// Wrong numbers of arguments, and inline rules with arguments.
 const INSTANCES: &str = "1 --interpret g.mly
 ~
 g.mly
@@ -487,8 +487,8 @@ t: t A {}
 menhir: empty language: t
 ";
 
-// The first of several faults: undefined, duplicate, no start, the error token, an unknown level; a wrong count of
-// arguments before an inline cycle, and that before an inline start.
+// The first of several faults, in this order: undefined names, duplicates, no start symbol, the error token, an unknown
+// level; a wrong number of arguments, then an inline cycle, then an inline start symbol.
 const FIRST_FAULTS: &str = "1 --interpret g.mly
 ~
 g.mly
@@ -589,7 +589,7 @@ t: t A {}
 menhir: inline start: s
 ";
 
-// Levels that make a state reduce again and again: the start state, and a state above it.
+// Levels that make a run reduce without end, in the start state and in a state above it.
 const LOOPS: &str = "1 --interpret g.mly
 ~
 g.mly
@@ -655,8 +655,8 @@ b: %prec HIGH {}
 menhir: loops: state 1 above state 0 on A
 ";
 
-// A grammar has at most 512 tokens. Those of all files are counted together, each name once. `A` and 1,000 `?` behind it are 1,001
-// deep; 1,000 is the most.
+// A grammar has at most 512 tokens. The tokens of all files are counted together, each name once. `A` followed by 1,000
+// `?` has depth 1,001; at most 1,000 is allowed.
 const LIMITS: &str = "0 --interpret g.mly
 ~
 g.mly

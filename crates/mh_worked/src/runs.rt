@@ -2,7 +2,7 @@
 ghost use Rattle.std.specs.Prelude.{◌≡◌, IsTrue, IsFalse, None};
 ghost use Rattle.mh_outside.specs.Shelf.{file_at, files_of, HasDistinctNames};
 
-use crate::observed::{Counted, Output, Takes};
+use crate::observed::{AcceptedSize, CountedInput, Output};
 use mh_outside::MemShelf;
 use mh_top::menhir;
 use mh_worked_files::filled;
@@ -11,10 +11,10 @@ use std::fmt::Write;
 use std::process::Abort;
 use std::test::Fail;
 
-/// A grammar of one sentence, `A EOF`, as the file `g.mly` that stands beside those of each case.
+/// A grammar with one sentence, `A EOF`, as the file `g.mly`, which is added to the files of each case.
 pub const ONE_SENTENCE_FILE: &str = "g.mly\n%token A EOF\n%start s\n%%\ns: A EOF {}\n";
 
-/// The status, and the texts on out and err.
+/// The status of a run, and the texts on `out` and `err`.
 #[derive(Drop)]
 pub struct Outcome {
     pub status: u8,
@@ -22,18 +22,18 @@ pub struct Outcome {
     pub err: Vec<u8>,
 }
 
-/// Which calls of the devices fail, by their numbers from 1.
+/// The calls of the devices that fail, by their numbers from 1.
 #[derive(Drop)]
-pub struct Fails {
+pub struct FailingCalls {
     pub shelf: Vec<u64>,
     pub input: Vec<u64>,
     pub out: Vec<u64>,
     pub err: Vec<u64>,
 }
 
-impl Fails {
-    pub fn none(alloc: Global) -> Fails {
-        Fails {
+impl FailingCalls {
+    pub fn none(alloc: Global) -> FailingCalls {
+        FailingCalls {
             shelf: Vec::new(alloc),
             input: Vec::new(alloc),
             out: Vec::new(alloc),
@@ -41,13 +41,13 @@ impl Fails {
         }
     }
 
-    /// Adds a line of a device and the number of a call.
+    /// Adds one failing call from a line with a device and the number of a call.
     fn add(&mut self, line: &str) -> Result<(), Fail> {
         let (device, call) = line.split_once(' ').ok_or("a device without a call")?;
         self.push(device, call.parse()?)
     }
 
-    /// Adds lines, each of a device and the number of a call.
+    /// Adds the failing calls of several lines.
     fn add_all(&mut self, lines: &str) -> Result<(), Fail> {
         for line in lines.lines() {
             self.add(line)?;
@@ -55,7 +55,7 @@ impl Fails {
         Ok(())
     }
 
-    /// Adds a call of a device.
+    /// Adds a failing call of a device.
     pub fn push(&mut self, device: &str, call: u64) -> Result<(), Fail> {
         match device {
             "shelf" => self.shelf.push(call)?,
@@ -68,7 +68,7 @@ impl Fails {
     }
 }
 
-/// A value and another, where making that one did not fail.
+/// Both values, if making the second did not fail.
 pub fn beside<A: Drop, B>(value: A, other: Result<B, Fail>) -> Result<(A, B), Fail> {
     match other {
         Ok(other) => Ok((value, other)),
@@ -76,7 +76,7 @@ pub fn beside<A: Drop, B>(value: A, other: Result<B, Fail>) -> Result<(A, B), Fa
     }
 }
 
-/// Whether a file has this name.
+/// Returns true if a file has this name.
 fn is_there(files: &[(Vec<u8>, Vec<u8>)], name: &[u8]) -> bool
     ensures { IsFalse result → file_at (files_of files.now) name.now ≡ None }
 {
@@ -86,7 +86,7 @@ fn is_there(files: &[(Vec<u8>, Vec<u8>)], name: &[u8]) -> bool
     }
 }
 
-/// Whether no two files have one name.
+/// Returns true if the names of the files are pairwise different.
 fn are_distinct(files: &[(Vec<u8>, Vec<u8>)]) -> bool
     ensures { IsTrue result → HasDistinctNames (files_of files.now) }
 {
@@ -96,7 +96,7 @@ fn are_distinct(files: &[(Vec<u8>, Vec<u8>)]) -> bool
     }
 }
 
-/// A shelf of these files, whose calls with these numbers fail.
+/// A shelf of these files, on which the calls with these numbers fail.
 pub fn shelf_of(rt: &impl Abort, files: Vec<(Vec<u8>, Vec<u8>)>, fails: Vec<u64>) -> MemShelf {
     assert!(rt; are_distinct(&files));
     MemShelf::new(files, fails)
@@ -117,7 +117,7 @@ pub fn words_of(alloc: Global, text: &str) -> Result<Vec<String>, Fail> {
     filled(words, added)
 }
 
-/// The status, and what was written.
+/// The outcome of a run: its status and the written texts.
 fn outcome_of(alloc: Global, status: u8, out: &[u8], err: &[u8]) -> Result<Outcome, Fail> {
     let out = out.to_vec(alloc)?;
     let err = err.to_vec(alloc)?;
@@ -130,12 +130,12 @@ fn run_given(
     given: &[String],
     files: Vec<(Vec<u8>, Vec<u8>)>,
     input: Vec<u8>,
-    fails: Fails,
+    fails: FailingCalls,
 ) -> Result<Outcome, Fail> {
     let mut shelf = shelf_of(rt, files, fails.shelf);
-    let mut input = Counted::new(input, fails.input);
-    let mut out = Output::new(alloc, Takes::Pieces, fails.out);
-    let mut err = Output::new(alloc, Takes::Pieces, fails.err);
+    let mut input = CountedInput::new(input, fails.input);
+    let mut out = Output::new(alloc, AcceptedSize::Pieces, fails.out);
+    let mut err = Output::new(alloc, AcceptedSize::Pieces, fails.err);
     let status = menhir(alloc, given, &mut shelf, &mut input, &mut out, &mut err);
     let outcome = outcome_of(alloc, status, out.written(), err.written());
     drop(shelf);
@@ -152,7 +152,7 @@ pub fn run(
     words: &str,
     files: Vec<(Vec<u8>, Vec<u8>)>,
     input: Vec<u8>,
-    fails: Fails,
+    fails: FailingCalls,
 ) -> Result<Outcome, Fail> {
     match words_of(alloc, words) {
         Ok(given) => {
@@ -169,12 +169,12 @@ pub fn run(
     }
 }
 
-/// Runs the tool on the file `g.mly` with this text, and no input.
+/// Runs the tool with the grammar file `g.mly`, without input.
 pub fn run_on(rt: &impl Abort, alloc: Global, words: &str, grammar: &str) -> Result<Outcome, Fail> {
     run_with(rt, alloc, words, grammar, &[])
 }
 
-/// Runs the tool on the file `g.mly` with this text, and on this input.
+/// Runs the tool with the grammar file `g.mly` on this input.
 pub fn run_with(
     rt: &impl Abort,
     alloc: Global,
@@ -187,7 +187,7 @@ pub fn run_with(
     run_files(rt, alloc, words, filled(files, added)?, input)
 }
 
-/// Runs the tool on these files and this input.
+/// Runs the tool with these files on this input.
 pub fn run_files(
     rt: &impl Abort,
     alloc: Global,
@@ -196,14 +196,14 @@ pub fn run_files(
     input: &[u8],
 ) -> Result<Outcome, Fail> {
     let (files, input) = beside(files, copied(alloc, input))?;
-    run(rt, alloc, words, files, input, Fails::none(alloc))
+    run(rt, alloc, words, files, input, FailingCalls::none(alloc))
 }
 
 pub fn copied(alloc: Global, bytes: &[u8]) -> Result<Vec<u8>, Fail> {
     Ok(bytes.to_vec(alloc)?)
 }
 
-/// Adds a file of this name and text.
+/// Adds a file with this name and text.
 pub fn push_file(
     alloc: Global,
     files: &mut Vec<(Vec<u8>, Vec<u8>)>,
@@ -215,7 +215,7 @@ pub fn push_file(
     Ok(())
 }
 
-/// Adds a number, with at least three digits where the other number has three.
+/// Appends a number, with at least three digits if `like` has three.
 fn put_number(text: &mut String, number: u32, like: &str) {
     let _ = if like.len() == 3 {
         write!(text, "{number:03}")
@@ -224,7 +224,7 @@ fn put_number(text: &mut String, number: u32, like: &str) {
     };
 }
 
-/// Adds a part, in which `@` stands for a number and `@+` for the next.
+/// Appends a part with the number in place of each `@`, and the next number in place of each `@+`.
 fn put_numbered(text: &mut String, part: &str, number: u32, like: &str) {
     for (place, piece) in part.split('@').enumerate() {
         if place > 0 {
@@ -235,7 +235,7 @@ fn put_numbered(text: &mut String, part: &str, number: u32, like: &str) {
     }
 }
 
-/// Adds a part once for each of some numbers, which stand in front of it.
+/// Appends a part once for each number of a range. The range is written before the part.
 fn push_repeated(text: &mut String, repeated: &str) -> Result<(), Fail> {
     let (numbers, part) = repeated.split_once(' ').ok_or("numbers without a part")?;
     let (first, end) = numbers.split_once("..").ok_or("a part without numbers")?;
@@ -256,16 +256,16 @@ fn push_spelled(text: &mut String, short: &str) -> Result<(), Fail> {
     Ok(())
 }
 
-/// The text that a short one stands for. Between two backquotes there are `FIRST..END`, a space and a part, which stands for this part
-/// once for each number from the first to the one before the end, with the number for each `@` in it, and the next number for `@+`.
-/// Where the first has three digits, so has each.
+/// Expands the short form of a text. Between two backquotes, the short form has `FIRST..END`, a space and a part. The
+/// part is repeated for each number from FIRST to END - 1, with this number in place of `@` and the next number in
+/// place of `@+`. If FIRST has three digits, so has each number.
 pub fn spelled(alloc: Global, short: &str) -> Result<Vec<u8>, Fail> {
     let mut text = String::new(alloc);
     let added = push_spelled(&mut text, short);
     Ok(filled(text, added)?.into_bytes())
 }
 
-/// Adds a file, whose text stands behind a line with its name.
+/// Adds a file from its name, on the first line, and its text.
 fn add_file(alloc: Global, files: &mut Vec<(Vec<u8>, Vec<u8>)>, file: &str) -> Result<(), Fail> {
     let (name, short) = file.split_once('\n').ok_or("a file without a name")?;
     let text = spelled(alloc, short)?;
@@ -309,21 +309,22 @@ fn add_parts<'a>(parts: &mut Vec<&'a str>, case: &'a str) -> Result<(), Fail> {
     Ok(())
 }
 
-/// The parts of a case, between which lines `~` stand.
+/// The parts of a case, which are separated by lines `~`.
 pub fn parts_of(alloc: Global, case: &str) -> Result<Vec<&str>, Fail> {
     let mut parts = Vec::new(alloc);
     let added = add_parts(&mut parts, case);
     filled(parts, added)
 }
 
-/// Which calls of the devices fail, a line for each.
-fn fails_of(alloc: Global, lines: &str) -> Result<Fails, Fail> {
-    let mut fails = Fails::none(alloc);
+/// The failing calls of the devices, one a line.
+fn fails_of(alloc: Global, lines: &str) -> Result<FailingCalls, Fail> {
+    let mut fails = FailingCalls::none(alloc);
     let added = fails.add_all(lines);
     filled(fails, added)
 }
 
-/// Whether a text is the one that is wanted; or begins with it, or ends with it, where the last or the first line of that is `...`.
+/// Returns true if a text is the wanted one. If the last line of the wanted text is `...`, the text must only begin
+/// with the lines before; if the first line is `...`, it must only end with the lines after.
 fn is_wanted(found: &[u8], wanted: &[u8]) -> bool {
     if let Some(front) = wanted.strip_suffix(b"...\n") {
         return found.starts_with(front);
@@ -334,12 +335,12 @@ fn is_wanted(found: &[u8], wanted: &[u8]) -> bool {
     }
 }
 
-/// As much of a text as is told where another is wanted.
+/// The beginning of a text, as much as a failed test shows.
 fn front_of(text: &[u8]) -> &str {
     str::from_utf8(text.get(..5_000).unwrap_or(text)).unwrap_or("no text")
 }
 
-/// Compares a text with the one that is wanted.
+/// Fails if a text is not the wanted one.
 fn check_text(
     rt: &impl Abort,
     alloc: Global,
@@ -354,7 +355,7 @@ fn check_text(
     Ok(())
 }
 
-/// Compares what a run comes to with what is wanted.
+/// Fails if the outcome of a run is not the wanted one.
 fn check_outcome(
     rt: &impl Abort,
     alloc: Global,
@@ -368,7 +369,7 @@ fn check_outcome(
     Ok(())
 }
 
-/// The status and the words of a case, and which calls fail.
+/// The status and the words of a case, and the calls that fail.
 #[derive(Clone, Copy)]
 struct Head<'a> {
     status: u8,
@@ -386,7 +387,7 @@ fn head_of(text: &str) -> Result<Head<'_>, Fail> {
     })
 }
 
-/// What a case comes to.
+/// The outcome of a case.
 fn run_case(
     rt: &impl Abort,
     alloc: Global,
@@ -431,10 +432,10 @@ fn check_case(
     result
 }
 
-/// Runs each case of a text. Lines `^` stand between cases, and lines `~` between their parts. These are: the status and
-/// the words, with a line for each call of a device that is to fail; each file, behind a line with its name; the input;
-/// what is written on out; and what is written on err. Of a text that ends with the line `...` the front alone is told, and of one
-/// that begins with it the end.
+/// Runs each case of a text. Lines `^` are between cases, and lines `~` between the parts of a case. The parts are: the
+/// status and the words, with a line for each failing call of a device; each file, after a line with its name; the
+/// input; the text on `out`; and the text on `err`. If a text ends with the line `...`, only its beginning is given; if
+/// it begins with this line, only its end.
 pub fn check_cases(rt: &impl Abort, alloc: Global, cases: &str) -> Result<(), Fail> {
     for case in cases.split("^\n") {
         check_case(rt, alloc, None, case)?;
@@ -442,7 +443,8 @@ pub fn check_cases(rt: &impl Abort, alloc: Global, cases: &str) -> Result<(), Fa
     Ok(())
 }
 
-/// Runs each case of a text. Each has these files beside its own. A line with its name is before each file, and a line `~` between two.
+/// Runs each case of a text with these shared files in addition to its own. Each shared file begins with a line of its
+/// name, and a line `~` is between two.
 pub fn check_cases_with(
     rt: &impl Abort,
     alloc: Global,

@@ -1,9 +1,10 @@
-//! Samples: the counts of generated grammars, and words around them. No file is read.
+//! Samples: the counts of generated grammars, and usage faults of `--sample`. No file is read.
 use crate::runs::check_cases;
 use std::test::Fail;
 
-// By levels k of operators, 2 and 3 here: k + 4 tokens, 2k + 3 productions; merged 3k + 8 states, of which k + 6 are listed, and canonical 6k + 12 and
-// 2k + 7. Of 3,000 sentences 1,000 lack a parenthesis, but for the 59 of these that open none.
+// With k levels of operators, here 2 and 3, a sample has k + 4 tokens and 2k + 3 productions. The merged automaton has
+// 3k + 8 states, of which k + 6 are listed; the canonical one has 6k + 12, of which 2k + 7 are listed. Every third of
+// the 3,000 sentences lacks a parenthesis, except for 59 that open none, so 941 are rejected.
 const MERGED: &str = "0 --sample 0
 ~
 ~
@@ -32,7 +33,7 @@ out 1
 ~
 ";
 
-// What is no number of one to four digits, and words that a sample does not go with.
+// Values that are not one to four digits, and words that are not allowed with `--sample`.
 const WORDS: &str = "2 --sample x
 ~
 ~

@@ -123,7 +123,7 @@ fn each_reply_is_that_of_its_branch(rt: HostRuntime) -> Result<(), Fail> {
     check_cases(&rt, rt.alloc(), REPLIES)
 }
 
-/// A list with its items in front.
+/// A list with its items before the rest of the list.
 const CHAIN: &str = "g.mly
 %token A B
 %start s
@@ -131,7 +131,7 @@ const CHAIN: &str = "g.mly
 s: A s {} | B {}
 ";
 
-// Behind 4,000 tokens one more is too deep.
+// After 4,000 tokens, one more is too deep.
 const DEEP: &str = "0 --session g.mly
 ~
 begin a
@@ -155,7 +155,7 @@ fn a_step_may_be_too_deep(rt: HostRuntime) -> Result<(), Fail> {
     check_cases_with(&rt, rt.alloc(), CHAIN, DEEP)
 }
 
-// Copied stacks would be 2,000,000,000 cells.
+// If forks copied stacks, they would copy 2,000,000,000 entries.
 const FORKS: &str = "0 --session g.mly
 ~
 begin a

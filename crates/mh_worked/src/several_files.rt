@@ -2,8 +2,8 @@
 use crate::runs::check_cases;
 use std::test::Fail;
 
-// Tokens, aliases and public rules are of all files. Other rules are of their own; where another file has one of the name,
-// the printed name tells the file.
+// Tokens, aliases and public rules are shared by all files. Other rules belong to their file. If another file has a
+// rule of the same name, the printed name contains the number of the file.
 const JOINED: &str = r#"0 --interpret a.mly b.mly
 ~
 a.mly
@@ -88,8 +88,8 @@ ACCEPT
 ~
 "#;
 
-// A file's own rule goes before the public one, and that before the prelude's. Where a file defines a rule of
-// the prelude, the prelude's has `@0` behind its name.
+// A file's own rule hides a public rule of the same name, and a public rule hides that of the prelude. If a file
+// defines a rule that the prelude has, the prelude's rule is printed with `@0` after its name.
 const SHADOWED: &str = r#"0 --interpret --interpret-show-cst a.mly b.mly
 ~
 a.mly
@@ -155,8 +155,8 @@ ACCEPT
 ~
 "#;
 
-// Levels of two files are not compared, so the token is shifted, with a warning. A file that stands twice is two files,
-// whose own rules are apart.
+// Levels of different files cannot be compared, so the token is shifted, with a warning. A file that is given twice
+// counts as two files with separate rules.
 const APART: &str = "0 --interpret --interpret-show-cst a.mly b.mly
 ~
 a.mly
@@ -317,7 +317,7 @@ t: A {}
 menhir: no start symbol
 "#;
 
-// Each file is read and spelled before the next, and all of them before they are joined.
+// Each file is read and parsed before the next, and all of them are parsed before they are joined.
 const IN_TURN: &str = "3 --interpret a.mly b.mly
 ~
 a.mly

@@ -53,7 +53,7 @@ end
 ~
 ";
 
-// Warnings stand beside it, and it is a mode of its own.
+// Warnings are written together with the table file, and `--write-tables` is a mode of its own.
 const AROUND: &str = "0 --write-tables g.mly
 ~
 g.mly
@@ -108,8 +108,8 @@ menhir: usage: two modes
 menhir: usage: no grammar
 ";
 
-// A table that comes from a file is worked with like one that is built. Beside the files of each case are the grammar of one
-// sentence and its table file.
+// A table from a file is used like a built one. The files of each case also include the grammar with one sentence and
+// its table file.
 const TAKEN: &str = "0 --list-errors --tables t g.mly
 ~
 ~
@@ -169,7 +169,8 @@ h.mly
 menhir: t: invalid: header
 ";
 
-// The file is read behind the grammar. Beside what builds a table of its own, or none, the word has no meaning.
+// The table file is read after the grammar. Together with words that need a built table or no table, `--tables` is
+// misplaced.
 const REFUSED: &str = "3 --interpret --tables t g.mly
 ~
 ~
@@ -246,7 +247,7 @@ menhir: usage: no mode
 menhir: usage: no grammar
 ";
 
-/// A table file with its lines `old` as `new`, or without them.
+/// A table file in which each line `old` is replaced by `new`, or left out if `new` is empty.
 fn changed(alloc: Global, file: &str, old: &str, new: &str) -> String {
     let mut text = String::new(alloc);
     for line in file.lines() {
@@ -259,7 +260,7 @@ fn changed(alloc: Global, file: &str, old: &str, new: &str) -> String {
     text
 }
 
-/// Changes a table file: an old and a new line, perhaps two more.
+/// Changes a table file by pairs of an old and a new line.
 fn change(alloc: Global, table: &mut String, changes: &str) -> Result<(), Fail> {
     for pair in changes.split(" & ") {
         let (old, new) = pair.split_once("; ").ok_or("a change without a new line")?;
@@ -279,7 +280,7 @@ fn push_both(
     push_file(alloc, files, "t", table)
 }
 
-/// What the words come to on a grammar with a table file beside it.
+/// The outcome of a run with a grammar and a table file.
 fn run_beside(
     rt: &impl Abort,
     alloc: Global,
@@ -299,7 +300,7 @@ fn check_told(rt: &impl Abort, got: &Outcome, told: &str, table: &str) -> Result
     Ok(())
 }
 
-/// Compares what is told of a table file.
+/// Checks the line that reports the fault of a table file.
 fn check_table(
     rt: &impl Abort,
     alloc: Global,
@@ -314,7 +315,7 @@ fn check_table(
     result
 }
 
-/// Changes a table file as a line tells, and behind that what is told of the file then.
+/// Changes a table file as a line says, and checks the reported fault, which follows the changes in this line.
 fn check_change(
     rt: &impl Abort,
     alloc: Global,
@@ -346,7 +347,7 @@ fn check_lines(
     Ok(())
 }
 
-/// Changes the table file that the tool writes of a grammar as each line tells.
+/// Changes the table file that the tool writes for a grammar, once for each line.
 fn check_changes(
     rt: &impl Abort,
     alloc: Global,
@@ -360,8 +361,8 @@ fn check_changes(
     result
 }
 
-// Another version comes before each fault of form, a fault of form before each test of what the file says, and each kernel before
-// the first edge.
+// Another version is reported before every bad line, a bad line before every test of the content, and every kernel
+// before the first edge.
 const ONE_SENTENCE_CHANGES: &str =
     "menhir-tables 2 merged; menhir-tables 9 merged; menhir: t: version
 menhir-tables 2 merged; menhir-tables 9 merged & end; ; menhir: t: version
@@ -401,16 +402,16 @@ default accept; ; menhir: t: invalid: state 2: fallback
 default reduce 1; default accept; menhir: t: invalid: state 3: fallback
 ";
 
-// A state that has a default where automata are merged has cells where they are not.
+// A state that has a default in the merged table has cells in the canonical one.
 const MODE_CHANGES: &str =
     "menhir-tables 2 canonical; menhir-tables 2 merged; menhir: t: invalid: state 2: cell
 ";
 
-// An item of a start production has no look but the end.
+// An item of a start production has no look but the end of the stream.
 const LOOK_CHANGES: &str = "item 0 1 #; item 0 1 INT #; menhir: t: invalid: state 2: kernel
 ";
 
-/// The first test that fails is told, with its line or state.
+/// The first failing test is reported, with its line or its state.
 #[test]
 fn changed_files(rt: HostRuntime) -> Result<(), Fail> {
     let alloc = rt.alloc();
@@ -433,7 +434,7 @@ fn changed_files(rt: HostRuntime) -> Result<(), Fail> {
     check_changes(&rt, alloc, sums, "--write-tables g.mly", LOOK_CHANGES)
 }
 
-/// What a job comes to on an automaton that is built.
+/// The outcome of a job with a built automaton.
 fn run_built(
     rt: &impl Abort,
     alloc: Global,
@@ -447,7 +448,7 @@ fn run_built(
     got
 }
 
-/// What it comes to on a table file.
+/// The outcome of a job with a table file.
 fn run_read(
     rt: &impl Abort,
     alloc: Global,
@@ -495,7 +496,7 @@ fn check_job(
     result
 }
 
-/// Each job comes to the same on the automaton that is built and on its table file.
+/// Each job has the same outcome with the built automaton and with its table file.
 fn check_jobs(
     rt: &impl Abort,
     alloc: Global,
@@ -509,7 +510,7 @@ fn check_jobs(
     check_job(rt, alloc, grammar, mode, table, "--strict --write-tables")
 }
 
-/// The table file that is written of a grammar, in a mode.
+/// Checks the table file that is written for a grammar, in one mode.
 fn check_file(
     rt: &impl Abort,
     alloc: Global,
@@ -524,12 +525,12 @@ fn check_file(
     result
 }
 
-/// Two grammars with conflicts, one of them at the end of a stream, and one whose costs are not one.
+/// Two grammars with conflicts, one of which is at the end of the stream, and a grammar with a cost other than one.
 const MORE: &str = "%token INT PLUS %start e %% e: INT {} | e PLUS INT {}
 %token IF ELSE X EOF %start main %% main: s EOF {} s: IF s {} | IF s ELSE s {} | X {}
 %token C [@cost 3] D %start s t %% s: c c {} c: C c {} | D {} t: c {}";
 
-/// Every mode says of a table that was written and read again what it says of the automaton that was built.
+/// Every mode has the same outcome with a table that was written and read again as with the built automaton.
 #[test]
 fn written_and_read_again(rt: HostRuntime) -> Result<(), Fail> {
     for grammars in [ROUNDS, MORE] {
@@ -554,7 +555,7 @@ fn check_shown(rt: &impl Abort, alloc: Global, grammar: &str, table: &[u8]) -> R
     Ok(())
 }
 
-/// The file of a canonical automaton says so, whatever the words say of it.
+/// The table file of a canonical automaton has the canonical mode, and this mode is used whatever the words say.
 #[test]
 fn mode_of_the_file(rt: HostRuntime) -> Result<(), Fail> {
     let grammar = "%token C D %start s %% s: c c {} c: C c {} | D {}";
@@ -564,14 +565,14 @@ fn mode_of_the_file(rt: HostRuntime) -> Result<(), Fail> {
     result
 }
 
-/// Compares what was written with the table file of the grammar of one sentence.
+/// Fails if the written text is not the table file of the grammar with one sentence.
 fn check_written(rt: &impl Abort, got: &Outcome) -> Result<(), Fail> {
     assert_eq!(rt; str::from_utf8(&got.out)?, ONE_SENTENCE_TABLE);
     assert!(rt; got.status == 0 && got.err.is_empty());
     Ok(())
 }
 
-/// Writes the table of the automaton that is built. The input is not read.
+/// The table of the built automaton is written. The input is not read.
 #[test]
 fn written_of_one_sentence(rt: HostRuntime) -> Result<(), Fail> {
     let words = "--write-tables g.mly";
@@ -581,7 +582,7 @@ fn written_of_one_sentence(rt: HostRuntime) -> Result<(), Fail> {
     result
 }
 
-/// What is written of a table file of version 1, which has no line of costs.
+/// The outcome of writing the table from a table file of version 1, which has no line of costs.
 fn run_on_version_1(rt: &impl Abort, alloc: Global) -> Result<Outcome, Fail> {
     let newer = changed(alloc, ONE_SENTENCE_TABLE, "costs 1 1", "");
     let older = changed(
@@ -597,7 +598,7 @@ fn run_on_version_1(rt: &impl Abort, alloc: Global) -> Result<Outcome, Fail> {
     got
 }
 
-/// A table of version 1 is written again in version 2.
+/// A table from a file of version 1 is written in version 2.
 #[test]
 fn written_of_version_1(rt: HostRuntime) -> Result<(), Fail> {
     let got = run_on_version_1(&rt, rt.alloc())?;

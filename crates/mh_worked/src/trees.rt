@@ -1,4 +1,4 @@
-//! Trees of what is accepted.
+//! Trees of accepted sentences.
 use crate::runs::{check_cases, check_cases_with};
 use std::test::Fail;
 
@@ -59,8 +59,8 @@ ACCEPT
 ~
 ";
 
-// An ELSE goes to the inner IF, since a shift goes before a reduction, with a warning, and since its level is higher,
-// without one.
+// An ELSE belongs to the inner IF: in one grammar because shifting is preferred, with a warning, and in the other
+// because its level is higher, without a warning.
 const BRANCHES: &str = "0 --interpret --interpret-show-cst g.mly
 ~
 g.mly
@@ -123,7 +123,8 @@ ACCEPT
 ~
 ";
 
-// Left and right, higher and lower levels; a sign that is inlined gives its level; the sign of a number binds most.
+// Left and right associativity, higher and lower levels; an inlined operator gives its level to the production; the
+// sign of a number binds tightest.
 const LEVELS: &str = r#"0 --interpret --interpret-show-cst --strict g.mly
 ~
 g.mly
@@ -157,7 +158,7 @@ ACCEPT
 ~
 "#;
 
-// The rules of the prelude, those that are inlined leaving nothing.
+// The rules of the prelude. Inlined rules leave no node.
 const PRELUDE: &str = "0 --interpret --interpret-show-cst g.mly
 ~
 g.mly
@@ -207,7 +208,8 @@ ACCEPT
 ~
 ";
 
-// B makes a tree of height 2, and each A one that is higher by 1; 4,000 is the greatest height. A verdict has no such limit.
+// `s: B` makes a tree of height 2, and each A one that is higher by 1. At most 4,000 is allowed. A verdict has no such
+// limit.
 const NESTED: &str = "g.mly
 %token A B
 %start s

@@ -1,8 +1,9 @@
-//! Words that are refused, and words in other places.
+//! Words that are refused, and words in unusual places.
 use crate::runs::check_cases;
 use std::test::Fail;
 
-// The first fault of: bad words, bad number, no mode, two modes, misplaced words, no grammar. No file is read.
+// The first fault is reported, in this order: bad words, bad number, no mode, two modes, misplaced words, no grammar.
+// No file is read.
 const MISUSES: &str = "2
 ~
 ~
@@ -112,7 +113,7 @@ menhir: usage: misplaced --interpret-show-cst
 menhir: usage: misplaced --interpret-show-cst
 ";
 
-// Files stand between options; behind `--` every word is a file, and so is `-`.
+// Files may be between options. After `--`, every word is a file; `-` is always a file.
 const ORDERS: &str = "0 g.mly --interpret
 ~
 g.mly

@@ -1,8 +1,8 @@
-//! Warnings, and what comes of them under `--strict`.
+//! Warnings, and their effect under `--strict`.
 use crate::runs::{check_cases, check_cases_with};
 use std::test::Fail;
 
-// Where the stream ends a sum may end, too, or go on.
+// At the end of the stream, a sum may end or continue.
 const SUMS: &str = "g.mly
 %token INT PLUS
 %start e
@@ -10,7 +10,7 @@ const SUMS: &str = "g.mly
 e: INT {} | e PLUS INT {}
 ";
 
-// Under `--strict` the status is 1 and out is empty where there is a warning, in either mode; nothing is said behind it.
+// With `--strict` and a warning, the status is 1 and `out` is empty in every mode; no line follows the warnings.
 const SUM_CASES: &str = "0 --interpret g.mly
 ~
 INT
@@ -37,7 +37,7 @@ menhir: warning: end-of-stream conflict in state 2
 menhir: warning: end-of-stream conflict in state 2
 ";
 
-// An ELSE may go to either of two IF.
+// An ELSE may belong to either of two IF.
 const BRANCHES: &str = "g.mly
 %token IF ELSE X EOF
 %start main
@@ -69,7 +69,7 @@ X EOF
 menhir: warning: conflict in state 9 on ELSE
 ";
 
-// Where the token behind tells two reductions apart there is no warning.
+// If the next token decides between two reductions, there is no warning.
 const SILENT: &str = "0 --interpret --strict g.mly
 ~
 g.mly
@@ -100,8 +100,9 @@ fn warnings_and_strictness(rt: HostRuntime) -> Result<(), Fail> {
     check_cases(&rt, alloc, SILENT)
 }
 
-// By state, within a state by token, then the end, then the conflict of the end with a token. Of two reductions the first
-// is taken. A reduction that beats the token stays alone, without a warning, whatever the others do.
+// The order of warnings: by state; within a state by token, then the end of the stream, then the conflict of the end
+// with a token. Of two reductions the first is taken. A reduction of higher level than the token is taken without a
+// warning, whatever the other actions are.
 const ORDERS: &str = "0 --interpret --interpret-show-cst g.mly
 ~
 g.mly
@@ -193,8 +194,8 @@ fn orders_of_warnings(rt: HostRuntime) -> Result<(), Fail> {
     check_cases(&rt, rt.alloc(), ORDERS)
 }
 
-// The warnings are written before the first line is read and before anything is written on out. Where they cannot be
-// written, nothing else is.
+// The warnings are written before the first line is read and before anything is written to `out`. If they cannot be
+// written, nothing else is written.
 const FAILING: &str = "3 --interpret g.mly
 input 1
 ~

@@ -1,7 +1,7 @@
-//! Cases as one text: what is given and what is wanted of each, with `~` between the two and `^` between cases. Where files are
-//! given together, `#` stands between them.
+//! Test cases as one text. A case is its given text, `~`, and the wanted text; `^` is between cases. If several files
+//! are given, `#` is between them.
 ghost use Rattle.std.specs.Prelude.{IfOk};
-ghost use Rattle.mh_rules.specs.Ready.{IsModuleReady, AreModulesReady, IsReady};
+ghost use Rattle.mh_rules.specs.Ready.{IsModuleReady, AreModulesReady, IsJoinedReady};
 
 use crate::devices::{put_counts, put_lines, put_pieces, put_shelf, put_trickled};
 use crate::expanding::put_instances;
@@ -20,50 +20,51 @@ use mh_reader_parser::{Module, read_module};
 use std::alloc::Global;
 use std::test::Fail;
 
-/// What is told of each case.
+/// How the given text of a case is turned into the text to compare.
 #[derive(Clone, Copy)]
 pub enum Subject<'a> {
     /// The lexemes of a grammar file.
     Lexemes,
-    /// Whether a grammar file spells a module, which is printed as one that is printed alike.
+    /// Whether a grammar file spells a module, and whether printing this module and reading it again gives the same
+    /// text.
     Kept,
-    /// Whether a file of many brackets or suffixes spells a module.
+    /// Whether a grammar file of many brackets or suffixes spells a module.
     Depth,
-    /// What the module of a grammar file is printed as.
+    /// The printed module of a grammar file.
     Printed,
-    /// The costs of its tokens.
+    /// The costs of the tokens of a grammar file.
     Costs,
-    /// The costs of the tokens of what it is printed as.
+    /// The costs of the tokens in the printed module of a grammar file.
     CostsAgain,
-    /// What a line, or a messages file, is to a grammar with these starts.
+    /// A line or a messages file, read for a grammar with these start symbols.
     OfGrammar(Reading, &'a [u16]),
-    /// The order that words spell.
+    /// The order that the words spell, or the usage fault.
     Words,
-    /// What no words come to.
+    /// The order or the fault of an empty command line.
     NoWords,
     /// The lines of an input.
     Lines,
-    /// What becomes of pieces that are written, where a write fails.
+    /// The results of writing pieces, when a write fails.
     Pieces,
-    /// What a sink took of `abcd`.
+    /// The part of `abcd` that a sink accepted.
     Trickled,
-    /// What is read of a shelf by one call after the other.
+    /// The results of several reads from one shelf.
     Shelf,
-    /// How many bytes reads take.
+    /// The numbers of bytes that reads return.
     Counts,
-    /// The joined rules of files, and whether the prelude stands behind them.
+    /// The joined rules of files. The flag says whether the prelude is included.
     Joined(bool),
-    /// The instances of their rules, without the prelude.
+    /// The instances of the rules of files, without the prelude.
     Instances,
-    /// Their grammar, as it is inlined.
+    /// The inlined grammar of files, without the prelude.
     Grammar,
-    /// Their grammar, or what is told of their fault, and whether the prelude stands behind them.
+    /// The grammar of files, or the line that reports their fault. The flag says whether the prelude is included.
     Front(bool),
-    /// What is told where the front end lacks memory.
+    /// The line that reports that the front end ran out of memory.
     Memory,
 }
 
-/// Adds what is told of a case.
+/// Appends the text to compare for a case.
 fn put_answer(
     alloc: Global,
     text: &mut Vec<u8>,
@@ -95,7 +96,7 @@ fn put_answer(
     Ok(())
 }
 
-/// A fault that tells a text and where it was found.
+/// A failure with the found text and the given text of the case.
 fn unlike(alloc: Global, found: &[u8], at: &str) -> Fail {
     let found = str::from_utf8(found).unwrap_or("no text");
     match format!(in alloc; "{found:?} at {at:?}") {
@@ -104,12 +105,12 @@ fn unlike(alloc: Global, found: &[u8], at: &str) -> Fail {
     }
 }
 
-/// What a text has to be.
+/// What a text must be.
 #[derive(Clone, Copy)]
 pub enum Wanted<'a> {
-    /// This text.
+    /// Exactly this text.
     Whole(&'a str),
-    /// One of so many bytes, which begins so and ends so.
+    /// A text with this number of bytes, this beginning and this end.
     Ends(usize, &'a str, &'a str),
 }
 
@@ -123,7 +124,7 @@ fn is_wanted(found: &[u8], wanted: &Wanted) -> bool {
     }
 }
 
-/// Compares a text with what is wanted.
+/// Fails if a text is not the wanted one.
 fn check(alloc: Global, found: &[u8], wanted: &Wanted, at: &str) -> Result<(), Fail> {
     if is_wanted(found, wanted) {
         Ok(())
@@ -143,7 +144,7 @@ fn put_and_check(
     check(alloc, text, wanted, given)
 }
 
-/// Compares what is told of one case with what is wanted.
+/// Fails if the result of one case is not the wanted one.
 pub fn check_answer(
     alloc: Global,
     subject: &Subject,
@@ -156,7 +157,7 @@ pub fn check_answer(
     result
 }
 
-/// The same of files that were built, which it lets go.
+/// Does the same for files that were built by the test, and drops them.
 pub fn check_built(
     alloc: Global,
     subject: &Subject,
@@ -175,7 +176,7 @@ fn check_case(alloc: Global, subject: &Subject, case: &str) -> Result<(), Fail> 
     }
 }
 
-/// Compares what is told of each case, of so many, with what is wanted.
+/// Fails if the result of some case is not the wanted one, or if the number of cases is not `count`.
 pub fn check_cases(
     alloc: Global,
     subject: &Subject,
@@ -194,7 +195,7 @@ pub fn check_cases(
     }
 }
 
-/// The module of a short file.
+/// The module of a short grammar file.
 fn module_of(alloc: Global, file: &str) -> Result<Module, Fail>
     ensures { IfOk result IsModuleReady }
 {
@@ -207,7 +208,7 @@ fn module_of(alloc: Global, file: &str) -> Result<Module, Fail>
     }
 }
 
-/// The modules of short files, which all spell one.
+/// The modules of short grammar files. Fails if one of them spells no module.
 pub fn modules_of(alloc: Global, files: &str) -> Result<Vec<Module>, Fail>
     ensures { IfOk result (λ modules. AreModulesReady modules.items) }
 {
@@ -218,9 +219,9 @@ pub fn modules_of(alloc: Global, files: &str) -> Result<Vec<Module>, Fail>
     Ok(modules)
 }
 
-/// The rules of files that have no fault so far.
+/// The joined rules of files. Fails if the files have a fault.
 pub fn joined_of(alloc: Global, files: &str, prelude: bool) -> Result<Joined, Fail>
-    ensures { IfOk result IsReady }
+    ensures { IfOk result IsJoinedReady }
 {
     let modules = modules_of(alloc, files)?;
     let joined = join(alloc, modules.as_slice(), prelude);
@@ -232,7 +233,7 @@ fn put_byte(out: &mut Vec<u8>, byte: u8) {
     let _ = out.push(byte);
 }
 
-/// A number below 10 as its digit, and a greater one as `?`.
+/// The digit of a number below 10, and `?` for a greater number.
 pub fn digit(number: u64) -> u8 {
     if number < 10 {
         b'0' + number as u8
@@ -245,7 +246,7 @@ pub fn push_digit(out: &mut Vec<u8>, number: u64) {
     put_byte(out, digit(number));
 }
 
-/// Adds a number.
+/// Appends a number.
 pub fn put_number(alloc: Global, text: &mut Vec<u8>, number: u64) {
     if let Ok(digits) = format!(in alloc; "{number}") {
         put(text, digits.as_bytes());
@@ -253,7 +254,7 @@ pub fn put_number(alloc: Global, text: &mut Vec<u8>, number: u64) {
     }
 }
 
-/// A number below 100.
+/// Appends a number below 100.
 pub fn push_number(out: &mut Vec<u8>, number: u64) {
     if number >= 10 {
         push_digit(out, number / 10);
@@ -261,21 +262,21 @@ pub fn push_number(out: &mut Vec<u8>, number: u64) {
     push_digit(out, number % 10);
 }
 
-/// The kind of a fault, and the name that it tells.
+/// Appends the kind of a fault and its name.
 pub fn push_named(out: &mut Vec<u8>, kind: u8, name: &Name) {
     put_byte(out, kind);
     put(out, b" ");
     put(out, name.as_slice());
 }
 
-/// `%`, the file of a level and its rank.
+/// Appends `%`, the file of a level and its rank.
 pub fn push_level(out: &mut Vec<u8>, level: Level) {
     put(out, b"%");
     push_digit(out, level.file);
     push_digit(out, level.rank);
 }
 
-/// What a `%prec` gives: a level, or `-` for none.
+/// Appends the level of a `%prec`, or `-` if it gives no level.
 pub fn push_prec(out: &mut Vec<u8>, prec: Prec) {
     match prec {
         Prec::Absent => {}
@@ -284,7 +285,7 @@ pub fn push_prec(out: &mut Vec<u8>, prec: Prec) {
     }
 }
 
-/// A token `t0`, or a nonterminal `n0`.
+/// Appends a token as `t0`, or a nonterminal as `n0`, with its number.
 pub fn push_symbol(out: &mut Vec<u8>, symbol: Symbol) {
     let (kind, number) = match symbol {
         Symbol::T(number) => (b"t", number),

@@ -1,4 +1,4 @@
-//! Devices in memory: what is read of them and written to them, where each call fails in turn.
+//! Tests of the devices in memory: what is read from them and written to them when each call fails in turn.
 ghost use Rattle.std.specs.Prelude.{◌≡◌, IfOk, Some};
 ghost use Rattle.mh_outside.specs.Fakes.{sink_written, sink_calls};
 
@@ -11,7 +11,7 @@ use mh_outside::{
 use std::alloc::{AllocError, Global};
 use std::test::Fail;
 
-/// Some numbers. Where memory is out there are none, and something else happens than what is wanted.
+/// A list of numbers. It is empty if memory runs out, and then the case fails.
 fn calls(alloc: Global, numbers: &[u64]) -> Vec<u64> {
     let mut calls = Vec::new(alloc);
     let _ = calls.extend_from_slice(numbers);
@@ -24,7 +24,8 @@ fn source(alloc: Global, bytes: &[u8], fails: &[u64]) -> MemSource {
     MemSource::new(input, calls(alloc, fails))
 }
 
-/// Adds a line of the input behind a `>`, or a `!` where a read failed, or `+` where a line was too big. Whether there was one.
+/// Appends `>` and the next line of the input, or `!` if a read failed, or `+` if the line was too long. Returns false
+/// at the end of the input.
 fn push_line(alloc: Global, text: &mut Vec<u8>, input: &mut MemSource, limit: usize) -> bool {
     match read_line(alloc, input, limit) {
         Ok(None) => return false,
@@ -39,7 +40,7 @@ fn push_line(alloc: Global, text: &mut Vec<u8>, input: &mut MemSource, limit: us
     true
 }
 
-/// Adds the lines of an input.
+/// Appends all lines of an input.
 fn put_read_lines(alloc: Global, text: &mut Vec<u8>, input: &mut MemSource, limit: usize) {
     for _ in 0..9 {
         if !push_line(alloc, text, input, limit) {
@@ -48,7 +49,8 @@ fn put_read_lines(alloc: Global, text: &mut Vec<u8>, input: &mut MemSource, limi
     }
 }
 
-/// Adds the lines of bytes, before which there are the limit of a line and the number of the read that fails.
+/// Appends the lines of an input. The given text is the limit of a line, the number of the read that fails, and the
+/// bytes.
 pub fn put_lines(alloc: Global, text: &mut Vec<u8>, given: &str) {
     let (limit, given) = given.split_once(' ').unwrap_or(("", given));
     let (fail, bytes) = given.split_once(' ').unwrap_or(("", given));
@@ -57,8 +59,9 @@ pub fn put_lines(alloc: Global, text: &mut Vec<u8>, given: &str) {
     drop(input);
 }
 
-/// The limit of a line, the number of the read that fails, or 0, and the bytes, with `~` before what is read and `^` between cases. The
-/// bytes that were got of a line whose read fails are lost, and the next call goes on behind them.
+/// The limit of a line in bytes, the number of the read that fails (0 for none) and the bytes; `~` is before the result
+/// and `^` between cases. If a read fails, the bytes of the line that were already read are lost, and the next call
+/// continues after them.
 const LINES: &str = "9 0 ~^\
      9 0 \n~>^\
      9 0 ab~>ab^\
@@ -75,7 +78,7 @@ const LINES: &str = "9 0 ~^\
      9 6 ab\nc~>ab>c!^\
      9 7 ab\nc~>ab>c";
 
-/// Writes a piece, and adds `+` where it is taken whole, and `!` where a write fails.
+/// Writes a piece, and appends `+` if the whole piece was written and `!` if a write failed.
 fn put_write<S: Sink>(text: &mut Vec<u8>, sink: &mut S, piece: &[u8]) {
     put(
         text,
@@ -86,7 +89,7 @@ fn put_write<S: Sink>(text: &mut Vec<u8>, sink: &mut S, piece: &[u8]) {
     );
 }
 
-/// Adds what becomes of pieces where the second write fails, and what was written.
+/// Appends the results of writing several pieces when the second write fails, and then the bytes that were written.
 pub fn put_pieces(alloc: Global, text: &mut Vec<u8>) {
     let mut sink = MemSink::new(alloc, calls(alloc, &[2]));
     for piece in [b"ab".as_slice(), b"cd", b"", b"ef"] {
@@ -96,13 +99,13 @@ pub fn put_pieces(alloc: Global, text: &mut Vec<u8>) {
     drop(sink);
 }
 
-/// A sink that takes one byte a call.
+/// A sink that accepts one byte with each call.
 #[derive(Drop)]
-struct Trickle {
+struct OneByteSink {
     sink: MemSink,
 }
 
-impl Sink for Trickle {
+impl Sink for OneByteSink {
     ghost written = { λ s. Some (sink_written s.sink) };
 
     ghost faults = { λ s. (sink_calls s.sink).faults };
@@ -112,10 +115,10 @@ impl Sink for Trickle {
     }
 }
 
-/// Adds what was written of `abcd` where a write fails, behind a `!` where not all was.
+/// Appends the bytes of `abcd` that were written when one write fails, after `!` if some are missing.
 pub fn put_trickled(alloc: Global, text: &mut Vec<u8>, fail: &str) {
     let fails = calls(alloc, &[fail.parse().unwrap_or(99)]);
-    let mut trickle = Trickle {
+    let mut trickle = OneByteSink {
         sink: MemSink::new(alloc, fails),
     };
     if write_whole(&mut trickle, b"abcd").is_err() {
@@ -125,7 +128,7 @@ pub fn put_trickled(alloc: Global, text: &mut Vec<u8>, fail: &str) {
     drop(trickle);
 }
 
-/// Each of four short writes fails in turn, and the bytes before it were written.
+/// Each of four short writes fails in turn. The bytes before the failing one are written.
 const WRITES: &str = "1~!^2~!a^3~!ab^4~!abc^5~abcd";
 
 fn file(alloc: Global, name: &[u8], bytes: &[u8]) -> Result<(Vec<u8>, Vec<u8>), AllocError>
@@ -152,7 +155,7 @@ fn fault_name(fault: ShelfFault) -> &'static [u8] {
     }
 }
 
-/// Adds the bytes of a file, or the fault.
+/// Appends the bytes of a file, or the fault.
 fn put_file(alloc: Global, text: &mut Vec<u8>, shelf: &mut MemShelf, name: &[u8], limit: usize) {
     match shelf.read_file(alloc, name, limit) {
         Ok(bytes) => {
@@ -163,17 +166,17 @@ fn put_file(alloc: Global, text: &mut Vec<u8>, shelf: &mut MemShelf, name: &[u8]
     }
 }
 
-/// The file and the limit, with `~` before what is read and `^` between the calls.
+/// The name of a file and the size limit in bytes, with `~` before the result and `^` between the calls.
 const READS: &str = "g 5~HELLO^g 4~too big^g 5~failed^i 5~absent^h 0~";
 
-/// Adds what is read by a call.
+/// Appends the result of one read.
 fn put_read(alloc: Global, text: &mut Vec<u8>, shelf: &mut MemShelf, given: &str) {
     let (name, limit) = given.split_once(' ').unwrap_or(("", ""));
     let limit = limit.parse().unwrap_or(0);
     put_file(alloc, text, shelf, name.as_bytes(), limit);
 }
 
-/// Adds a call again, with what is read now behind its `~`.
+/// Appends the given text of a call again, with the result of the call after `~`.
 fn put_call(alloc: Global, text: &mut Vec<u8>, shelf: &mut MemShelf, case: &str) {
     let (given, _) = case.split_once('~').unwrap_or(("", ""));
     put(text, if text.is_empty() { b"" } else { b"^" });
@@ -182,7 +185,7 @@ fn put_call(alloc: Global, text: &mut Vec<u8>, shelf: &mut MemShelf, case: &str)
     put_read(alloc, text, shelf, given);
 }
 
-/// Adds calls of one shelf again, with what is read behind each.
+/// Appends all calls to one shelf again, each with its result.
 pub fn put_shelf(alloc: Global, text: &mut Vec<u8>, cases: &str) -> Result<(), Fail> {
     let mut shelf = shelf(alloc)?;
     for case in cases.split('^') {
@@ -192,7 +195,7 @@ pub fn put_shelf(alloc: Global, text: &mut Vec<u8>, cases: &str) -> Result<(), F
     Ok(())
 }
 
-/// Reads, and adds how many bytes came, or `!` where the read fails.
+/// Reads, and appends the number of bytes, or `!` if the read fails.
 fn put_count(text: &mut Vec<u8>, input: &mut MemSource, buf: &mut [u8; 2]) {
     match input.read(buf) {
         Ok(count) => put(text, &[digit(count as u64)]),
@@ -200,8 +203,8 @@ fn put_count(text: &mut Vec<u8>, input: &mut MemSource, buf: &mut [u8; 2]) {
     }
 }
 
-/// Adds what four reads come to, and what is in their room then. A read takes as much as there is room for, and 0 comes at the end
-/// alone.
+/// Appends the results of four reads, and the final content of the buffer. A read returns as many bytes as fit into the
+/// buffer, and 0 only at the end.
 pub fn put_counts(alloc: Global, text: &mut Vec<u8>) {
     let mut input = source(alloc, b"abc", &[2]);
     let mut buf = [0u8; 2];

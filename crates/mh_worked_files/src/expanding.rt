@@ -1,6 +1,6 @@
-//! Files and the instances of their rules, worked out by hand.
+//! Grammar files and the instances of their rules, worked out by hand.
 ghost use Rattle.std.specs.Prelude.{IfOk};
-ghost use Rattle.mh_rules.specs.Ready.{IsReady};
+ghost use Rattle.mh_rules.specs.Ready.{IsJoinedReady};
 ghost use Rattle.mh_expand.specs.Expansion.{IsFirstFault};
 
 use crate::cases::{
@@ -52,7 +52,7 @@ fn push_instance(out: &mut Vec<u8>, instance: &Instance) {
     put(out, b";");
 }
 
-/// The starts and the instances in short.
+/// Appends the starts and the instances in a short notation.
 fn push_expanded(out: &mut Vec<u8>, expanded: &Expanded) {
     for start in expanded.starts.as_slice() {
         put(out, b">");
@@ -72,9 +72,9 @@ fn push_fault(out: &mut Vec<u8>, fault: &ExpandFault) {
     }
 }
 
-/// Adds the instances of the rules, or their fault.
+/// Appends the instances of the rules, or their fault.
 fn push_answer(alloc: Global, out: &mut Vec<u8>, joined: &Joined)
-    requires { IsReady joined.now }
+    requires { IsJoinedReady joined.now }
 {
     match expand(alloc, joined) {
         Ok(expanded) => {
@@ -88,17 +88,18 @@ fn push_answer(alloc: Global, out: &mut Vec<u8>, joined: &Joined)
     }
 }
 
-/// Files and their instances.
+/// Grammar files and their instances.
 ///
-/// A fault is `A INSTANCE` (arity) or `E NAME` (expansion). Else there is `>` and the instance of each start, `:`, and each
-/// instance with `;` behind it: its printed name, `!` where it is inline, `<` and its rank where an on-error declaration
-/// names it, and each alternative as `|FILE.PLACE`, its producers (a token `t0`, an instance `i0`), and what its `%prec`
-/// gives. A level is `%`, its file and its rank; `-` is a `%prec` without a level.
+/// A fault is `A INSTANCE` (a wrong number of arguments) or `E NAME` (endless expansion). Otherwise the result is `>`
+/// and the instance of each start symbol, `:`, and each instance followed by `;`. An instance is its printed name, `!`
+/// if it is inline, `<` and its rank if an on-error declaration names it, and each alternative as `|FILE.PLACE`, its
+/// producers (a token `t0`, an instance `i0`), and the level of its `%prec`. A level is `%`, its file and its rank; `-`
+/// is a `%prec` without a level.
 ///
-/// In the last three instances come without end. The name of `p` with k options around A has 8k + 4 bytes. Where the name
-/// of an argument has n bytes, that of the next one has 2n + 4, so the ninth is the first with more than 1,000. The names of
-/// `t` have at most 46 bytes: k letters `a` or `b` around A make 3k + 4, and 2^(k + 1) instances have at most k, the start
-/// among them, so the 20,001st has k = 14.
+/// In the last three files the expansion has no end. The name of `p` with k options around A has 8k + 4 bytes. If the
+/// name of an argument has n bytes, the name of the next argument has 2n + 4, so the ninth is the first with more than
+/// 1,000. The names of `t` have at most 46 bytes: k letters `a` or `b` around A make 3k + 4, and 2^(k + 1) instances
+/// have at most k letters, the start among them, so the 20,001st has k = 14.
 fn cases() -> &'static str {
     "%token A B EOF %start s %% s: option(A) option(B) option(A) EOF {} option(x): {} | x {}~\
      >0:s|1.0 i1 i2 i1 t2;option(A)|1.1|1.2 t0;option(B)|1.1|1.2 t1;^\
@@ -123,7 +124,7 @@ fn cases() -> &'static str {
      %token A %start s %% s: t(A) {} t(x): t(a(x)) t(b(x)) {} a(x): {} b(x): {}~E t"
 }
 
-/// Adds the instances of the rules of a file, or their fault.
+/// Appends the instances of the rules of a file, or their fault.
 pub fn put_instances(alloc: Global, text: &mut Vec<u8>, file: &str) -> Result<(), Fail> {
     let joined = joined_of(alloc, file, false)?;
     push_answer(alloc, text, &joined);
@@ -131,7 +132,7 @@ pub fn put_instances(alloc: Global, text: &mut Vec<u8>, file: &str) -> Result<()
     Ok(())
 }
 
-/// A file whose one rule has a name of so many letters.
+/// A grammar file whose only rule has a name of `count` letters.
 fn file_of_letters(alloc: Global, count: usize) -> String {
     let mut file = String::new(alloc);
     let _ = file.push_str("%start ");
@@ -158,7 +159,8 @@ fn check_letters(alloc: Global, count: usize, length: usize, front: &str) -> Res
     )
 }
 
-/// The term with eight pairs in one another has 1,276 bytes, and `i` has one argument too few.
+/// The term with eight nested pairs has 1,276 bytes, and `i` has one argument too few. The wrong number of arguments is
+/// reported before the endless expansion.
 fn check_arity_before_expansion(alloc: Global) -> Result<(), Fail> {
     let text = "%token A %start s %% s: a(A) {} a(x): b(p(x, x)) {} b(x): c(p(x, x)) {} \
                 c(x): d(p(x, x)) {} d(x): e(p(x, x)) {} e(x): f(p(x, x)) {} f(x): g(p(x, x)) {} \
@@ -169,7 +171,7 @@ fn check_arity_before_expansion(alloc: Global) -> Result<(), Fail> {
 }
 
 fn check_expansion(alloc: Global, joined: &Joined) -> Result<(), Fail>
-    requires { IsReady joined.now }
+    requires { IsJoinedReady joined.now }
 {
     let expanded = expand(alloc, joined)?;
     is_one_expansion(joined, &expanded, &expanded);
@@ -184,9 +186,9 @@ fn check_one_expansion(alloc: Global) -> Result<(), Fail> {
     result
 }
 
-/// The fault of rules that is an arity.
+/// The fault of rules with a wrong number of arguments.
 fn arity_of(alloc: Global, joined: &Joined) -> Result<ExpandFault, Fail>
-    requires { IsReady joined.now }
+    requires { IsJoinedReady joined.now }
     ensures { IfOk result (IsFirstFault joined.now) }
 {
     let Err(ExpandFault::Arity { instance }) = expand(alloc, joined) else {
@@ -196,7 +198,7 @@ fn arity_of(alloc: Global, joined: &Joined) -> Result<ExpandFault, Fail>
 }
 
 fn check_fault(alloc: Global, joined: &Joined) -> Result<(), Fail>
-    requires { IsReady joined.now }
+    requires { IsJoinedReady joined.now }
 {
     let fault = arity_of(alloc, joined)?;
     is_one_fault(joined, &fault, &fault);

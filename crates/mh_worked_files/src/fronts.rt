@@ -1,4 +1,4 @@
-//! Files and their grammars or faults, worked out by hand.
+//! Grammar files and their grammars or faults, worked out by hand.
 ghost use Rattle.mh_rules.specs.Ready.{AreModulesReady};
 
 use crate::cases::{
@@ -21,7 +21,7 @@ fn push_production(out: &mut Vec<u8>, production: &Production) {
     }
 }
 
-/// The tokens, the nonterminals, the starts and the productions in short.
+/// Appends the tokens, the nonterminals, the start symbols and the productions in a short notation.
 fn push_grammar(out: &mut Vec<u8>, grammar: &Grammar) {
     for token in grammar.tokens.as_slice() {
         put(out, token.name.as_slice());
@@ -40,7 +40,7 @@ fn push_grammar(out: &mut Vec<u8>, grammar: &Grammar) {
     }
 }
 
-/// Adds what is told of a fault.
+/// Appends the line that reports a fault.
 pub fn put_line(alloc: Global, text: &mut Vec<u8>, fault: &GrammarFault) {
     if let Ok(line) = fault_line(alloc, fault) {
         put(text, &line);
@@ -63,7 +63,7 @@ fn put_answer(alloc: Global, text: &mut Vec<u8>, modules: &[Module], prelude: bo
     }
 }
 
-/// Adds the grammar of files in short, or what is told of its fault.
+/// Appends the grammar of files in a short notation, or the line that reports their fault.
 pub fn put_front(
     alloc: Global,
     text: &mut Vec<u8>,
@@ -76,7 +76,7 @@ pub fn put_front(
     Ok(())
 }
 
-/// Files and what is told of them.
+/// Grammar files and their grammars or faults.
 fn cases() -> &'static str {
     "%start s %% s: A {}~undefined: A^\
      %token A %start s %% s: A {} t: A {} t: A {}~duplicate: t^\
@@ -114,7 +114,7 @@ fn check_many_tokens(alloc: Global) -> Result<(), Fail> {
     check_built(alloc, &Subject::Front(true), text, &wanted)
 }
 
-/// Inline rules that double: the last has 2^14 symbols.
+/// Appends inline rules of which each doubles the one before; the last has 2^14 symbols.
 fn push_doubles(text: &mut String) {
     let _ = text.push_str("%token A %start s %% s: x14 {} %inline x0: A {}");
     for number in 1..15u16 {

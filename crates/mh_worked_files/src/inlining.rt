@@ -1,4 +1,4 @@
-//! Files and the grammars that they give, worked out by hand.
+//! Grammar files and their inlined grammars, worked out by hand.
 ghost use Rattle.std.specs.Prelude.{IfOk};
 ghost use Rattle.mh_rules.specs.Ready.{IsExpandedReady};
 
@@ -12,7 +12,7 @@ use mh_inline::{InlineFault, inline_rules, is_grammar_or_fault, is_one_fault, is
 use std::alloc::Global;
 use std::test::Fail;
 
-/// The instances of files that have no fault so far.
+/// The instances of the rules of files. Fails if the files have a fault.
 fn expanded_of(alloc: Global, files: &str) -> Result<Expanded, Fail>
     ensures { IfOk result IsExpandedReady }
 {
@@ -43,7 +43,7 @@ fn push_nonterminal(out: &mut Vec<u8>, nonterminal: &NontermInfo) {
     }
 }
 
-/// The starts, the nonterminals and the productions in short.
+/// Appends the start symbols, the nonterminals and the productions in a short notation.
 fn push_grammar(out: &mut Vec<u8>, grammar: &Grammar) {
     for start in grammar.starts.as_slice() {
         put(out, b">");
@@ -68,7 +68,7 @@ fn push_fault(out: &mut Vec<u8>, fault: &InlineFault) {
     }
 }
 
-/// Adds the grammar of the instances, or their fault.
+/// Appends the grammar of the instances, or their fault.
 fn push_answer(alloc: Global, out: &mut Vec<u8>, expanded: &Expanded)
     requires { IsExpandedReady expanded.now }
 {
@@ -84,9 +84,9 @@ fn push_answer(alloc: Global, out: &mut Vec<u8>, expanded: &Expanded)
     }
 }
 
-/// Files and their grammars.
+/// Grammar files and their grammars.
 ///
-/// The two cases of too many productions have 8^5 of them, and one of 2^14 symbols.
+/// The two cases with too many productions have 8^5 productions, and one production of 2^14 symbols.
 fn cases() -> &'static str {
     "%token A B %start s %% s: x x {} %inline x: A {} | B {}~\
      >0 s:0 t0 t0;0 t0 t1;0 t1 t0;0 t1 t1;^\
@@ -119,7 +119,7 @@ fn cases() -> &'static str {
      %token A %start s t %% s: A {} t: t A {}~E t"
 }
 
-/// Adds the grammar of files, or their fault.
+/// Appends the grammar of files, or their fault.
 pub fn put_grammar(alloc: Global, text: &mut Vec<u8>, files: &str) -> Result<(), Fail> {
     let expanded = expanded_of(alloc, files)?;
     push_answer(alloc, text, &expanded);

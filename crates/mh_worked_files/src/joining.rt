@@ -1,4 +1,4 @@
-//! Files and what they give together, worked out by hand.
+//! Grammar files and their joined rules, worked out by hand.
 ghost use Rattle.mh_rules.specs.Ready.{AreModulesReady};
 
 use crate::cases::{
@@ -68,7 +68,7 @@ fn push_rule(out: &mut Vec<u8>, rule: &JoinedRule) {
     put(out, b";");
 }
 
-/// Whether a rule is the prelude's and has its own name.
+/// Returns true if a rule is one of the prelude and is printed by its plain name.
 fn is_plain_prelude(rule: &JoinedRule) -> bool {
     let mut is_of_files = rule.alternatives.is_empty();
     for alternative in rule.alternatives.as_slice() {
@@ -80,7 +80,8 @@ fn is_plain_prelude(rule: &JoinedRule) -> bool {
     !is_of_files
 }
 
-/// The tokens, starts, on-error declarations and rules in short. Of the prelude's rules only those that a file's hide.
+/// Appends the tokens, start symbols, on-error declarations and rules in a short notation. Of the rules of the prelude,
+/// only those that a rule of a file hides are appended.
 fn push_joined(out: &mut Vec<u8>, joined: &Joined) {
     for token in joined.tokens.as_slice() {
         put(out, token.name.as_slice());
@@ -125,7 +126,7 @@ fn push_fault(out: &mut Vec<u8>, fault: &JoinFault) {
     }
 }
 
-/// Adds what the files give, or their fault.
+/// Appends the joined rules of the files, or their fault.
 fn push_answer(alloc: Global, out: &mut Vec<u8>, modules: &[Module], prelude: bool)
     requires { AreModulesReady modules.now }
 {
@@ -141,14 +142,14 @@ fn push_answer(alloc: Global, out: &mut Vec<u8>, modules: &[Module], prelude: bo
     }
 }
 
-/// Files without the prelude, and what they give.
+/// Grammar files without the prelude, and their joined rules.
 ///
-/// A fault is `U NAME` (undefined), `D NAME` (duplicate), `L NAME` (unknown level), `no start`, `error` or `too many COUNT`.
-/// Else there is each token with a space behind it, `>` and the rule of each start, `<` and the actuals of each on-error
-/// declaration, `:`, and each rule with `;` behind it. A rule is its printed name, `!` where it is inline, how many formals
-/// it has, and each alternative as `|FILE.PLACE`, its producers, and what its `%prec` gives. An actual is a formal `f0`, a
-/// token `t0` or a rule `r0`, with its actuals in brackets. A level is `%`, its file and its rank; `-` is a `%prec` without
-/// a level.
+/// A fault is `U NAME` (undefined), `D NAME` (duplicate), `L NAME` (unknown level), `no start`, `error` or `too many
+/// COUNT`. Otherwise the result is each token and a space, `>` and the rule of each start symbol, `<` and the actuals
+/// of each on-error declaration, `:`, and each rule followed by `;`. A rule is its printed name, `!` if it is inline,
+/// the number of its formals, and each alternative as `|FILE.PLACE`, its producers, and the level of its `%prec`. An
+/// actual is a formal `f0`, a token `t0` or a rule `r0`, with its own actuals in brackets. A level is `%`, its file and
+/// its rank; `-` is a `%prec` without a level.
 fn cases() -> &'static str {
     "%token A EOF %start s %% s: A EOF {}~A EOF >0:s0|1.0 t0 t1;^\
      %% s: {}~no start^\
@@ -221,8 +222,8 @@ fn cases() -> &'static str {
      %start s %left \"a\" %% s: \"a\" {}#%token A \"a\" %%~A%10 >0:s0|1.0 t0;"
 }
 
-/// The same with the prelude. Its rules stand behind those of the files: `option` first, `list` and `nonempty_list` as the
-/// tenth and eleventh.
+/// Grammar files with the prelude. The rules of the prelude come after those of the files: `option` is the first of
+/// them, `list` and `nonempty_list` are the tenth and the eleventh.
 fn cases_with_prelude() -> &'static str {
     "%token A %start s %% s: A? A* A+ {}~A >0:s0|1.0 r1(t0) r10(t0) r11(t0);^\
      %start option %%~U option^\
@@ -246,7 +247,7 @@ fn cases_with_prelude() -> &'static str {
      %token X %start s %% s: {} option(Y): Y {}~X >0:s0|1.0;option1|1.1 f0;option@01|0.0|0.1 f0;"
 }
 
-/// Adds what files give.
+/// Appends the joined rules of files, or their fault.
 pub fn put_joined(
     alloc: Global,
     text: &mut Vec<u8>,
@@ -304,7 +305,7 @@ fn check_one_fault(alloc: Global) -> Result<(), Fail> {
     result
 }
 
-/// Adds 512 tokens and a text.
+/// Appends the declaration of 512 tokens, and a text.
 fn push_tokens(texts: &mut String, more: &str) {
     let _ = texts.push_str("%token");
     for first in 'A'..='P' {
@@ -315,7 +316,8 @@ fn push_tokens(texts: &mut String, more: &str) {
     let _ = texts.push_str(more);
 }
 
-/// Text behind 512 tokens, and how many bytes its answer has and what they end with; `~` between these, and `^` between cases.
+/// A text after the declaration of 512 tokens, the number of bytes of the result, and the end of the result; `~` is
+/// between these three, and `^` between cases.
 const COUNTS: &str = " %start s %% s: {}~1802~Pp_ >0:s0|1.0;^\
      \x20Z %start s %% s: {}~12~too many 513^\
      \x20Z Aa Z Y %start s %% s: {}~12~too many 514^\
@@ -323,7 +325,7 @@ const COUNTS: &str = " %start s %% s: {}~1802~Pp_ >0:s0|1.0;^\
      \x20%start s %% s: {}#%token Pp_ Z Aa %%~12~too many 513^\
      \x20Z %start s %% s: {} %prec y~3~L y";
 
-/// Adds 512 tokens and a text, and compares what the files give.
+/// Fails if the joined rules of 512 tokens and a text are not the wanted ones.
 fn check_behind(alloc: Global, more: &str, wanted: &Wanted) -> Result<(), Fail> {
     let mut files = String::new(alloc);
     push_tokens(&mut files, more);
@@ -338,7 +340,7 @@ fn check_count(alloc: Global, case: &str) -> Result<(), Fail> {
     check_behind(alloc, more, &Wanted::Ends(length, "", end))
 }
 
-/// Each of 256 pairs of tokens is 7 bytes of the answer.
+/// Each of the 256 pairs of tokens takes 7 bytes of the result.
 fn check_counts(alloc: Global) -> Result<(), Fail> {
     for case in COUNTS.split('^') {
         check_count(alloc, case)?;
@@ -346,7 +348,7 @@ fn check_counts(alloc: Global) -> Result<(), Fail> {
     Ok(())
 }
 
-/// The prelude as a file.
+/// The prelude as a grammar file.
 fn prelude_text() -> &'static str {
     "%%\n\
      %public option(X): {} | X {}\n\
@@ -401,7 +403,7 @@ fn push_source_alternative(out: &mut Vec<u8>, alternative: &Alternative) {
     }
 }
 
-/// Everything that a rule holds, each part with an end of its own.
+/// Appends all parts of a rule, each with a separator.
 fn push_source(out: &mut Vec<u8>, rule: &Rule) {
     put(out, if rule.public { b"p" } else { b"o" });
     put(out, if rule.inlined { b"i" } else { b"o" });
@@ -433,7 +435,7 @@ fn are_same(alloc: Global, found: &[Rule], rules: &[Rule]) -> bool {
     are_same
 }
 
-/// Whether a file has no declarations, and the rules of the prelude.
+/// Returns true if a module has no declarations, and has exactly the rules of the prelude.
 fn is_prelude(alloc: Global, found: &Module) -> bool {
     let has_no_tokens = found.tokens.is_empty() & found.starts.is_empty();
     let has_no_levels = found.levels.is_empty() & found.on_error.is_empty();

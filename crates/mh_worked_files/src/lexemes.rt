@@ -22,7 +22,7 @@ fn letter_of(kind: Kind) -> u8 {
     }
 }
 
-/// Puts in the letters of a lexeme: that of its kind, a capital where it begins.
+/// Writes the letter of a lexeme's kind at each of its bytes, a capital letter at the first.
 fn put_letters(letters: &mut Vec<u8>, lexeme: &Lexeme) {
     let first = letter_of(lexeme.kind);
     for place in lexeme.start..lexeme.end {
@@ -36,7 +36,7 @@ fn put_letters(letters: &mut Vec<u8>, lexeme: &Lexeme) {
     }
 }
 
-/// Puts in the letters of each lexeme, and a dot for each byte that is dropped.
+/// Writes the letters of all lexemes, and a dot for each byte that belongs to none.
 fn put_all_letters(letters: &mut Vec<u8>, size: usize, lexemes: &[Lexeme]) {
     let _ = letters.resize(size, b'.');
     for lexeme in lexemes {
@@ -44,7 +44,7 @@ fn put_all_letters(letters: &mut Vec<u8>, size: usize, lexemes: &[Lexeme]) {
     }
 }
 
-/// A letter for each byte of a short file. Where bytes are refused, `!` and the line's digit.
+/// Appends a letter for each byte of a short file, or `!` and the digit of the line if the file has a fault.
 pub fn put_lexemes(alloc: Global, letters: &mut Vec<u8>, bytes: &[u8]) {
     if bytes.len() >= 1000 {
         return put(letters, b"long");
@@ -59,7 +59,7 @@ pub fn put_lexemes(alloc: Global, letters: &mut Vec<u8>, bytes: &[u8]) {
     }
 }
 
-/// Files and what is shown of them, with `~` between the two and `^` between cases.
+/// Grammar files and the letters of their bytes, with `~` between the two and `^` between cases.
 fn cases() -> &'static str {
     "~^\
      _a1'B~Wwwww^\

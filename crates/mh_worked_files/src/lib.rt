@@ -1,6 +1,6 @@
-//! Worked examples of what files, lines and words are to the tool: devices (real ones too), lexemes, modules, sentence lines, messages
-//! files and the words of the command line; and of what grammar files give: joined rules, instances, inlined grammars, and the
-//! front end as a whole. Each answer was worked out by hand.
+//! Worked examples of files, lines and words: devices (also real ones), lexemes, modules, sentence lines, messages
+//! files and the words of the command line; and of what is made of grammar files: joined rules, instances, inlined
+//! grammars, and the grammars of the whole front end. Each result was worked out by hand.
 #![tactic(auto)]
 
 mod filling;

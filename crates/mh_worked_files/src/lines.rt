@@ -1,4 +1,4 @@
-//! Lines and what they are, worked out by hand.
+//! Sentence lines and how they are read, worked out by hand.
 ghost use Rattle.std.specs.Prelude.{◌<◌, ◌^◌, length};
 ghost use Rattle.mh_grammar.specs.Plain.{plain_of, IsInRange};
 
@@ -37,8 +37,8 @@ fn add_starts(grammar: &mut Grammar, starts: &[u16]) {
     }
 }
 
-/// A grammar of the tokens `A`, `B'` and `EOF` and the nonterminals `r` and `s`, with these starts. Where memory is out it lacks
-/// some of them, and no answer is what is wanted.
+/// A grammar with the tokens `A`, `B'` and `EOF`, the nonterminals `r` and `s`, and these start symbols. If memory runs
+/// out, the grammar lacks some of them, and the case fails.
 fn sample(alloc: Global, starts: &[u16]) -> Grammar {
     let mut grammar = Grammar {
         tokens: Sequence::new(alloc),
@@ -61,7 +61,7 @@ pub fn put_both(text: &mut Vec<u8>, front: &str, name: &[u8]) {
     put(text, name);
 }
 
-/// The digits of a sentence's start and, behind a colon, of its tokens.
+/// Appends the digit of a sentence's start, a colon, and the digits of its tokens.
 fn put_digits(text: &mut Vec<u8>, sentence: &Sentence) {
     put(text, &[digit(u64::from(sentence.start)), b':']);
     for token in sentence.tokens.as_slice() {
@@ -69,7 +69,7 @@ fn put_digits(text: &mut Vec<u8>, sentence: &Sentence) {
     }
 }
 
-/// Adds the digits of a line's sentence, or its fault, with the name.
+/// Appends the digits of the sentence of a line, or its fault with the name.
 fn put_sentence(alloc: Global, text: &mut Vec<u8>, grammar: &Grammar, line: &[u8])
     requires { IsInRange (plain_of grammar.now) }
 {
@@ -95,14 +95,14 @@ fn put_fault(text: &mut Vec<u8>, fault: &SentenceFault) {
     }
 }
 
-/// What is told of bytes.
+/// What is read from the bytes of a case.
 #[derive(Clone, Copy)]
 pub enum Reading {
     /// The sentence of a line.
     Sentence,
-    /// The text that a messages file is printed as.
+    /// The printed text of a messages file.
     Printed,
-    /// The sentences of a messages file alone.
+    /// The sentences of a messages file.
     Echoed,
 }
 
@@ -117,7 +117,7 @@ fn put_read(alloc: Global, text: &mut Vec<u8>, grammar: &Grammar, reading: Readi
     }
 }
 
-/// Adds what bytes are to the grammar with these starts.
+/// Appends what is read from the bytes, for the grammar with these start symbols.
 pub fn put_reading(
     alloc: Global,
     text: &mut Vec<u8>,
@@ -134,7 +134,7 @@ pub fn put_reading(
     drop(grammar);
 }
 
-/// Lines where `s` is the only start, with `~` before what they are and `^` between cases.
+/// Lines for a grammar whose only start symbol is `s`, with `~` before the result and `^` between cases.
 const OF_ONE_START: &str = "~0:^\
      \u{20}\t\r~0:^\
      s:~0:^\
@@ -158,7 +158,7 @@ const OF_ONE_START: &str = "~0:^\
      x: Y~no start x^\
      x: Y 1~unreadable";
 
-/// The same where `s` is start 0 and `r` start 1.
+/// Lines for a grammar whose start symbol 0 is `s` and whose start symbol 1 is `r`.
 const OF_TWO_STARTS: &str = "s: A~0:0^\
      r:EOF A~1:20^\
      A~missing start^\

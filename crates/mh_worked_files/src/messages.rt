@@ -1,4 +1,4 @@
-//! Messages files and what they are, worked out by hand.
+//! Messages files and how they are read and printed, worked out by hand.
 ghost use Rattle.std.specs.Prelude.{◌<◌, ◌^◌, length};
 ghost use Rattle.mh_grammar.specs.Plain.{plain_of, IsInRange};
 
@@ -10,7 +10,7 @@ use mh_msgfile::{MsgFault, echo, print_messages, read_messages};
 use std::alloc::Global;
 use std::test::Fail;
 
-/// Adds a fault, with the digit of its line.
+/// Appends a fault with the digit of its line.
 fn put_fault(text: &mut Vec<u8>, fault: &MsgFault) {
     let (words, line) = match fault {
         MsgFault::Shape { line } => ("shape ", *line),
@@ -22,7 +22,7 @@ fn put_fault(text: &mut Vec<u8>, fault: &MsgFault) {
     put_both(text, words, &[digit(u64::from(line))]);
 }
 
-/// Adds a text, which it lets go.
+/// Appends a text and drops it.
 pub fn put_made(text: &mut Vec<u8>, made: Result<Vec<u8>, Memory>) {
     match made {
         Ok(made) => {
@@ -33,7 +33,7 @@ pub fn put_made(text: &mut Vec<u8>, made: Result<Vec<u8>, Memory>) {
     }
 }
 
-/// Adds the text of the file that these bytes spell, or the fault with its line.
+/// Appends the printed text of the messages file that the bytes spell, or the fault with its line.
 pub fn put_printed(alloc: Global, text: &mut Vec<u8>, grammar: &Grammar, bytes: &[u8])
     requires range { IsInRange (plain_of grammar.now) }
     requires size { length bytes.now < 2 ^ 31 }
@@ -50,7 +50,7 @@ pub fn put_printed(alloc: Global, text: &mut Vec<u8>, grammar: &Grammar, bytes: 
     }
 }
 
-/// Adds the sentences alone.
+/// Appends the sentences of the messages file, or the fault with its line.
 pub fn put_echoed(alloc: Global, text: &mut Vec<u8>, grammar: &Grammar, bytes: &[u8])
     requires range { IsInRange (plain_of grammar.now) }
     requires size { length bytes.now < 2 ^ 31 }
@@ -67,7 +67,7 @@ pub fn put_echoed(alloc: Global, text: &mut Vec<u8>, grammar: &Grammar, bytes: &
     }
 }
 
-/// Files, with `~` before what they print as and `^` between cases.
+/// Messages files, with `~` before the printed text and `^` between cases.
 const FILES: &str = "~^\
      \n \n\t\r\n~^\
      # by hand\ns: EOF\n## Ends in an error in state: 0.\nExpected A.\n# inside\nNothing else begins a sentence.\n\nA A\n\nExpected EOF.~shape 4^\
@@ -83,10 +83,10 @@ const FILES: &str = "~^\
      EOF\nr: A\n\nM\n~no start 2^\
      A Y\n\nM\n\nA 1\n~no token 1";
 
-/// The sentences of a file, one a line.
+/// The sentences of a messages file, one a line.
 const SENTENCES: &str = "EOF\n  A A\r\n\nM\n\ns : EOF A\n\nN\n~s: EOF\ns: A A\ns: EOF A\n";
 
-/// Two starts: a sentence has to name one.
+/// A grammar with two start symbols: a sentence must name one.
 const OF_TWO_STARTS: &str = "EOF A\n~missing start 1";
 
 #[test]

@@ -1,4 +1,4 @@
-//! Grammar files and what they spell, worked out by hand.
+//! Grammar files and the modules that they spell, worked out by hand.
 use crate::cases::{Subject, Wanted, check_answer, check_cases, put_number};
 use crate::messages::put_made;
 use crate::put;
@@ -9,7 +9,7 @@ use mh_reader_parser::{Module, read_module, spelled_once};
 use std::alloc::Global;
 use std::test::Fail;
 
-/// The module of a short file.
+/// The module of a short grammar file.
 fn module_of(alloc: Global, bytes: &[u8]) -> Result<Module, SyntaxFault> {
     if bytes.len() > 10_000 {
         return Err(SyntaxFault::Memory);
@@ -17,7 +17,7 @@ fn module_of(alloc: Global, bytes: &[u8]) -> Result<Module, SyntaxFault> {
     read_module(alloc, bytes)
 }
 
-/// Adds `+` where the bytes spell a module, else the line.
+/// Appends `+` if the bytes spell a module, else the number of the line at fault.
 fn put_verdict(alloc: Global, text: &mut Vec<u8>, bytes: &[u8]) {
     match module_of(alloc, bytes) {
         Ok(module) => {
@@ -29,7 +29,7 @@ fn put_verdict(alloc: Global, text: &mut Vec<u8>, bytes: &[u8]) {
     }
 }
 
-/// What the module of a short file is printed as; nothing where it spells none.
+/// The printed module of a short grammar file, or an empty text if the file spells no module.
 fn printed(alloc: Global, bytes: &[u8]) -> Result<Vec<u8>, Memory> {
     if bytes.len() > 10_000 {
         return Ok(Vec::new(alloc));
@@ -44,12 +44,12 @@ fn printed(alloc: Global, bytes: &[u8]) -> Result<Vec<u8>, Memory> {
     }
 }
 
-/// Adds what the module of a short file is printed as.
+/// Appends the printed module of a short grammar file.
 pub fn put_printed(alloc: Global, text: &mut Vec<u8>, bytes: &[u8]) {
     put_made(text, printed(alloc, bytes));
 }
 
-/// Whether a file is printed as itself.
+/// Returns true if the printed module of a file is the file itself.
 fn is_printed(alloc: Global, bytes: &[u8]) -> bool {
     match printed(alloc, bytes) {
         Ok(text) => text.as_slice() == bytes,
@@ -57,7 +57,7 @@ fn is_printed(alloc: Global, bytes: &[u8]) -> bool {
     }
 }
 
-/// Whether a file that spells a module is printed as one that spells it, which is then printed alike.
+/// Returns true if a file spells a module, and if the printed module is printed as itself.
 fn is_kept(alloc: Global, bytes: &[u8]) -> bool {
     match printed(alloc, bytes) {
         Ok(text) => {
@@ -69,7 +69,8 @@ fn is_kept(alloc: Global, bytes: &[u8]) -> bool {
     }
 }
 
-/// Adds `+` where the bytes spell a module, else the line; and more where a module is not kept, or something else is.
+/// Appends `+` if the bytes spell a module, else the number of the line at fault; and a remark if `is_kept` disagrees
+/// with this.
 pub fn put_kept(alloc: Global, text: &mut Vec<u8>, bytes: &[u8]) {
     put_verdict(alloc, text, bytes);
     if is_kept(alloc, bytes) != (text.as_slice() == b"+".as_slice()) {
@@ -77,7 +78,7 @@ pub fn put_kept(alloc: Global, text: &mut Vec<u8>, bytes: &[u8]) {
     }
 }
 
-/// Files and their verdicts, with `~` between the two and `^` between cases.
+/// Grammar files and their results, with `~` between the two and `^` between cases.
 fn cases() -> &'static str {
     "~1^\
      \n\n~3^\
@@ -170,7 +171,7 @@ fn cases() -> &'static str {
      %%s:{}t:|{}|{}%%%%~+"
 }
 
-/// An actual behind so many brackets or with so many suffixes.
+/// A grammar file in which one part is repeated, to nest an actual in many brackets or suffixes.
 fn deep_file(alloc: Global, front: &str, repeated: &str, times: usize, back: &str) -> Vec<u8> {
     let mut bytes = Vec::new(alloc);
     put(&mut bytes, front.as_bytes());
@@ -181,7 +182,8 @@ fn deep_file(alloc: Global, front: &str, repeated: &str, times: usize, back: &st
     bytes
 }
 
-/// A front, what is repeated, how often, a back and the verdict, with `~` between them and `^` between cases.
+/// The beginning, the repeated part, the number of repetitions, the end and the result, with `~` between them and `^`
+/// between cases.
 const DEPTHS: &str = "%%\n\n\ns: A~?~999~\n{}\n~+^\
      %%\n\n\ns: A~?~1000~\n{}\n~4^\
      %%\ns: ~a(~999~a\n~3^\
@@ -192,7 +194,7 @@ const DEPTHS: &str = "%%\n\n\ns: A~?~999~\n{}\n~+^\
      %%\n%%\n~a(~1001~a~+^\
      %type <t> a~*~1000~%%~1";
 
-/// Adds the verdict of a file that is made so.
+/// Appends the result for a file that is built from these parts.
 pub fn put_depth(alloc: Global, text: &mut Vec<u8>, given: &str) {
     let mut parts = given.split('~');
     let front = parts.next().unwrap_or("");
@@ -216,7 +218,8 @@ const PRINTED: &str = "%token INT \"1\\\"\" %token EOF %token C %start s %start 
     %public s : | INT option ( e ( INT , \"1\" ) ) EOF {} | B %prec \"+\" {} | C %prec INT {} | D {} \
     %public %inline e ( x , y ) : | a ( list ( b ( c ) ) ) nonempty_list ( \"q\" ) {} %inline u : | {} ";
 
-/// Declarations, with `~` before the cost of each token that they declare, `-` where there is none; `^` between cases.
+/// Declarations, with `~` before the costs of the tokens that they declare, `-` for a token without a cost; `^` is
+/// between cases.
 const COSTS: &str = "%token A [@cost 5] B %%~5 -^\
      %token A [@cost 0] B [@cost 1001] C [@cost 1000] D [@cost 1] %%~- - 1000 1^\
      %token A [@cost 05] B [@cost5] C[@cost 5] %%~- - 5^\
@@ -244,7 +247,7 @@ fn put_costs_of(alloc: Global, text: &mut Vec<u8>, module: &Module) {
     }
 }
 
-/// Adds the costs of the tokens of a short file; nothing where it spells no module.
+/// Appends the costs of the tokens of a short file, or nothing if the file spells no module.
 pub fn put_costs(alloc: Global, text: &mut Vec<u8>, bytes: &[u8]) {
     if let Ok(module) = module_of(alloc, bytes) {
         put_costs_of(alloc, text, &module);
@@ -252,7 +255,7 @@ pub fn put_costs(alloc: Global, text: &mut Vec<u8>, bytes: &[u8]) {
     }
 }
 
-/// The costs of the tokens of what a file's module is printed as.
+/// Appends the costs of the tokens in the printed module of a file.
 pub fn put_costs_again(alloc: Global, text: &mut Vec<u8>, bytes: &[u8]) {
     if let Ok(again) = printed(alloc, bytes) {
         put_costs(alloc, text, &again);
@@ -260,7 +263,7 @@ pub fn put_costs_again(alloc: Global, text: &mut Vec<u8>, bytes: &[u8]) {
     }
 }
 
-/// Of the files 40 spell a module. The costs of a file's tokens are those of what its module is printed as.
+/// Exactly 40 of the files spell a module. Printing a module keeps the costs of its tokens.
 #[test]
 fn modules(rt: HostRuntime) -> Result<(), Fail> {
     let alloc = rt.alloc();

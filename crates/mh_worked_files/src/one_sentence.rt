@@ -3,7 +3,7 @@
 /// The grammar file.
 pub const ONE_SENTENCE: &str = "%token A EOF\n%start s\n%%\ns: A EOF {}\n";
 
-/// The table file, in the mode in which states are merged.
+/// The table file of the merged automaton.
 pub const ONE_SENTENCE_TABLE: &str = "menhir-tables 2 merged
 tokens A EOF
 costs 1 1

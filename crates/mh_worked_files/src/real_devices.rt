@@ -1,4 +1,4 @@
-//! Real files, readers and writers as shelf, source and sink.
+//! Tests of real files, readers and writers as shelf, source and sink.
 use crate::put;
 use mh_outside::{
     FileShelf, Shelf, ShelfFault, Sink, Source, StdSink, StdSource, WriteFault, read_line,
@@ -9,10 +9,10 @@ use std::fs;
 use std::process::Abort;
 use std::test::Fail;
 
-/// The file of the tests.
+/// The name of the file that the tests write.
 const NAME: &str = "menhir-adapter-test.txt";
 
-/// Compares a text with what is wanted, and lets it go.
+/// Fails if a text is not the wanted one, and drops the text.
 fn check(rt: &impl Abort, text: Vec<u8>, wanted: &[u8]) {
     assert_eq!(rt; text.as_slice(), wanted);
 }
@@ -26,7 +26,7 @@ fn fault_name(fault: ShelfFault) -> &'static [u8] {
     }
 }
 
-/// Adds the bytes that were read of a file or the fault, and a comma.
+/// Appends the bytes of a file or the fault, and a comma.
 fn put_read(text: &mut Vec<u8>, read: Result<Vec<u8>, ShelfFault>) {
     match read {
         Ok(bytes) => {
@@ -38,7 +38,7 @@ fn put_read(text: &mut Vec<u8>, read: Result<Vec<u8>, ShelfFault>) {
     put(text, b",");
 }
 
-/// A file of five bytes is read where so many may be, and not where four may be, nor once it is removed.
+/// A file of five bytes is read with a limit of five bytes, but not with a limit of four, nor after it is removed.
 #[test]
 fn a_file_is_read(rt: HostRuntime) {
     let mut text = Vec::new(rt.alloc());
@@ -54,7 +54,7 @@ fn a_file_is_read(rt: HostRuntime) {
     check(&rt, text, b"HELLO,too big,failed,failed,failed,failed,");
 }
 
-/// Adds the next line behind a `>`, or a `.` where there is none.
+/// Appends `>` and the next line, or `.` at the end.
 fn put_line<S: Source>(alloc: Global, text: &mut Vec<u8>, source: &mut S) {
     match read_line(alloc, source, 9) {
         Ok(Some(line)) => {
@@ -79,7 +79,7 @@ fn lines_are_read(rt: HostRuntime) -> Result<(), Fail> {
     Ok(())
 }
 
-/// Adds `+` where a piece is taken, and `!` where the device fails.
+/// Writes a piece, and appends `+` if it was written and `!` if the device fails.
 fn put_write<S: Sink>(text: &mut Vec<u8>, sink: &mut S, piece: &[u8]) {
     match write_whole(sink, piece) {
         Ok(()) => put(text, b"+"),
@@ -97,7 +97,7 @@ fn pieces_are_written(rt: HostRuntime) {
     put(&mut told, &text);
     drop(text);
 
-    // Once two bytes are written, this writer takes no more.
+    // This writer accepts two bytes and no more.
     let mut room = [0u8; 2];
     let mut sink = StdSink::new(room.as_mut_slice());
     put_write(&mut told, &mut sink, b"abc");

@@ -1,4 +1,4 @@
-//! Words, and the orders that they spell by hand.
+//! Words of the command line and the orders that they spell, worked out by hand.
 use crate::cases::{Subject, check_cases, put_number};
 use crate::put;
 use mh_opts::{Job, Order, UsageFault, read_words};
@@ -21,14 +21,14 @@ fn job_name(job: &Job) -> &'static [u8] {
     }
 }
 
-/// Adds a word where it is on.
+/// Appends a word if the flag is true.
 fn put_if(text: &mut Vec<u8>, is_on: bool, word: &[u8]) {
     if is_on {
         put(text, word);
     }
 }
 
-/// Adds the job with its number, what is on, and each file behind a colon.
+/// Appends the job with its number, the flags that are set, and each grammar file after a colon.
 fn put_order(alloc: Global, text: &mut Vec<u8>, order: &Order) {
     put(text, job_name(&order.job));
     if let Job::Sample { number } = order.job {
@@ -60,7 +60,7 @@ fn put_fault(text: &mut Vec<u8>, fault: &UsageFault) {
     );
 }
 
-/// Adds what the words come to.
+/// Appends the order that the words spell, or the usage fault.
 pub fn put_read(alloc: Global, text: &mut Vec<u8>, words: &[String]) {
     match read_words(alloc, words) {
         Ok(order) => {
@@ -74,7 +74,7 @@ pub fn put_read(alloc: Global, text: &mut Vec<u8>, words: &[String]) {
     }
 }
 
-/// Words with spaces between them, and what they come to behind a `~`; `^` between cases.
+/// Words with spaces between them, `~`, and the order or the fault; `^` is between cases.
 const CASES: &str = "--interpret g.mly~interpret :g.mly^\
     g.mly --interpret~interpret :g.mly^\
     a.mly --interpret b.mly~interpret :a.mly :b.mly^\
@@ -132,14 +132,14 @@ const CASES: &str = "--interpret g.mly~interpret :g.mly^\
     -h~bad words^\
     --version~bad words";
 
-/// Adds a word. Words that find no memory lack it, and do not come to what is wanted.
+/// Appends a word. If memory runs out, the words lack it, and the case fails.
 fn push_word(alloc: Global, words: &mut Vec<String>, word: &str) {
     if let Ok(word) = String::from_str(alloc, word) {
         let _ = words.push(word);
     }
 }
 
-/// Adds what a line of words comes to.
+/// Appends the order or the fault of the words of a line.
 pub fn put_words(alloc: Global, text: &mut Vec<u8>, line: &str) {
     let mut words = Vec::new(alloc);
     for word in line.split(' ') {

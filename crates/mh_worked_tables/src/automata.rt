@@ -1,4 +1,4 @@
-//! Collections that were worked out by hand, by Knuth's construction.
+//! Canonical automata that were worked out by hand, by Knuth's construction.
 use crate::cases::{check_cases, put};
 use crate::made::{automaton_of, grammar_of};
 use mh_canon::{canonical, is_one_automaton};
@@ -9,7 +9,7 @@ use std::fmt::Write;
 use std::process::Abort;
 use std::test::Fail;
 
-/// An edge: its symbol by number, a token's as `t0` and a nonterminal's as `n0`, and the state that it leads to.
+/// Appends an edge: its symbol by number (a token as `t0`, a nonterminal as `n0`) and its target state.
 fn put_edge(text: &mut String, edge: Edge) {
     let (kind, number) = match edge.symbol {
         Symbol::T(token) => ('t', token),
@@ -18,7 +18,7 @@ fn put_edge(text: &mut String, edge: Edge) {
     let _ = write!(text, " {kind}{number}-{}", edge.target);
 }
 
-/// The edges of an automaton: `/` stands between those of two states.
+/// Appends the edges of an automaton, with `/` between the edges of two states.
 pub fn put_edges<const W: usize>(text: &mut String, automaton: &Automaton<W>) {
     for (state, edges) in automaton.edges.as_slice().iter().enumerate() {
         put(text, if state > 0 { "/" } else { "" });
@@ -28,7 +28,7 @@ pub fn put_edges<const W: usize>(text: &mut String, automaton: &Automaton<W>) {
     }
 }
 
-/// The edges of a grammar's automaton, behind a `:`.
+/// Appends `:` and the edges of a grammar's automaton.
 pub fn put_edges_of(alloc: Global, text: &mut String, grammar: &Grammar) -> Result<(), Fail> {
     let automaton = automaton_of(alloc, grammar)?;
     put(text, ":");
@@ -37,10 +37,10 @@ pub fn put_edges_of(alloc: Global, text: &mut String, grammar: &Grammar) -> Resu
     Ok(())
 }
 
-/// A token's edge comes before that of the start, and both before the next state's.
+/// The edges on tokens come before those on nonterminals, and the edges of a state before those of the next.
 ///
-/// In the third the states behind C and D stand once before another c and once at the end. In the fourth one core stands
-/// twice behind C. In the last one state is reached from two.
+/// In the third grammar there are two states after C and two after D: one before another `c`, and one at the end. In
+/// the fourth, two states after C have the same core. In the last, one state is the target of edges from two states.
 const EDGES: &str = "; s; s:
 edges = : n0-1/
 

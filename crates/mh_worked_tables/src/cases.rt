@@ -1,5 +1,5 @@
-//! Cases as texts: blocks with an empty line between them, each of a grammar and a row for each thing that is asked of it,
-//! with ` = ` between what is asked and what is wanted.
+//! Test cases as texts: blocks with an empty line between them. A block is a grammar, and a row for each question about
+//! it, with ` = ` between the question and the wanted answer.
 use crate::made::grammar_of;
 use crate::{
     automata, catalogues, closures, resolving, runs, samples, sets, tables, trees, widths,
@@ -9,27 +9,27 @@ use std::alloc::Global;
 use std::process::Abort;
 use std::test::Fail;
 
-/// Adds to a text. One that finds no memory lacks what is added, and is not what is wanted.
+/// Appends to a text. If memory runs out, the text lacks the addition, and so differs from the wanted text.
 pub fn put(text: &mut String, more: &str) {
     let _ = text.push_str(more);
 }
 
-/// Adds bytes that are a text.
+/// Appends bytes that are a text.
 pub fn put_bytes(text: &mut String, bytes: &[u8]) {
     put(text, str::from_utf8(bytes).unwrap_or("no text"));
 }
 
-/// Adds a comma where a text is not empty.
+/// Appends a comma if the text is not empty.
 pub fn put_comma(text: &mut String) {
     put(text, if text.is_empty() { "" } else { ", " });
 }
 
-/// Compares a text with what is wanted, and lets it go.
+/// Fails if a text is not the wanted one, and drops the text.
 pub fn check(rt: &impl Abort, found: String, wanted: &str, at: &str) {
     assert_eq!(rt; found.as_str(), wanted, "{at}");
 }
 
-/// Adds what is asked about a grammar.
+/// Appends the answer to a question about a grammar.
 fn put_answer(
     alloc: Global,
     text: &mut String,
@@ -80,7 +80,7 @@ fn check_block(rt: &impl Abort, alloc: Global, block: &str) -> Result<(), Fail> 
     result
 }
 
-/// Compares what is asked about each grammar with what is wanted.
+/// Fails if some answer about some grammar is not the wanted one.
 pub fn check_cases(rt: &impl Abort, alloc: Global, cases: &str) -> Result<(), Fail> {
     for block in cases.split("\n\n") {
         check_block(rt, alloc, block)?;

@@ -1,6 +1,6 @@
-//! Catalogues of whole grammars, worked out by hand: the states of the canonical automaton in which some sentence fails, and of the
-//! sentences that fail there the ones of least cost, of these those of the lowest start, and of these the one with the lower token
-//! at the first place where two differ.
+//! Catalogues of whole grammars, worked out by hand. A catalogue lists the states of the canonical automaton in which
+//! some sentence fails. The sentence of a state is one of least cost; among these, one of the lowest start symbol; and
+//! among these, the first in the lexicographic order of token numbers.
 use crate::cases::{check_cases, put, put_bytes, put_comma};
 use crate::made::halting_of;
 use mh_catalogue::{CatalogueFault, Row, catalogue};
@@ -10,7 +10,7 @@ use std::alloc::Global;
 use std::fmt::Write;
 use std::test::Fail;
 
-/// Adds the start and the tokens of a row.
+/// Appends the start symbol and the tokens of a row.
 fn put_sentence(text: &mut String, grammar: &Grammar, row: &Row) {
     put_bytes(text, start_name(grammar, row.start));
     put(text, ":");
@@ -20,7 +20,7 @@ fn put_sentence(text: &mut String, grammar: &Grammar, row: &Row) {
     }
 }
 
-/// Adds the state of each row, and the row's sentence or its length.
+/// Appends the state of each row, and the row's sentence or its length.
 fn put_rows(text: &mut String, grammar: &Grammar, rows: &[Row], is_whole: bool) {
     for row in rows {
         put_comma(text);
@@ -33,7 +33,7 @@ fn put_rows(text: &mut String, grammar: &Grammar, rows: &[Row], is_whole: bool) 
     }
 }
 
-/// Adds what is told of the catalogue of a table.
+/// Appends the catalogue of a table, or its fault.
 fn put_catalogue(
     alloc: Global,
     text: &mut String,
@@ -53,7 +53,7 @@ fn put_catalogue(
     }
 }
 
-/// Adds the catalogue of a grammar, with its sentences or their lengths.
+/// Appends the catalogue of a grammar, with its sentences or their lengths.
 pub fn put_catalogue_of(
     alloc: Global,
     text: &mut String,
@@ -85,7 +85,7 @@ lengths = 0 1, 3 2
 INT PLUS TIMES EOF; main e t; main: e EOF; e: e PLUS t; e: t; t: t TIMES INT; t: INT
 lengths = 0 1, 1 2, 5 3, 7 3, 9 4";
 
-/// In each state that asks for a token some sentence fails; in none.
+/// Catalogues in which some sentence fails in each state that needs a token, or in no state.
 const ALL_OR_NONE: &str = "A B C; s; s: A B C
 lengths = 0 1, 1 2, 3 3
 
@@ -95,26 +95,27 @@ lengths =
 A; s; s:
 lengths =";
 
-/// Two starts that share the state behind C and that behind C D, and two that share none.
+/// Two start symbols that share the state after C and the state after C D, and two that share no state.
 const TWO_STARTS: &str = "A B C D; p q* x; p: x A; q: B x A; x: C D
 lengths = 0 1, 1 1, 2 2, 5 2, 7 3
 
 A B C D; p q* x; p: x A; q: x B; x: C D
 lengths = 0 1, 1 1, 2 2, 5 2, 8 3, 10 3";
 
-/// The state behind C is reached by A C and by B B C; which of these is cheaper goes by the cost of A.
+/// The state after C is reached by A C and by B B C. The cost of A decides which of the two is cheaper.
 const COSTS: &str = "A B C D; s z; s: A z; s: B B z; z: C D
 lengths = 0 1, 1 2, 2 2, 4 3, 6 3
 
 A$10 B C D; s z; s: A z; s: B B z; z: C D
 lengths = 0 1, 1 2, 2 2, 4 4, 6 3";
 
-/// One nonterminal stands for 1,048,576 tokens.
+/// One nonterminal derives only a sequence of 1,048,576 tokens.
 const LONG: &str =
     "A B; main x20 x19 x18 x17 x16 x15 x14 x13 x12 x11 x10 x9 x8 x7 x6 x5 x4 x3 x2 x1 x0; main: x20 B; x20: x19 x19; x19: x18 x18; x18: x17 x17; x17: x16 x16; x16: x15 x15; x15: x14 x14; x14: x13 x13; x13: x12 x12; x12: x11 x11; x11: x10 x10; x10: x9 x9; x9: x8 x8; x8: x7 x7; x7: x6 x6; x6: x5 x5; x5: x4 x4; x4: x3 x3; x3: x2 x2; x2: x1 x1; x1: x0 x0; x0: A
 lengths = too long: 82";
 
-/// Each row: its state, its start, and its tokens. Where A is dear, what is reached behind A or B is reached behind B.
+/// Each row: its state, its start symbol, and its tokens. If A is expensive, states that A or B lead to are reached by
+/// B.
 const BY_COST: &str = "A B C EOF; s x; s: x EOF; x: A; x: B
 sentences = 0 s: C, 1 s: A A, 2 s: B A
 
@@ -127,7 +128,8 @@ sentences = 0 s: C, 1 s: A A, 2 s: B A, 4 s: A C A, 6 s: B B A
 A$5 B C D; s z; s: A z; s: B B z; z: C D
 sentences = 0 s: C, 1 s: A B, 2 s: B C, 4 s: B B C B, 6 s: B B B";
 
-/// The state behind C is reached from both starts: from the first for less, from both for the same, from the second for less.
+/// The state after C is reached from both start symbols: for less from the first, for the same cost from both, and for
+/// less from the second.
 const BY_START: &str = "A B C D; p q* x; p: x A; q: B x A; x: C D
 sentences = 0 p: A, 1 q: A, 2 p: C A, 5 q: B A, 7 p: C D B
 
@@ -137,8 +139,8 @@ sentences = 0 p: A, 1 q: B, 2 p: B A, 4 q: A A, 6 p: B C A, 9 p: B C D B
 A B C D; p q* x; p: B B x A; q: A x A; x: C D
 sentences = 0 p: A, 1 q: B, 2 p: B A, 4 q: A A, 6 p: B B A, 7 q: A C A, 10 q: A C D B";
 
-/// Rules whose words have the same cost: the later rule has the lower tokens. In the second case both words begin alike, and
-/// their parts have other costs.
+/// Rules whose words have the same cost, where the later rule has the lower tokens. In the second grammar, both words
+/// have the same first token, and their parts have different costs.
 const BY_TOKENS: &str = "A B C D; s x z; s: x z; x: B; x: A; z: C D
 sentences = 0 s: C, 1 s: A A, 2 s: B A, 5 s: A C A
 

@@ -1,7 +1,8 @@
-//! Worked closures and moves, computed by hand.
-ghost use Rattle.std.specs.Prelude.{◌≤◌, ◌<◌, length, IfOk};
-ghost use Rattle.mh_grammar.specs.Plain.{plain_of, IsInRange};
+//! Closures and moves that were worked out by hand.
+ghost use Rattle.std.specs.Prelude.{◌<◌, length, IfOk};
+ghost use Rattle.mh_grammar.specs.Plain.{plain_of};
 ghost use Rattle.mh_items_kernels.specs.Kernels.{IsItemList};
+ghost use Rattle.mh_items.specs.Fitting.{FitsSets};
 
 use crate::cases::{check_cases, put};
 use mh_grammar::{Grammar, Look, Memory, Symbol, is_in_range};
@@ -18,7 +19,7 @@ fn put_look(text: &mut String, look: Look) {
     };
 }
 
-/// Adds the items of a kernel: production, dot and looks.
+/// Appends the items of a kernel: production, dot and looks.
 pub fn put_kernel<const W: usize>(text: &mut String, kernel: &Kernel<W>) {
     for item in kernel.items.as_slice() {
         let _ = write!(text, "{}.{}", item.production, item.dot);
@@ -30,8 +31,7 @@ pub fn put_kernel<const W: usize>(text: &mut String, kernel: &Kernel<W>) {
 }
 
 fn closed_of(alloc: Global, grammar: &Grammar, kernel: &Kernel<1>) -> Result<Kernel<1>, Memory>
-    requires width { length grammar.now.tokens ≤ 64 }
-    requires range { IsInRange (plain_of grammar.now) }
+    requires fits { FitsSets 1 grammar.now }
     requires kernel { IsItemList (plain_of grammar.now) kernel.now }
     ensures { IfOk result (IsItemList (plain_of grammar.now)) }
 {
@@ -43,8 +43,7 @@ fn closed_of(alloc: Global, grammar: &Grammar, kernel: &Kernel<1>) -> Result<Ker
 
 /// The closure of the start kernel.
 fn first_state(alloc: Global, grammar: &Grammar) -> Result<Kernel<1>, Memory>
-    requires width { length grammar.now.tokens ≤ 64 }
-    requires range { IsInRange (plain_of grammar.now) }
+    requires fits { FitsSets 1 grammar.now }
     requires start { 0 < length grammar.now.starts }
     ensures { IfOk result (IsItemList (plain_of grammar.now)) }
 {
@@ -54,15 +53,14 @@ fn first_state(alloc: Global, grammar: &Grammar) -> Result<Kernel<1>, Memory>
     closed
 }
 
-/// The closure of what a closed kernel moves to.
+/// The closure of the items that a closed kernel moves on a symbol.
 fn next_state(
     alloc: Global,
     grammar: &Grammar,
     closed: &Kernel<1>,
     symbol: Symbol,
 ) -> Result<Kernel<1>, Memory>
-    requires width { length grammar.now.tokens ≤ 64 }
-    requires range { IsInRange (plain_of grammar.now) }
+    requires fits { FitsSets 1 grammar.now }
     requires kernel { IsItemList (plain_of grammar.now) closed.now }
 {
     let next = moved(alloc, grammar, closed, symbol)?;
@@ -71,7 +69,7 @@ fn next_state(
     closed
 }
 
-/// Adds the next state, and whether it is the first again.
+/// Appends the next state, and whether it equals the first state.
 fn put_next(
     alloc: Global,
     text: &mut String,
@@ -79,8 +77,7 @@ fn put_next(
     closed: &Kernel<1>,
     symbol: Symbol,
 ) -> Result<(), Memory>
-    requires width { length grammar.now.tokens ≤ 64 }
-    requires range { IsInRange (plain_of grammar.now) }
+    requires fits { FitsSets 1 grammar.now }
     requires kernel { IsItemList (plain_of grammar.now) closed.now }
 {
     let next = next_state(alloc, grammar, closed, symbol)?;
@@ -97,7 +94,7 @@ fn put_next(
     Ok(())
 }
 
-/// Adds the first state of a grammar's automaton, and the one that it moves to behind a nonterminal.
+/// Appends the first state of a grammar's automaton, and the state after a nonterminal.
 pub fn put_states(
     alloc: Global,
     text: &mut String,
@@ -120,7 +117,7 @@ pub fn put_states(
     Ok(result?)
 }
 
-/// In the second the end of the stream comes to b through x, which may be empty.
+/// In the second grammar, `b` has the end of the stream as lookahead because `x` is nullable.
 const STATES: &str = "C D; s c; s: c c; c: C c; c: D
 states 1 = 0.0 #; 1.0 #; 2.0 0 1; 3.0 0 1; / 1.1 #; 2.0 #; 3.0 #; other
 

@@ -1,10 +1,11 @@
-//! Automata and tables with what their contracts say of them, for calls that ask for it.
+//! Automata and tables with their contracts, for calls that require these contracts.
 ghost use Rattle.std.specs.Prelude.{◌≤◌, length, IfOk, IsTrue};
 ghost use Rattle.mh_grammar.specs.Costs.{HaveCosts};
 ghost use Rattle.mh_grammar.specs.Plain.{plain_of, IsInRange};
 ghost use Rattle.mh_items_kernels.specs.Automaton.{IsAutomaton};
 ghost use Rattle.mh_resolve_cells.specs.States.{IsTableOf};
 ghost use Rattle.mh_resolve_cells.specs.declared.kinds.Mode.TheVariants.{Canonical};
+ghost use Rattle.mh_items.specs.Fitting.{FitsSets};
 
 use mh_canon::canonical;
 use mh_grammar::{Grammar, has_costs_in_range, is_in_range};
@@ -16,7 +17,7 @@ use mh_tables_core::Halting;
 use std::alloc::Global;
 use std::test::Fail;
 
-/// Whether a grammar has at most 64 tokens, and each number in it names something.
+/// Returns true if a grammar has at most 64 tokens and all its numbers and costs are in range.
 pub fn is_small(grammar: &Grammar) -> bool
     ensures width { IsTrue result → length grammar.now.tokens ≤ 64 }
     ensures range { IsTrue result → IsInRange (plain_of grammar.now) }
@@ -25,10 +26,9 @@ pub fn is_small(grammar: &Grammar) -> bool
     is_in_range(grammar) && has_costs_in_range(grammar) && grammar.tokens.len() <= 64
 }
 
-/// The canonical automaton.
+/// The canonical automaton of a grammar.
 pub fn automaton_of(alloc: Global, grammar: &Grammar) -> Result<Automaton<1>, Fail>
-    requires width { length grammar.now.tokens ≤ 64 }
-    requires range { IsInRange (plain_of grammar.now) }
+    requires fits { FitsSets 1 grammar.now }
     ensures { IfOk result (IsAutomaton (plain_of grammar.now)) }
 {
     match canonical::<1>(alloc, grammar) {
@@ -37,10 +37,9 @@ pub fn automaton_of(alloc: Global, grammar: &Grammar) -> Result<Automaton<1>, Fa
     }
 }
 
-/// Its table, on which each run ends.
+/// The table of an automaton, if every run on the table ends.
 pub fn table_of(alloc: Global, grammar: &Grammar, automaton: &Automaton<1>) -> Result<Halting, Fail>
-    requires width { length grammar.now.tokens ≤ 64 }
-    requires range { IsInRange (plain_of grammar.now) }
+    requires fits { FitsSets 1 grammar.now }
     requires costs { HaveCosts grammar.now.tokens }
     requires automaton { IsAutomaton (plain_of grammar.now) automaton.now }
     ensures { IfOk result (IsTableOf grammar.now automaton.now Canonical) }

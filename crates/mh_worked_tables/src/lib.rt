@@ -1,5 +1,5 @@
-//! Worked examples of grammars as numbers and of what is made of them: sets, closures, automata, tables, runs, trees, texts,
-//! catalogues, samples, and files of tables and of messages. Each answer was worked out by hand.
+//! Worked examples of grammars as numbers and of what is made of them: sets, closures, automata, tables, runs, trees,
+//! texts, catalogues, samples, table files and messages files. Each result was worked out by hand.
 #![tactic(auto)]
 
 mod names;

@@ -1,4 +1,5 @@
-//! Grammars from short texts, and their automata and tables: each call of the layers stands here once.
+//! Grammars from short texts, and their automata and tables. The functions of the lower rooms are called only here, so
+//! that the worked cases share the calls.
 
 use mh_canon::canonical;
 use mh_grammar::{
@@ -14,12 +15,12 @@ use mh_worked_files::filled;
 use std::alloc::Global;
 use std::test::Fail;
 
-/// A digit, as a number.
+/// The number that digits spell.
 fn rank_of(text: &str) -> Result<u64, Fail> {
     Ok(text.parse()?)
 }
 
-/// A level: the digit of its file, that of its rank, and `l`, `r` or `n`.
+/// A level: the byte of its file, the byte of its rank, and `l`, `r` or `n`.
 fn level_of(text: &str) -> Result<Level, Fail> {
     let [file, rank, assoc] = text.as_bytes() else {
         return Err(Fail::from("a level of three letters"));
@@ -35,7 +36,7 @@ fn level_of(text: &str) -> Result<Level, Fail> {
     })
 }
 
-/// A token, with its level behind a `%` and its cost behind a `$`.
+/// A token, perhaps with `%` and its level, and with `$` and its cost.
 fn token_of(alloc: Global, word: &str) -> Result<TokenInfo, Fail> {
     let (word, cost) = match word.split_once('$') {
         Some((word, cost)) => (word, cost.parse()?),
@@ -52,7 +53,7 @@ fn token_of(alloc: Global, word: &str) -> Result<TokenInfo, Fail> {
     })
 }
 
-/// A nonterminal, with its rank on an error behind a `<`, and perhaps the `*` of a start.
+/// A nonterminal, perhaps with `<` and its rank for errors, and with `*` if it is a start symbol.
 fn nonterminal_of(alloc: Global, word: &str) -> Result<NontermInfo, Fail> {
     let word = word.strip_suffix('*').unwrap_or(word);
     let (name, on_error) = match word.split_once('<') {
@@ -83,7 +84,7 @@ fn place_of_nonterminal(nonterminals: &[NontermInfo], name: &[u8]) -> Option<u16
     None
 }
 
-/// The symbol of a name.
+/// The symbol with this name.
 fn symbol_of(grammar: &Grammar, word: &str) -> Result<Symbol, Fail> {
     match place_of_token(grammar.tokens.as_slice(), word.as_bytes()) {
         Some(token) => Ok(Symbol::T(token)),
@@ -94,7 +95,7 @@ fn symbol_of(grammar: &Grammar, word: &str) -> Result<Symbol, Fail> {
     }
 }
 
-/// The symbols of a right side; the level behind a `%` is none of them.
+/// The symbols of a right side, without its level after `%`.
 fn side_of(alloc: Global, grammar: &Grammar, right: &str) -> Result<Sequence<Symbol>, Fail> {
     let mut side = Sequence::new(alloc);
     for word in right.split_ascii_whitespace() {
@@ -105,7 +106,7 @@ fn side_of(alloc: Global, grammar: &Grammar, right: &str) -> Result<Sequence<Sym
     Ok(side)
 }
 
-/// The level behind a `%`.
+/// The level after `%`.
 fn side_level(right: &str) -> Result<Option<Level>, Fail> {
     match right.split_once('%') {
         Some((_, level)) => Ok(Some(level_of(level.trim_ascii())?)),
@@ -113,7 +114,7 @@ fn side_level(right: &str) -> Result<Option<Level>, Fail> {
     }
 }
 
-/// A production: its left side, a colon, its symbols, and its level behind a `%`.
+/// A production: its left side, a colon, its symbols, and perhaps `%` and its level.
 fn production_of(alloc: Global, grammar: &Grammar, rule: &str) -> Result<Production, Fail> {
     let (left, right) = rule.split_once(':').ok_or("a rule without a colon")?;
     let lhs = place_of_nonterminal(
@@ -145,7 +146,7 @@ fn add_nonterminals(
     Ok(())
 }
 
-/// Adds the places of the first nonterminal, and of each with a `*` behind it.
+/// Appends the numbers of the first nonterminal, and of each one that is followed by `*`.
 fn add_starts(starts: &mut Sequence<u16>, nonterminals: &str) -> Result<(), Fail> {
     let mut place = 0u16;
     for word in nonterminals.split_ascii_whitespace() {
@@ -185,8 +186,8 @@ fn fill(alloc: Global, grammar: &mut Grammar, text: &str) -> Result<(), Fail> {
     Ok(())
 }
 
-/// The grammar of a text, in which a `;` stands between its tokens, its nonterminals and each production. The first nonterminal is a
-/// start, and each with a `*` behind it.
+/// The grammar of a text, in which `;` is between the tokens, the nonterminals and each production. The first
+/// nonterminal is a start symbol, and so is each one that is followed by `*`.
 pub(crate) fn grammar_of(alloc: Global, text: &str) -> Result<Grammar, Fail> {
     let mut grammar = empty_grammar(alloc);
     let filling = fill(alloc, &mut grammar, text);
@@ -204,7 +205,7 @@ pub(crate) fn automaton_of(alloc: Global, grammar: &Grammar) -> Result<Automaton
     }
 }
 
-/// The table and the conflicts of a grammar, by its canonical automaton.
+/// The table and the conflicts of a grammar's canonical automaton.
 pub(crate) fn resolved(
     alloc: Global,
     grammar: &Grammar,
@@ -221,7 +222,7 @@ pub(crate) fn resolved(
     Ok(resolved?)
 }
 
-/// The table of a grammar, on which each run ends.
+/// The table of a grammar, if every run on the table ends.
 pub(crate) fn halting_of(alloc: Global, grammar: &Grammar) -> Result<Halting, Fail> {
     let (table, conflicts) = resolved(alloc, grammar, Mode::Canonical)?;
     drop(conflicts);

@@ -1,5 +1,5 @@
-//! Cells, defaults, actions on an error and conflicts that were worked out by hand. Each grammar begins with the token A,
-//! and state 1 is the one behind it.
+//! Cells, defaults, reductions on errors and conflicts that were worked out by hand. Each grammar begins with the token
+//! A, and state 1 is the state after A.
 use crate::cases::{check_cases, put, put_comma};
 use crate::made::resolved;
 use mh_grammar::Grammar;
@@ -9,7 +9,7 @@ use std::alloc::Global;
 use std::fmt::Write;
 use std::test::Fail;
 
-/// Adds what a state does on a token, and the kind of each conflict.
+/// Appends the action of a state on a token, and the kind of each conflict there.
 fn put_cell(text: &mut String, table: &Table, conflicts: &[Conflict], state: u32, token: u16) {
     if state < table.states() && token < table.tokens() {
         let _ = write!(text, "{:?}", table.action(state, token));
@@ -31,7 +31,7 @@ fn put_goto(text: &mut String, table: &Table, state: u32, nonterminal: u16) {
     }
 }
 
-/// Adds the states of conflicts, with their looks and kinds.
+/// Appends the state, the look and the kind of each conflict.
 fn put_conflicts(text: &mut String, conflicts: &[Conflict]) {
     for conflict in conflicts {
         let (state, look, kind) = (conflict.state, conflict.look, conflict.kind);
@@ -49,14 +49,14 @@ fn put_counts(text: &mut String, table: &Table) {
     );
 }
 
-/// Adds the left side of a production that is none of a start.
+/// Appends the left side of a production that is not a start production.
 fn put_left(text: &mut String, table: &Table, production: u32) {
     if u32::from(table.starts()) <= production && production < table.productions() {
         let _ = write!(text, "{}", table.lhs_of(production));
     }
 }
 
-/// Adds the symbols of a production.
+/// Appends the symbols of a production.
 fn put_right(text: &mut String, table: &Table, production: u32) {
     if production < table.productions() {
         for at in 0..table.length_of(production) {
@@ -66,7 +66,7 @@ fn put_right(text: &mut String, table: &Table, production: u32) {
     }
 }
 
-/// Adds a part of a table, by its kind and two numbers.
+/// Appends a part of a table, given by its kind and two numbers.
 fn put_by(
     text: &mut String,
     table: &Table,
@@ -85,8 +85,8 @@ fn put_by(
     }
 }
 
-/// Adds a part of a grammar's table: `cell`, `default` or `goto` with a state and a number, `left` or `right` with a production,
-/// `conflicts` or `counts`; the table's states are merged for `merged`, which is its default. A number that is not there is 0.
+/// Appends a part of a grammar's table: `cell`, `default` or `goto` with a state and a number, `left` or `right` with a
+/// production, `conflicts` or `counts`; `merged` is the default of a state of the merged table. A missing number is 0.
 pub fn put_part(
     alloc: Global,
     text: &mut String,
@@ -111,7 +111,7 @@ pub fn put_part(
     Ok(())
 }
 
-/// What state 1 does on T: to shift it is production 1, and 3 and 5 reduce what is before it.
+/// The action of state 1 on T. Production 1 shifts T, and productions 3 and 5 can be reduced before T.
 const CELLS: &str = "A T%10l; s x; s: A T; s: x T; x: A %11r
 cell 1 1 = Reduce(3) Solved
 
@@ -154,8 +154,9 @@ cell 1 1 = Reduce(2)
 A T%10l; s x y; s: x T; x: A %20l; s: y T; y: A %12n
 cell 1 1 = Reduce(2) Unsolved";
 
-/// What state 1 does on T, on which nothing is read there. In the last two it is state 2, behind s, whose start production is
-/// no candidate, and which has an action at the end and another on U.
+/// The action of state 1 on T, on which no item of the state acts. In the last two grammars it is the action of state
+/// 2, after `s`, whose start production is not a candidate; the state has an action at the end of the stream and
+/// another on U.
 const ERRORS: &str = "A T U; s a<1; s: a U; a: A
 cell 1 1 = Reduce(2)
 
@@ -180,7 +181,7 @@ cell 2 1 = Refuse Stream
 A T U; s d<0; s: A; s: d U; d: s
 cell 2 1 = Reduce(3) Stream";
 
-/// The default of state 1 where states are merged, and where they are not.
+/// The default of state 1 in the merged table and in the canonical one.
 const DEFAULTS: &str = "A T; s x; s: x; s: x T; x: A
 merged 1 = Some(Reduce(3))
 default 1 = Some(Reduce(3))
@@ -209,8 +210,8 @@ A T U; s x; s: A T; s: x U; x: A
 merged 1 = None
 default 1 = None";
 
-/// Behind A, T is shifted or x is reduced, and at the end x or y is; so the end has an action and T another one. Behind x,
-/// state 3, T is shifted or s is reduced at the end.
+/// In the state after A, T is shifted or `x` is reduced, and at the end `x` or `y` is reduced; so there is an action at
+/// the end and another one on T. In state 3, after `x`, T is shifted, or `s` is reduced at the end.
 const CONFLICTS: &str = "A T; s x y; s: x; s: y; s: A T; s: x T; x: A; y: A
 conflicts = 1 Token(1) Unsolved, 1 End Unsolved, 1 End Stream, 3 End Stream";
 

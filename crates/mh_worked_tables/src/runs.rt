@@ -1,4 +1,4 @@
-//! Runs of sentences of whole grammars, worked out by hand, with their last reductions and their trees.
+//! Runs on sentences of whole grammars, worked out by hand, with their last reductions and their trees.
 ghost use Rattle.std.specs.Prelude.{◌<◌, length, IsTrue, All};
 
 use crate::cases::{check_cases, put};
@@ -19,7 +19,7 @@ fn push_digits(sentence: &mut Vec<Token>, digits: &str) -> Result<(), Fail> {
     Ok(())
 }
 
-/// Adds the tokens of a word: their digits, and how often they come behind a `*`.
+/// Appends the tokens of a word: its digits, repeated as often as the number after `*` says.
 fn push_word(sentence: &mut Vec<Token>, word: &str) -> Result<(), Fail> {
     let (digits, times) = word.split_once('*').unwrap_or((word, "1"));
     let times: u32 = times.parse()?;
@@ -36,7 +36,7 @@ fn push_words(sentence: &mut Vec<Token>, words: &str) -> Result<(), Fail> {
     Ok(())
 }
 
-/// The tokens are the table's, and it has a start.
+/// Returns true if the table has a start symbol and the tokens of the sentence.
 fn can_run(table: &Halting, sentence: &[Token]) -> bool
     ensures start { IsTrue result → 0 < length table.now.grammar.starts }
     ensures tokens { IsTrue result → All (λ z. z < table.now.grammar.tokens) sentence.now }
@@ -47,7 +47,7 @@ fn can_run(table: &Halting, sentence: &[Token]) -> bool
     0 < table.starts() && sentence.len() < 2_000_000 && sentence.iter().all(|token| *token < tokens)
 }
 
-/// Adds how a run with trees ends: where it accepts, how many tokens are read, and the tree or its height alone.
+/// Appends the end of a run with trees: if it accepts, the number of tokens read, and the tree or its height.
 fn put_outcome(
     alloc: Global,
     text: &mut String,
@@ -93,7 +93,7 @@ fn put_trees(
     result
 }
 
-/// Adds the verdict and the reductions since the last shift.
+/// Appends the verdict and the reductions since the last shift.
 fn put_trace(
     alloc: Global,
     text: &mut String,
@@ -161,7 +161,7 @@ fn put_words(
     result
 }
 
-/// Adds what a run comes to: its verdict, its trace, its end with trees, or its whole tree.
+/// Appends the result of a run: its verdict, its trace, its end with trees, or its whole tree.
 pub fn put_run(
     alloc: Global,
     text: &mut String,
@@ -174,7 +174,7 @@ pub fn put_run(
     result
 }
 
-/// One sentence.
+/// A grammar with one sentence.
 const PAIR: &str = "A EOF; s; s: A EOF
 run verdict 01 = Accept { read: 2 }
 run verdict 010 = Accept { read: 2 }
@@ -183,9 +183,9 @@ run verdict 0 = Overshoot { state: 1 }
 run verdict 1 = Reject { at: 0, state: 0 }
 run verdict 00 = Reject { at: 1, state: 1 }";
 
-/// Behind `e EQ e` neither EQ is taken. In INT EQ INT EQ INT the first INT was reduced before EQ was shifted. In INT EQ INT EOF both
-/// sides of EQ were reduced, and behind EOF the whole is. An INT is reduced on EQ and on EOF alone, so the last of INT EQ INT INT
-/// is refused before any reduction.
+/// After `e EQ e`, neither EQ is accepted. In INT EQ INT EQ INT, the first INT was reduced before EQ was shifted. In
+/// INT EQ INT EOF, both sides of EQ were reduced, and after EOF the whole sentence is. An INT is reduced only on EQ and
+/// EOF, so the last INT of INT EQ INT INT is refused before any reduction.
 const COMPARISONS: &str = "INT EQ%00n EOF; main e; main: e EOF; e: INT; e: e EQ e %00n
 run trace 01010 = Reject { at: 3, state: 6 } [2]
 run trace 01 = Overshoot { state: 4 } []
@@ -194,12 +194,13 @@ run trace 0100 = Reject { at: 3, state: 1 } []
 run end 01010 = Reject 3 6
 run end 01 = Overshoot 4";
 
-/// The shift of ELSE wins.
+/// The conflict on ELSE is resolved by shifting.
 const CONDITIONALS: &str = "IF ELSE X EOF; main s; main: s EOF; s: IF s; s: IF s ELSE s; s: X
 run tree 002123 = Accept 6 5 [0, 0, 2, 1, 2, 3] [main: [s: IF [s: IF [s: X] ELSE [s: X]]] EOF]";
 
-/// Right-recursive. A A B: s of B, and then twice s of A s. The tree of k times A and then B has the height k + 2. 4,000 times A leave
-/// as many pairs, the longest stack that is let go; one more is too many, though no tree is high.
+/// A right-recursive list. In A A B, first `s: B` is reduced, and then `s: A s` twice. The tree of k times A and then B
+/// has the height k + 2. With 4,000 times A, the stack has as many pairs, which is the most that is allowed; with one
+/// more token the run is too deep, though no tree is high.
 const CHAIN: &str = "A B; s; s: A s; s: B
 run trace 001 = Accept { read: 3 } [2, 1, 1]
 run end 0*3998 1 = Accept 3999 4000
@@ -209,12 +210,12 @@ run verdict 0*3999 1 = Accept { read: 4000 }
 run end 0*4000 = Overshoot 1
 run end 0*4001 = TooDeep";
 
-/// It again, on a million tokens, all of whose states are on the stack before the first reduction.
+/// The same list with a million tokens. All their states are on the stack before the first reduction.
 const LONG_CHAIN: &str = "A B; s; s: A s; s: B
 run verdict 0*999999 1 = Accept { read: 1000000 }";
 
-/// Left-recursive: a sum of a million tokens, whose stack never holds more than four states. They are 0; 1 behind INT; 2 behind
-/// main; 3 behind e; 4 behind e PLUS; 5 behind e EOF; 6 behind e PLUS INT.
+/// A left-recursive sum of a million tokens, whose stack never holds more than four states. The states are 0; 1 after
+/// INT; 2 after main; 3 after e; 4 after e PLUS; 5 after e EOF; 6 after e PLUS INT.
 const SUMS: &str = "INT PLUS EOF; main e; main: e EOF; e: e PLUS INT; e: INT
 run verdict 0 10*499999 2 = Accept { read: 1000000 }
 run verdict 0 10*499999 1 = Overshoot { state: 4 }

@@ -1,8 +1,10 @@
-//! Samples, worked out by hand: the smallest grammar, some of its sentences, and what its canonical table makes of them.
-ghost use Rattle.std.specs.Prelude.{◌≡◌, ◌≤◌, length};
+//! A sample that was worked out by hand: the smallest grammar, some of its sentences, and the counts for its canonical
+//! table.
+ghost use Rattle.std.specs.Prelude.{◌≡◌};
 ghost use Rattle.mh_grammar.specs.Costs.{HaveCosts};
 ghost use Rattle.mh_grammar.specs.Plain.{plain_of, IsInRange};
 ghost use Rattle.mh_items_kernels.specs.Automaton.{IsAutomaton};
+ghost use Rattle.mh_items.specs.Fitting.{FitsSets};
 
 use crate::cases::{check_cases, put, put_bytes};
 use crate::facts::{automaton_of, is_small, table_of};
@@ -14,25 +16,25 @@ use mh_tables_core::Halting;
 use std::alloc::Global;
 use std::test::Fail;
 
-/// The grammar of the number 0, with two operators.
+/// The grammar of sample 0, with two operators.
 const GRAMMAR: &str =
     "%token EOF LP RP INT\n%token OP1\n%token OP2\n%start main\n%%\nmain: e1 EOF {}\n\
      e1: e1 OP1 e2 {} | e2 {}\ne2: e2 OP2 a {} | a {}\na: INT {} | LP e1 RP {}\n";
 
-/// The first four sentences of the number 0.
+/// The first four sentences of sample 0.
 const FIRST: &str = "INT EOF\nLP INT OP2 INT RP EOF\nLP LP INT OP1 INT OP1 INT RP RP EOF\n\
      LP LP LP INT OP2 INT OP1 INT OP2 INT RP RP EOF\n";
 
-/// The end of the last line but one, and the last sentence of the number 0.
+/// The LF before the last line, and the last sentence of sample 0.
 const LAST: &str =
     "\nLP LP LP LP LP LP LP INT OP2 INT OP1 INT OP2 INT OP1 INT RP RP RP RP RP RP RP EOF\n";
 
-/// The grammar again, as these tests write grammars, and what the number 0 comes to.
+/// The same grammar in the notation of these tests, and the line of counts of sample 0.
 const SAME: &str =
     "EOF LP RP INT OP1 OP2; main e1 e2 a; main: e1 EOF; e1: e1 OP1 e2; e1: e2; e2: e2 OP2 a; e2: a; a: INT; a: LP e1 RP
 sample = sample 0: tokens 6, productions 7, states 24, listed 11, accept 2059, overshoot 0, reject 941";
 
-/// Adds a line without its end.
+/// Appends a line without its LF.
 fn put_whole_line(text: &mut String, line: &[u8]) {
     match line.strip_suffix(b"\n") {
         Some(line) => put_bytes(text, line),
@@ -66,8 +68,7 @@ fn put_by_automaton(
     grammar: &Grammar,
     automaton: &Automaton<1>,
 ) -> Result<(), Fail>
-    requires width { length grammar.now.tokens ≤ 64 }
-    requires range { IsInRange (plain_of grammar.now) }
+    requires fits { FitsSets 1 grammar.now }
     requires costs { HaveCosts grammar.now.tokens }
     requires automaton { IsAutomaton (plain_of grammar.now) automaton.now }
 {
@@ -77,7 +78,7 @@ fn put_by_automaton(
     result
 }
 
-/// Adds the line of the sample of 0 by a grammar.
+/// Appends the line of counts of sample 0 for a grammar.
 pub fn put_line(alloc: Global, text: &mut String, grammar: &Grammar) -> Result<(), Fail> {
     if !is_small(grammar) {
         return Err(Fail::from("out of range"));
@@ -88,7 +89,7 @@ pub fn put_line(alloc: Global, text: &mut String, grammar: &Grammar) -> Result<(
     result
 }
 
-/// Whether there are 3,000 sentences, of which the first four and the last are these.
+/// Returns true if there are 3,000 sentences, of which the first four and the last are the expected ones.
 fn are_sentences(sentences: &[u8]) -> bool {
     let text = str::from_utf8(sentences).unwrap_or("");
     text.starts_with(FIRST) && text.ends_with(LAST) && text.lines().count() == 3_000

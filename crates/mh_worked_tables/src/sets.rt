@@ -1,4 +1,4 @@
-//! What nonterminals derive and begin with, names and edges, computed by hand.
+//! Nullable and productive nonterminals, first sets, names and edges, worked out by hand.
 ghost use Rattle.mh_grammar.specs.Plain.{plain_of, IsInRange};
 
 use crate::cases::{check_cases, put, put_bytes, put_comma};
@@ -20,7 +20,7 @@ fn put_name(text: &mut String, name: &[u8]) {
     put(text, ",");
 }
 
-/// Adds the names of two tokens, of symbols, of left sides and of starts; the empty ones name nothing.
+/// Appends the names of two tokens, of symbols, of left sides and of start symbols. The name of a missing one is empty.
 pub fn put_names(text: &mut String, grammar: &Grammar) {
     for token in [1, 2] {
         put_name(text, token_name(grammar, token));
@@ -37,7 +37,7 @@ pub fn put_names(text: &mut String, grammar: &Grammar) {
     }
 }
 
-/// Adds whether each nonterminal derives the empty word.
+/// Appends whether each nonterminal is nullable.
 pub fn put_nullable(alloc: Global, text: &mut String, grammar: &Grammar) -> Result<(), Fail> {
     if !is_in_range(grammar) {
         return Err(Fail::from("out of range"));
@@ -48,7 +48,7 @@ pub fn put_nullable(alloc: Global, text: &mut String, grammar: &Grammar) -> Resu
     Ok(())
 }
 
-/// Adds whether each nonterminal derives a word.
+/// Appends whether each nonterminal is productive, that is derives some word.
 pub fn put_productive(alloc: Global, text: &mut String, grammar: &Grammar) -> Result<(), Fail> {
     if !is_in_range(grammar) {
         return Err(Fail::from("out of range"));
@@ -66,7 +66,7 @@ fn put_rows(text: &mut String, rows: &[Vec<Token>]) {
     }
 }
 
-/// Adds the tokens that words of each nonterminal begin with.
+/// Appends the first set of each nonterminal.
 pub fn put_first(alloc: Global, text: &mut String, grammar: &Grammar) -> Result<(), Fail> {
     if !is_in_range(grammar) {
         return Err(Fail::from("out of range"));
@@ -97,7 +97,7 @@ fn production(lhs: u16, rhs: Vec<Symbol>) -> Production {
     }
 }
 
-/// Adds a production of this left side with this token last.
+/// Appends a production with this left side and this last token.
 fn add_production(
     alloc: Global,
     grammar: &mut Grammar,
@@ -108,7 +108,7 @@ fn add_production(
     Ok(grammar.productions.push(production(side, rhs))?)
 }
 
-/// Whether the sample is in range with such a production more.
+/// Returns true if the sample is in range with one more production of this kind.
 fn sample_takes_production(alloc: Global, side: u16, token: u16) -> Result<bool, Fail> {
     let mut grammar = grammar_of(alloc, SAMPLE)?;
     let added = add_production(alloc, &mut grammar, side, token);
@@ -117,7 +117,7 @@ fn sample_takes_production(alloc: Global, side: u16, token: u16) -> Result<bool,
     Ok(is_taken)
 }
 
-/// Whether the sample with one start more is in range.
+/// Returns true if the sample is in range with one more start symbol.
 fn sample_takes_start(alloc: Global, start: u16) -> Result<bool, Fail> {
     let mut grammar = grammar_of(alloc, SAMPLE)?;
     let is_taken = grammar.starts.push(start).is_ok() && is_in_range(&grammar);
@@ -195,7 +195,7 @@ fn check_productive(rt: &impl Abort, alloc: Global, grammar: &Grammar) -> Result
     Ok(())
 }
 
-/// How many rows hold just the last token.
+/// The number of rows that contain exactly the last token.
 fn count_last(rows: &[Vec<Token>]) -> usize {
     let mut count = 0usize;
     for row in rows {
@@ -215,7 +215,8 @@ fn check_rows(rt: &impl Abort, alloc: Global, grammar: &Grammar) -> Result<(), M
     Ok(())
 }
 
-/// n0: n1, n1: n2, .., and at last the last token of 256; the rules are written in this order or the other way round.
+/// A chain of rules n0: n1, n1: n2, and so on, whose last rule is the last of 256 tokens. The rules are listed in this
+/// order or in reverse.
 fn check_passes(
     rt: &impl Abort,
     alloc: Global,
@@ -240,7 +241,7 @@ fn check_order(rt: &impl Abort, alloc: Global, bottom_up: bool) -> Result<(), Me
     result
 }
 
-/// A pass for each rule would take far longer than a test may.
+/// A pass over the grammar for each rule would take far longer than a test may.
 #[test]
 fn rules_in_either_order_take_few_passes(rt: HostRuntime) -> Result<(), Fail> {
     check_order(&rt, rt.alloc(), false)?;

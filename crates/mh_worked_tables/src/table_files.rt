@@ -1,9 +1,10 @@
-//! Table files that were written out by hand: what is written for a grammar, what is read of it, and the line at which a
-//! file is not of the form.
-ghost use Rattle.std.specs.Prelude.{◌<◌, ◌≤◌, ◌^◌, length};
+//! Table files that were written by hand: the file written for a grammar, the content read from it, and the first bad
+//! line of other files.
+ghost use Rattle.std.specs.Prelude.{◌<◌, ◌^◌, length};
 ghost use Rattle.mh_grammar.specs.Costs.{HaveCosts};
-ghost use Rattle.mh_grammar.specs.Plain.{plain_of, IsInRange};
+ghost use Rattle.mh_grammar.specs.Plain.{plain_of};
 ghost use Rattle.mh_items_kernels.specs.Automaton.{IsAutomaton};
+ghost use Rattle.mh_items.specs.Fitting.{FitsSets};
 
 use crate::cases::{check, put};
 use crate::made::grammar_of;
@@ -21,10 +22,10 @@ use std::fmt::Write;
 use std::process::Abort;
 use std::test::Fail;
 
-/// The grammar of one sentence.
+/// A grammar with one sentence.
 const SMALL: &str = "A EOF; s; s: A EOF";
 
-/// Two starts, an empty production, a cost, and looks with the end of the stream last.
+/// A grammar with two start symbols, an empty production, a cost, and looks of which the last is the end of the stream.
 const LARGER: &str = "B$7 C; s t*; s: B t; t:; t: C";
 
 const LARGER_FILE: &str =
@@ -35,15 +36,14 @@ const LARGER_FILE: &str =
     state 4\nitem 4 1 #\ndefault reduce 4\nstate 5\nitem 1 1 #\ndefault accept\n\
     state 6\nitem 2 2 #\ndefault reduce 2\nend\n";
 
-/// The file of an automaton's table.
+/// The table file of an automaton and its table.
 fn file_of(
     alloc: Global,
     grammar: &Grammar,
     automaton: &Automaton<1>,
     mode: Mode,
 ) -> Result<Vec<u8>, Memory>
-    requires width { length grammar.now.tokens ≤ 64 }
-    requires range { IsInRange (plain_of grammar.now) }
+    requires fits { FitsSets 1 grammar.now }
     requires costs { HaveCosts grammar.now.tokens }
     requires automaton { IsAutomaton (plain_of grammar.now) automaton.now }
 {
@@ -54,7 +54,7 @@ fn file_of(
     file
 }
 
-/// The file of a grammar's table, by its canonical automaton.
+/// The table file of a grammar's canonical automaton.
 fn written_by(alloc: Global, grammar: &Grammar, mode: Mode) -> Result<Vec<u8>, Fail> {
     if !is_in_range(grammar) || !has_costs_in_range(grammar) || grammar.tokens.len() > 64 {
         return Err(Fail::from("out of range"));
@@ -92,7 +92,7 @@ fn written(rt: HostRuntime) -> Result<(), Fail> {
     check_file(&rt, rt.alloc(), LARGER, Mode::Canonical, LARGER_FILE)
 }
 
-/// Adds what reading answers: how many states, another version, the line, or that memory ran out.
+/// Appends the result of reading: the number of states, another version, the first bad line, or that memory ran out.
 fn put_answer(alloc: Global, text: &mut String, file: &[u8])
     requires { length file.now < 2 ^ 31 }
 {
@@ -119,7 +119,7 @@ fn check_answer(rt: &impl Abort, alloc: Global, file: &str, wanted: &str) -> Res
     Ok(())
 }
 
-/// The same of a file that was built, which is let go.
+/// Does the same for a file that was built by the test, and drops it.
 fn check_built(rt: &impl Abort, alloc: Global, file: String, wanted: &str) -> Result<(), Fail> {
     let result = check_answer(rt, alloc, &file, wanted);
     drop(file);
@@ -139,8 +139,8 @@ fn ends(rt: HostRuntime) -> Result<(), Fail> {
     check_built(&rt, alloc, longer, "line 24")
 }
 
-/// First lines, the first of a file with no other line but a second of another form, with what the whole answers behind a `~`;
-/// `^` between cases.
+/// Files with various first lines, of which some have other lines after them; `~` is before the result and `^` between
+/// cases.
 const VERSIONS: &str = "menhir-tables 9 merged~version^\
     menhir-tables 9 merged\nno table~version^\
     menhir-tables 0 canonical\n~version^\
@@ -153,7 +153,7 @@ const VERSIONS: &str = "menhir-tables 9 merged~version^\
     menhir-tables 2 merged\n~line 1^\
     menhir-tables 2 merged\nno table\n~line 2";
 
-/// Lines of the head, without the first words and before those of one state.
+/// Lines up to the productions, without the first word and before the lines of one state.
 const HEADS: &str = "1 merged\ntokens\nstarts\nproductions 0~1 states^\
     2 merged\ntokens\ncosts\nstarts\nproductions 0~1 states^\
     2 merged\ntokens A\ncosts 1 2 3\nstarts\nproductions 0~1 states^\
@@ -189,7 +189,7 @@ const STATES: &str = "\
     state 0\nedge x~line 7^\
     state 0\n~line 7";
 
-/// A case between a front and a back that are those of all.
+/// Checks a case whose file is the lines of the case between a common beginning and a common end.
 fn check_case(
     rt: &impl Abort,
     alloc: Global,
@@ -230,7 +230,7 @@ fn has_default(table: &RawTable, state: usize) -> bool {
     }
 }
 
-/// What the small file says, in both versions.
+/// Checks the content of the small file, in both versions.
 fn check_small(rt: &impl Abort, table: &RawTable, has_costs: bool) {
     let counts = [
         table.tokens.len(),
@@ -276,7 +276,7 @@ fn contents(rt: HostRuntime) -> Result<(), Fail> {
     result
 }
 
-/// A line of a hundred thousand words, and as many states.
+/// A line of a hundred thousand words, and a hundred thousand states.
 #[test]
 fn large(rt: HostRuntime) -> Result<(), Fail> {
     let mut file = String::new(rt.alloc());

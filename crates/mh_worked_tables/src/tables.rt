@@ -1,4 +1,4 @@
-//! Tables that were worked out by hand, and whether runs on them end.
+//! Tables that were worked out by hand, and whether every run on them ends.
 use crate::cases::check_cases;
 use crate::made::resolved;
 use mh_grammar::Grammar;
@@ -8,7 +8,7 @@ use std::alloc::Global;
 use std::fmt::Write;
 use std::test::Fail;
 
-/// Adds how many states a table has on which each run ends, or the run that does not end.
+/// Appends the number of states of a table if every run on the table ends, else the run that loops.
 pub fn put_halting(alloc: Global, text: &mut String, grammar: &Grammar) -> Result<(), Fail> {
     let (table, conflicts) = resolved(alloc, grammar, Mode::Canonical)?;
     drop(conflicts);
@@ -24,7 +24,7 @@ pub fn put_halting(alloc: Global, text: &mut String, grammar: &Grammar) -> Resul
     Ok(())
 }
 
-/// In the second, on A an empty b is reduced before each s that begins with one.
+/// In the second grammar, on A an empty `b` is reduced again and again, before each `s` that begins with `b`.
 const TABLES: &str = "A EOF; s; s: A EOF
 counts = 4 states, 2 tokens, 1 starts, 2 productions
 cell 1 1 = Shift(3)

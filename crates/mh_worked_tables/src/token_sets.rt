@@ -1,4 +1,4 @@
-//! Sets of looks at the edges of words, and the width for a number of tokens.
+//! Sets of looks at the borders of their words, and the width for a number of tokens.
 ghost use Rattle.std.specs.Prelude.{◌<◌};
 
 use mh_grammar::Look;
@@ -10,7 +10,7 @@ fn check(rt: &impl Abort, found: &[bool], wanted: &[bool]) {
     assert_eq!(rt; found, wanted);
 }
 
-/// The end of the stream is put in an empty set, twice.
+/// Inserts the end of the stream twice into an empty set.
 fn check_end(rt: &impl Abort, set: &mut TokenSet<2>) {
     let found = [
         set.first().is_none(),
@@ -21,7 +21,7 @@ fn check_end(rt: &impl Abort, set: &mut TokenSet<2>) {
     check(rt, &found, &[true, true, false, true]);
 }
 
-/// A token that is new and lower than all others is put in, twice.
+/// Inserts twice a token that is new and lower than all others.
 fn check_token(rt: &impl Abort, set: &mut TokenSet<2>, number: u16)
     requires { number < 128 }
 {
@@ -36,7 +36,7 @@ fn check_token(rt: &impl Abort, set: &mut TokenSet<2>, number: u16)
     check(rt, &found, &[false, true, false, true, true]);
 }
 
-/// Whether a set has just these looks.
+/// Returns true if a set consists of exactly these looks.
 fn are_looks(set: &TokenSet<2>, looks: &[Look]) -> bool {
     let mut left = set.copied();
     for look in looks {
@@ -69,7 +69,7 @@ fn edges_of_words(rt: HostRuntime) {
     check(&rt, &found, &[false, false, true]);
 }
 
-/// A set, and another that is put into it, twice: whether they meet and which is within which, before and behind.
+/// Adds another set to a set twice, and checks before and after whether they meet and which is a subset of which.
 fn check_union(rt: &impl Abort, set: &mut TokenSet<8>, other: &TokenSet<8>) {
     let found = [
         set.meets(other),

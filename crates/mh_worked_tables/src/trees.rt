@@ -1,4 +1,4 @@
-//! Worked trees, with heights, tokens and texts computed by hand.
+//! Trees with their heights, tokens and texts, worked out by hand.
 ghost use Rattle.std.specs.Prelude.{◌≡◌, ◌<◌, IfOk};
 ghost use Rattle.mh_grammar.specs.Trees.{height_of, Node, Cons, Nil};
 ghost use Rattle.mh_grammar.specs.declared.types.TheConstants.{MAX_HEIGHT};
@@ -37,7 +37,7 @@ fn behind_an_empty_node(alloc: Global, tree: &Tree) -> Result<Tree, Memory>
     pair(alloc, 3, empty, shared)
 }
 
-/// A tree of two leaves that is shared in a tree.
+/// A tree that shares a tree of two leaves.
 fn shared(alloc: Global) -> Result<Tree, Memory> {
     let inner = two_leaves(alloc)?;
     let tree = behind_an_empty_node(alloc, &inner);
@@ -54,7 +54,7 @@ fn over(alloc: Global, child: Tree) -> Result<Tree, Memory>
     node(alloc, 1, children)
 }
 
-/// Nodes with one child each, over a leaf.
+/// A chain of nodes with one child each, over a leaf.
 fn highest_chain(alloc: Global) -> Result<Tree, Memory> {
     let mut chain = leaf(alloc, 0)?;
     for _ in 1..4000 {
@@ -81,7 +81,7 @@ fn put_tokens(alloc: Global, text: &mut String, tree: &Tree) -> Result<(), Memor
     Ok(())
 }
 
-/// Adds the text of a tree, or of a long one how many bytes it has.
+/// Appends the text of a tree, or the number of its bytes if the text is long.
 fn put_text(
     alloc: Global,
     text: &mut String,
@@ -98,7 +98,7 @@ fn put_text(
     Ok(())
 }
 
-/// Adds the height of a tree, its tokens and its text.
+/// Appends the height of a tree, its tokens and its text.
 pub fn put_tree(
     alloc: Global,
     text: &mut String,
@@ -110,7 +110,7 @@ pub fn put_tree(
     put_text(alloc, text, grammar, tree)
 }
 
-/// The same of a tree that is made.
+/// Does the same for a tree that the test makes, and drops the tree.
 pub fn put_made(
     alloc: Global,
     text: &mut String,
@@ -123,7 +123,7 @@ pub fn put_made(
     Ok(result?)
 }
 
-/// Production 0 is that of the start. Each of the 3,999 nodes of the highest chain adds `[s: ` and `]` to the `A`.
+/// Production 0 is the start production. Each of the 3,999 nodes of the highest chain adds `[s: ` and `]` to the `A`.
 const TREES: &str = "A EOF; s b; s: A EOF; b:; s: b s
 tree leaves = 2 [0, 1] [s: A EOF]
 tree empty = 1 [] [b:]

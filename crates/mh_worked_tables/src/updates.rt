@@ -1,11 +1,12 @@
-//! Messages files that are kept while a grammar grows, worked out by hand: what they are brought up to date to, and which states one has
-//! and another lacks.
+//! Messages files that are maintained while a grammar grows, worked out by hand: the updated files, and the states that
+//! one file has and another lacks.
 ghost use Rattle.std.specs.Prelude.{◌≡◌, ◌≤◌, length, IfOk};
 ghost use Rattle.mh_grammar.specs.Costs.{HaveCosts};
 ghost use Rattle.mh_grammar.specs.Plain.{plain_of, IsInRange};
 ghost use Rattle.mh_items_kernels.specs.Automaton.{IsAutomaton};
 ghost use Rattle.mh_resolve_cells.specs.States.{IsTableOf};
 ghost use Rattle.mh_resolve_cells.specs.declared.kinds.Mode.TheVariants.{Canonical};
+ghost use Rattle.mh_items.specs.Fitting.{FitsSets};
 
 use crate::cases::{check, put, put_bytes};
 use crate::facts::{automaton_of, is_small, table_of};
@@ -22,10 +23,10 @@ use std::fmt::Write;
 use std::process::Abort;
 use std::test::Fail;
 
-/// One sentence.
+/// A grammar with one sentence.
 const PAIR: &str = "A EOF; s; s: A EOF";
 
-/// Files, with `~` before what they become and `^` between cases.
+/// Messages files, with `~` before the updated file and `^` between cases.
 const FILES: &str = "~^\
      s: EOF\n## old\n\nM\n~\
      s: EOF\n##\n## Ends in an error in state: 0.\n##\n## s' -> . s [ # ]\n##\n\
@@ -44,8 +45,8 @@ const FILES: &str = "~^\
      ## Ends in an error in state: 0.\n##\n## s' -> . s [ # ]\n##\n\
      ## The known suffix of the stack is as follows:\n##\n##\n\nN\n";
 
-/// The same of two files, and how many states there are for which the first has a message and the second has none, and the first of
-/// them.
+/// Two messages files, the number of states for which the first has a message and the second has none, and the first of
+/// these states.
 const PAIRS: &str = "EOF\n\nM\n\nA A\n\nN\n~EOF\n\nM\n~1 Some(1)^\
      EOF\n\nM\n~EOF\n\nM\n\nA A\n\nN\n~0 None";
 
@@ -57,7 +58,7 @@ fn verdict_name(verdict: Verdict) -> &'static str {
     }
 }
 
-/// Adds what is told of a file that does not fit.
+/// Appends the fault of a messages file that does not fit the table.
 fn put_fault(text: &mut String, fault: &CheckFault) {
     match fault {
         CheckFault::NotRefused { line, verdict } => {
@@ -71,7 +72,7 @@ fn put_fault(text: &mut String, fault: &CheckFault) {
     }
 }
 
-/// Adds what the file of these bytes becomes.
+/// Appends the updated file of these bytes.
 fn put_updated(
     alloc: Global,
     text: &mut String,
@@ -102,7 +103,7 @@ fn put_updated(
     Ok(())
 }
 
-/// The messages of a file by a table of this grammar.
+/// The compiled messages of a file for a table of this grammar.
 fn compiled(
     alloc: Global,
     grammar: &Grammar,
@@ -125,7 +126,8 @@ fn compiled(
     }
 }
 
-/// Adds how many states there are for which the first file has a message and the second has none, and the first of them.
+/// Appends the number of states for which the first file has a message and the second has none, and the first of these
+/// states.
 fn put_missing(
     alloc: Global,
     text: &mut String,
@@ -161,7 +163,7 @@ fn put_against(
     result
 }
 
-/// Adds what the second of two files lacks.
+/// Appends the states that the second of two files lacks.
 fn put_lacked(
     alloc: Global,
     text: &mut String,
@@ -181,7 +183,7 @@ fn put_lacked(
     result
 }
 
-/// Adds what a file becomes, by an automaton of its grammar.
+/// Appends the updated file, for an automaton of its grammar.
 fn put_updated_by(
     alloc: Global,
     text: &mut String,
@@ -189,8 +191,7 @@ fn put_updated_by(
     automaton: &Automaton<1>,
     file: &[u8],
 ) -> Result<(), Fail>
-    requires width { length grammar.now.tokens ≤ 64 }
-    requires range { IsInRange (plain_of grammar.now) }
+    requires fits { FitsSets 1 grammar.now }
     requires costs { HaveCosts grammar.now.tokens }
     requires automaton { IsAutomaton (plain_of grammar.now) automaton.now }
     requires short { length file.now ≤ 1000 }
@@ -201,7 +202,7 @@ fn put_updated_by(
     result
 }
 
-/// Adds what the second of two files lacks, by an automaton of their grammar.
+/// Appends the states that the second of two files lacks, for an automaton of their grammar.
 fn put_lacked_by(
     alloc: Global,
     text: &mut String,
@@ -210,8 +211,7 @@ fn put_lacked_by(
     left: &[u8],
     right: &[u8],
 ) -> Result<(), Fail>
-    requires width { length grammar.now.tokens ≤ 64 }
-    requires range { IsInRange (plain_of grammar.now) }
+    requires fits { FitsSets 1 grammar.now }
     requires costs { HaveCosts grammar.now.tokens }
     requires automaton { IsAutomaton (plain_of grammar.now) automaton.now }
     requires left { length left.now ≤ 1000 }
@@ -223,7 +223,7 @@ fn put_lacked_by(
     result
 }
 
-/// Adds what a file becomes.
+/// Appends the updated file, for its grammar.
 fn put_update(
     alloc: Global,
     text: &mut String,
@@ -239,7 +239,7 @@ fn put_update(
     result
 }
 
-/// Adds what the second of two files lacks.
+/// Appends the states that the second of two files lacks, for their grammar.
 fn put_pair(
     alloc: Global,
     text: &mut String,
@@ -256,7 +256,7 @@ fn put_pair(
     result
 }
 
-/// A case is a file, or two, and what is wanted.
+/// Checks a case: one or two files and the wanted result.
 fn check_case(rt: &impl Abort, alloc: Global, grammar: &Grammar, case: &str) -> Result<(), Fail> {
     let (file, rest) = case.split_once('~').ok_or("a case without a text")?;
     let mut text = String::new(alloc);

@@ -1,4 +1,4 @@
-//! Which test a table file fails, and where.
+//! Invalid table files: the test that fails, and the state.
 use crate::cases::{check, put};
 use crate::facts::is_small;
 use crate::made::grammar_of;
@@ -12,7 +12,7 @@ use std::fmt::Write;
 use std::process::Abort;
 use std::test::Fail;
 
-/// Adds the test that fails.
+/// Appends the test that fails.
 fn put_fault(text: &mut String, fault: &ValidFault) {
     match fault {
         ValidFault::Invalid {
@@ -31,7 +31,7 @@ fn put_fault(text: &mut String, fault: &ValidFault) {
     }
 }
 
-/// Adds what validating a file answers: how many states and conflicts there are, or the test that fails.
+/// Appends the result of validating a file: the numbers of states and conflicts, or the test that fails.
 fn put_answer(
     alloc: Global,
     text: &mut String,
@@ -63,7 +63,7 @@ fn put_answer_of(alloc: Global, text: &mut String, grammar: &str, file: &[u8]) -
     result
 }
 
-/// Replaces each text before a `=` by the one behind it.
+/// Replaces each text before `=` by the text after it.
 fn change(rt: &impl Abort, alloc: Global, file: &mut String, changes: &str) -> Result<(), Fail> {
     for change in changes.split_terminator(';') {
         let (old, new) = change.split_once('=').ok_or("a change without a sign")?;
@@ -86,7 +86,7 @@ fn check_file(
     result
 }
 
-/// Checks what validating answers for a file that is changed so.
+/// Fails if validating the changed file does not give the wanted result.
 fn check_changed(
     rt: &impl Abort,
     alloc: Global,
@@ -103,11 +103,11 @@ fn check_changed(
     result
 }
 
-/// The grammar of one sentence, as numbers.
+/// The grammar with one sentence, as numbers.
 const GRAMMAR: &str = "A EOF; s; s: A EOF";
 
-/// Changes of the table file, and behind a `~` what validating it answers; `^` between cases. The header comes before the count of states,
-/// that before all kernels, and these before edges and cells, state by state.
+/// Changes of the table file, `~`, and the result of validating the changed file; `^` is between cases. The header is
+/// tested before the number of states, this before all kernels, and these before edges and cells, state by state.
 const CASES: &str = "~4 states, 0 conflicts^\
     menhir-tables 2=menhir-tables 1;costs 1 1\n=~4 states, 0 conflicts^\
     costs 1 1=costs 1 2~Header^\
@@ -131,6 +131,6 @@ fn validity(rt: HostRuntime) -> Result<(), Fail> {
         let (changes, wanted) = case.split_once('~').ok_or("a case without a `~`")?;
         check_changed(&rt, rt.alloc(), GRAMMAR, changes, wanted)?;
     }
-    // the file is another grammar's
+    // The file is one of another grammar.
     check_changed(&rt, rt.alloc(), "A EOF; s; s: A A EOF", "", "Header")
 }

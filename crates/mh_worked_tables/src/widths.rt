@@ -1,7 +1,8 @@
-//! One automaton at every width of its sets.
-ghost use Rattle.std.specs.Prelude.{◌≤◌, ◌*◌, length, IfOk};
-ghost use Rattle.mh_grammar.specs.Plain.{plain_of, IsInRange};
+//! One automaton with token sets of several widths.
+ghost use Rattle.std.specs.Prelude.{◌≤◌, IfOk};
+ghost use Rattle.mh_grammar.specs.Plain.{plain_of};
 ghost use Rattle.mh_canon_states.specs.Canonical.{IsCanonical};
+ghost use Rattle.mh_items.specs.Fitting.{FitsSets};
 
 use crate::automata::put_edges;
 use crate::cases::{check_cases, put};
@@ -24,7 +25,7 @@ fn text_of<const W: usize>(alloc: Global, automaton: &Automaton<W>) -> String {
     text
 }
 
-/// Whether two automata have the same edges, and the same items with the same looks.
+/// Returns true if two automata have the same edges, and the same items with the same looks.
 fn are_same<const V: usize, const W: usize>(
     alloc: Global,
     left: &Automaton<V>,
@@ -35,11 +36,9 @@ fn are_same<const V: usize, const W: usize>(
     left == right
 }
 
-/// The canonical automaton with sets of this width.
+/// The canonical automaton with sets of this width in words.
 fn canonical_at<const W: usize>(alloc: Global, grammar: &Grammar) -> Result<Automaton<W>, Fail>
-    requires few { W ≤ 8 }
-    requires width { length grammar.now.tokens ≤ 64 * W }
-    requires range { IsInRange (plain_of grammar.now) }
+    requires fits { FitsSets W grammar.now }
     ensures { IfOk result (IsCanonical (plain_of grammar.now)) }
 {
     match canonical(alloc, grammar) {
@@ -48,16 +47,14 @@ fn canonical_at<const W: usize>(alloc: Global, grammar: &Grammar) -> Result<Auto
     }
 }
 
-/// Whether the automaton with sets of another width is this one.
+/// Returns true if the automaton with sets of another width equals this one.
 fn is_same_at<const V: usize, const W: usize>(
     alloc: Global,
     grammar: &Grammar,
     left: &Automaton<V>,
 ) -> Result<bool, Fail>
     requires first { V ≤ 8 }
-    requires few { W ≤ 8 }
-    requires width { length grammar.now.tokens ≤ 64 * W }
-    requires range { IsInRange (plain_of grammar.now) }
+    requires fits { FitsSets W grammar.now }
     requires left { IsCanonical (plain_of grammar.now) left.now }
 {
     let right = canonical_at::<W>(alloc, grammar)?;
@@ -67,15 +64,14 @@ fn is_same_at<const V: usize, const W: usize>(
     Ok(result)
 }
 
-/// Adds how many states an automaton has, and whether it is the same at the widths of four and eight words.
+/// Appends the number of states of an automaton, and whether it is the same with sets of four and of eight words.
 fn put_widths(
     alloc: Global,
     text: &mut String,
     grammar: &Grammar,
     one: &Automaton<1>,
 ) -> Result<(), Fail>
-    requires width { length grammar.now.tokens ≤ 64 }
-    requires range { IsInRange (plain_of grammar.now) }
+    requires fits { FitsSets 1 grammar.now }
     requires one { IsCanonical (plain_of grammar.now) one.now }
 {
     let four = is_same_at::<1, 4>(alloc, grammar, one)?;
@@ -84,7 +80,7 @@ fn put_widths(
     Ok(())
 }
 
-/// The same of the automaton of a grammar at the width of one word.
+/// Does the same for the automaton of a grammar with sets of one word.
 pub fn put_states(alloc: Global, text: &mut String, grammar: &Grammar) -> Result<(), Fail> {
     if !is_in_range(grammar) || grammar.tokens.len() > 64 {
         return Err(Fail::from("out of range"));

@@ -1,4 +1,4 @@
--- How many unfoldings there are, and how long the longest is.
+-- The sizes of lists of unfoldings: the number of unfoldings and the length of the longest.
 use Rattle.std.specs.Prelude.{◌≡◌, ◌+◌, ◌<◌, ◌≤◌, ℕ, true, List, [], ◌∷◌, Option, Some, None, length, min, max, take, slice_get, count_by}
 use Rattle.std.specs.Option.{is_none}
 use Rattle.std.specs.List.{Contains}
@@ -9,7 +9,7 @@ use Rattle.mh_rules.specs.declared.instances.Instance.{Instance}
 use Rattle.mh_inline_unfold.specs.declared.unfolding.Unfolding.{Unfolding}
 use Rattle.mh_inline_unfold.specs.declared.sizes.TheConstants.{MAX_PRODUCTIONS, MAX_SYMBOLS}
 use Rattle.mh_inline_unfold.specs.declared.sizes.Size.{Size}
-use Rattle.mh_inline_unfold.specs.declared.sizes.Sizing.{Sizing}
+use Rattle.mh_inline_unfold.specs.declared.sizes.SizeTable.{SizeTable}
 use Rattle.mh_inline_unfold.specs.Instances.{is_inlined, Inlines}
 use Rattle.mh_inline_unfold.specs.Unfoldings.{UnfoldsPart, Unfolds, UnfoldsEach}
 
@@ -17,21 +17,21 @@ abbrev pub longest : List Unfolding → ℕ
 longest [] = 0
 longest (u ∷ us) = max (length u.rhs) (longest us)
 
--- both are exact up to one past the limits
+-- Both numbers are exact, but capped at one more than their limits.
 pub record IsSize (us : List Unfolding) (s : Size) : Type 0 where
   pub count : s.count ≡ min (length us) (MAX_PRODUCTIONS + 1)
   pub longest : s.longest ≡ min (longest us) (MAX_SYMBOLS + 1)
 
--- within the limits
+-- The unfoldings are within the limits.
 pub record AreSmall (us : List Unfolding) : Type 0 where
   pub few : length us ≤ MAX_PRODUCTIONS
   pub short : longest us ≤ MAX_SYMBOLS
 
-abbrev pub IsWithin : Option Size → Type 0
-IsWithin None = ⊥
-IsWithin (Some s) = (s.count ≤ MAX_PRODUCTIONS) × (s.longest ≤ MAX_SYMBOLS)
+abbrev pub IsSmallSize : Option Size → Type 0
+IsSmallSize None = ⊥
+IsSmallSize (Some s) = (s.count ≤ MAX_PRODUCTIONS) × (s.longest ≤ MAX_SYMBOLS)
 
--- the size of the unfoldings of a producer, of some producers, of some alternatives
+-- The size of the unfoldings of a producer, of a list of producers, and of a list of alternatives.
 pub record IsPartSize (is : List Instance) (X : Part) (s : Size) : Type 0 where
   pub unfoldings : List Unfolding
   pub unfolds : UnfoldsPart is X unfoldings
@@ -50,33 +50,33 @@ pub record IsEachSize (is : List Instance) (ps : List InstanceProduction) (s : S
   pub some : length ps ≤ length unfoldings
   pub size : IsSize unfoldings s
 
--- the inline instances among some producers, in some alternatives have sizes
+-- Each inline instance among these producers, or in these alternatives, has a size.
 pub record AreSized (is : List Instance) (sizes : List (Option Size)) (Xs : List Part) : Type 0 where
   pub each : (j n : ℕ) → slice_get Xs j ≡ Some (Applied n) → is_inlined is n ≡ true → (s : Size) × (slice_get sizes n ≡ Some (Some s))
 
 pub record AreEachSized (is : List Instance) (sizes : List (Option Size)) (ps : List InstanceProduction) : Type 0 where
   pub each : (k : ℕ) (p : InstanceProduction) → slice_get ps k ≡ Some p → AreSized is sizes p.rhs
 
--- an inline instance without a size stands among some producers, some alternatives
-pub record IsBlocked (is : List Instance) (sizes : List (Option Size)) (Xs : List Part) : Type 0 where
+-- An inline instance among these producers, or in these alternatives, has no size.
+pub record HasUnsizedProducer (is : List Instance) (sizes : List (Option Size)) (Xs : List Part) : Type 0 where
   pub place : ℕ
   pub number : ℕ
   pub at : slice_get Xs place ≡ Some (Applied number)
   pub inlined : is_inlined is number ≡ true
   pub unsized : slice_get sizes number ≡ Some None
 
-pub record IsEachBlocked (is : List Instance) (sizes : List (Option Size)) (ps : List InstanceProduction) : Type 0 where
+pub record HasUnsizedAlternative (is : List Instance) (sizes : List (Option Size)) (ps : List InstanceProduction) : Type 0 where
   pub place : ℕ
   pub production : InstanceProduction
   pub at : slice_get ps place ≡ Some production
-  pub blocked : IsBlocked is sizes production.rhs
+  pub blocked : HasUnsizedProducer is sizes production.rhs
 
--- the sizes that there are, are right
+-- The sizes that have been computed are right.
 pub record AreSizes (is : List Instance) (sizes : List (Option Size)) : Type 0 where
   pub len : length sizes ≡ length is
   pub sound : (n : ℕ) (s : Size) → slice_get sizes n ≡ Some (Some s) → IsPartSize is (Applied n) s
 
--- an inline instance with a size stands behind the inline instances that it is made of
+-- The inline instance n has a size, and the inline instances that it uses occur earlier in the list.
 pub record IsOrdered (is : List Instance) (sizes : List (Option Size)) (before : List ℕ) (n : ℕ) : Type 0 where
   pub inlined : is_inlined is n ≡ true
   pub size : Size
@@ -88,18 +88,18 @@ pub record AreOrdered (is : List Instance) (sizes : List (Option Size)) (order :
   pub listed : (n : ℕ) (z : Size) → slice_get sizes n ≡ Some (Some z) → Contains order n
   pub ordered : (i n : ℕ) → slice_get order i ≡ Some n → IsOrdered is sizes (take i order) n
 
-abbrev pub IsSizing : List Instance → Sizing → Type 0
-IsSizing is s = AreOrdered is s.sizes.items s.order.items
+abbrev pub IsSizeTable : List Instance → SizeTable → Type 0
+IsSizeTable is s = AreOrdered is s.sizes.items s.order.items
 
-abbrev pub unsized_count : Sizing → ℕ
+abbrev pub unsized_count : SizeTable → ℕ
 unsized_count s = count_by is_none s.sizes.items
 
--- an inline instance without a size is made of another one
-pub record IsSettled (is : List Instance) (sizes : List (Option Size)) (n : ℕ) : Type 0 where
+-- If an inline instance has no size, then it uses an inline instance without a size.
+pub record IsFixedAt (is : List Instance) (sizes : List (Option Size)) (n : ℕ) : Type 0 where
   pub settled : is_inlined is n ≡ true → slice_get sizes n ≡ Some None → (m : ℕ) × Inlines is n m × (slice_get sizes m ≡ Some None)
 
-abbrev pub AreSettled : List Instance → List (Option Size) → Type 0
-AreSettled is sizes = (n : ℕ) → IsSettled is sizes n
+abbrev pub IsSizeFixedPoint : List Instance → List (Option Size) → Type 0
+IsSizeFixedPoint is sizes = (n : ℕ) → IsFixedAt is sizes n
 
 abbrev pub AreAllSized : List Instance → List (Option Size) → Type 0
 AreAllSized is sizes = (n : ℕ) → is_inlined is n ≡ true → (s : Size) × (slice_get sizes n ≡ Some (Some s))

@@ -1,4 +1,4 @@
--- Rules and their numbers.
+-- The numbers of the rules in hash maps.
 use Rattle.std.specs.Prelude.{◌≡◌, ◌<◌, ◌&&◌, ◌++◌, ℕ, if◌then◌else◌, List, map, Option, Some, None, option_and_then, position, slice_get, length}
 use Rattle.std.specs.List.{flat_map}
 use Rattle.std.specs.Option.{option_or}
@@ -14,26 +14,26 @@ abbrev pub number_in : Numbering → Option ℕ → Text → Option ℕ
 number_in n None x = get same n.public x
 number_in n (Some k) x = option_and_then (λ m. get same m x) (slice_get n.own.items k)
 
--- the maps give each rule its place
+-- The maps give each rule its position in the list of rules.
 pub record IsNumbered (n : Numbering) : Type 0 where
   pub placed : (owner : Option ℕ) (x : Text) → number_in n owner x ≡ position (is_rule owner x) n.rules.items
 
--- a rule of this owner can be put in
+-- The numbering has a map for this owner.
 abbrev pub IsOwner : Numbering → Option ℕ → Type 0
 IsOwner n None = Unit {0}
 IsOwner n (Some k) = k < length n.own.items
 
--- the outline of a definition with this owner
+-- The outline of the rule r with this owner.
 abbrev pub outline_by : Option ℕ → Rule → Outline
 outline_by owner r = record { name = r.name; owner = owner; inlined = r.inlined; formals = length r.formals }
 
--- these outlines were put in, each where its rule is new
-pub record Numbers (old new : Numbering) (outlines : List Outline) : Type 0 where
+-- The new numbering has these outlines inserted in order, each unless its rule is there already.
+pub record InsertsRules (old new : Numbering) (outlines : List Outline) : Type 0 where
   pub rules : new.rules.items ≡ insert_all same_rule old.rules.items outlines
   pub numbered : IsNumbered new
   pub owners : length new.own.items ≡ length old.own.items
 
--- the rule of this owner and name has this number, where it had none
+-- The new numbering gives this number to the rule of this owner and name, if the rule had no number.
 pub record AddsNumber (old : Numbering) (owner : Option ℕ) (name : Text) (number : ℕ) (new : Numbering) : Type 0 where
   pub numbers : (o : Option ℕ) (x : Text) → number_in new o x ≡ option_or (number_in old o x) (if same_owner o owner && same x name then Some number else None)
   pub rules : new.rules.items ≡ old.rules.items
@@ -45,6 +45,6 @@ outline_in starts k all r = outline_by (owner_in starts k all r.name) r
 abbrev pub outlines_in : List Text → ℕ × Module → List Outline
 outlines_in starts f = map (outline_in starts f.0 f.1.rules) f.1.rules
 
--- the rules of these files and of this prelude
+-- The outlines of the rules of these files and of this prelude, in order of their first definitions.
 abbrev pub outlines_of : List Text → List Module → List Rule → List Outline
 outlines_of starts ms from_prelude = firsts same_rule (flat_map (outlines_in starts) (files ms) ++ map (outline_by (Some 0)) from_prelude)

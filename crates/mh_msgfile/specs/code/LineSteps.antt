@@ -1,4 +1,4 @@
--- What the steps of reading a line answer: of its names, its pieces, its start and its tokens.
+-- The contracts of the steps that read a sentence line.
 use Rattle.std.specs.Prelude.{◌≡◌, ℕ, ◌+◌, Vec, Bool, true, false, List, [], ◌∷◌, ◌++◌, Option, None, Some, if◌then◌else◌, Result, Ok, Err, ⊤}
 use Rattle.std.specs.List.{list_all}
 use Rattle.std.specs.Str.{bytes_eq}
@@ -10,50 +10,51 @@ use Rattle.mh_msgfile.specs.declared.sentence.StartName.{StartName}
 use Rattle.mh_msgfile.specs.declared.sentence.StartName.TheVariants.{Named, LeftOut}
 use Rattle.mh_msgfile.specs.declared.sentence.SentenceFault.{SentenceFault}
 use Rattle.mh_msgfile.specs.declared.sentence.SentenceFault.TheVariants as faults
-use Rattle.mh_msgfile.specs.Sentences.{number_in, number_of, pieces, sole, Vocabulary, TokensFound, Tokens, Unknown, tokens_of, StartFound, StartIs, NoSuchStart, NoStart, LineFound, IsSentence, ReadsSentence}
+use Rattle.mh_msgfile.specs.Sentences.{number_in, number_of, pieces, only_word, Vocabulary, TokensResult, Tokens, Unknown, tokens_of, StartResult, StartIs, NoSuchStart, NoStart, LineResult, IsSentence, ReadsSentence}
 
--- the entries of a map that has the numbers of these names
+-- The map has exactly the numbers of these names.
 abbrev pub AreNumbers : List Text → List (Vec ℕ Global × ℕ) → Type 0
 AreNumbers names entries = (name : Text) → number_in entries name ≡ number_of names name
 
--- the first that is there
+-- The first of two optional numbers that is present.
 abbrev pub or_else : Option ℕ → Option ℕ → Option ℕ
 or_else None later = later
 or_else (Some first) later = Some first
 
--- a name has its number now, where it had none; others keep theirs
-abbrev pub PutsName : Text → ℕ → List (Vec ℕ Global × ℕ) → List (Vec ℕ Global × ℕ) → Type 0
-PutsName name number old new = (other : Text) → number_in new other ≡ or_else (number_in old other) (if bytes_eq other name then Some number else None)
+-- The name has this number if it had none; all other numbers are unchanged.
+abbrev pub InsertsName : Text → ℕ → List (Vec ℕ Global × ℕ) → List (Vec ℕ Global × ℕ) → Type 0
+InsertsName name number old new = (other : Text) → number_in new other ≡ or_else (number_in old other) (if bytes_eq other name then Some number else None)
 
--- how many separators stand in front
+-- The number of separators at the front of the list.
 abbrev pub blank_count : {A : Type 0} → (A → Bool) → List A → ℕ
 blank_count separates [] = 0
 blank_count separates (x ∷ xs) = if separates x then blank_count separates xs + 1 else 0
 
--- how many items stand before the first separator
+-- The number of items before the first separator.
 abbrev pub piece_size : {A : Type 0} → (A → Bool) → List A → ℕ
 piece_size separates [] = 0
 piece_size separates (x ∷ xs) = if separates x then 0 else piece_size separates xs + 1
 
--- the name that stands alone
-abbrev pub IsSole : Text → Option (Bor Text) → Type 0
-IsSole bytes None = sole (pieces bytes) ≡ None
-IsSole bytes (Some name) = sole (pieces bytes) ≡ Some name.now
+-- The result is the only word of a text, if the text has exactly one piece.
+abbrev pub IsOnlyWord : Text → Option (Bor Text) → Type 0
+IsOnlyWord bytes None = only_word (pieces bytes) ≡ None
+IsOnlyWord bytes (Some name) = only_word (pieces bytes) ≡ Some name.now
 
--- the start that was found
-abbrev pub FindsStart : StartFound → Result ℕ SentenceFault → Type 0
+-- The result is the start that was found, or the reason why there is none.
+abbrev pub FindsStart : StartResult → Result ℕ SentenceFault → Type 0
 FindsStart found (Ok start) = found ≡ StartIs start
 FindsStart found (Err (faults.UnknownStart name)) = found ≡ NoSuchStart name
 FindsStart found (Err faults.MissingStart) = found ≡ NoStart
 FindsStart found (Err faults.Memory) = ⊤
 FindsStart found (Err _) = ⊥
 
--- the name of a start that may be left out
+-- The name of the start, if the line has one.
 abbrev pub name_of : StartName → Option Text
 name_of LeftOut = None
 name_of (Named name) = Some name.now
 
--- the tokens that the pieces of a text name, or the first piece that names none; or not all are names
+-- All pieces of the text are words, and the result has their tokens or the first piece that no token has for its name;
+-- or the fault says that some piece is no word.
 abbrev pub AreTokens : Vocabulary → Text → List ℕ → Result (Option (Bor Text)) SentenceFault → Type 0
 AreTokens v text tokens (Ok None) = (list_all is_word (pieces text) ≡ true) × (tokens_of v (pieces text) ≡ Tokens tokens)
 AreTokens v text tokens (Ok (Some name)) = (list_all is_word (pieces text) ≡ true) × (tokens_of v (pieces text) ≡ Unknown name.now)
@@ -61,22 +62,23 @@ AreTokens v text tokens (Err faults.Unreadable) = list_all is_word (pieces text)
 AreTokens v text tokens (Err faults.Memory) = ⊤
 AreTokens v text tokens (Err _) = ⊥
 
--- the fault of a name that is no token's
+-- The fault says that no token has this name, or that memory ran out.
 abbrev pub IsUnknownToken : Text → SentenceFault → Type 0
 IsUnknownToken name (faults.UnknownToken other) = name ≡ other
 IsUnknownToken name faults.Memory = ⊤
 IsUnknownToken name _ = ⊥
 
--- the tokens found behind some others, and behind a name that is no token's
-abbrev pub behind_tokens : List ℕ → TokensFound → TokensFound
-behind_tokens before (Tokens tokens) = Tokens (before ++ tokens)
-behind_tokens before (Unknown name) = Unknown name
+-- The result for names after names of the tokens `before`.
+abbrev pub after_tokens : List ℕ → TokensResult → TokensResult
+after_tokens before (Tokens tokens) = Tokens (before ++ tokens)
+after_tokens before (Unknown name) = Unknown name
 
-abbrev pub behind_unknown : Option (Bor Text) → List ℕ → TokensFound → TokensFound
-behind_unknown None before found = behind_tokens before found
-behind_unknown (Some name) before found = Unknown name.now
+abbrev pub after_unknown : Option (Bor Text) → List ℕ → TokensResult → TokensResult
+after_unknown None before found = after_tokens before found
+after_unknown (Some name) before found = Unknown name.now
 
--- what a call answers that puts in the tokens of a line
-abbrev pub PutsSentence : LineFound → List ℕ → Result ℕ SentenceFault → Type 0
-PutsSentence found tokens (Ok start) = found ≡ IsSentence (record { start = start; tokens = tokens })
-PutsSentence found tokens (Err fault) = ReadsSentence found (Err fault)
+-- The start that was returned and the tokens that were appended are those of the line's sentence; or the fault is the
+-- line's.
+abbrev pub AppendsSentence : LineResult → List ℕ → Result ℕ SentenceFault → Type 0
+AppendsSentence found tokens (Ok start) = found ≡ IsSentence (record { start = start; tokens = tokens })
+AppendsSentence found tokens (Err fault) = ReadsSentence found (Err fault)

@@ -1,25 +1,25 @@
 //! A shelf in memory.
 ghost use Rattle.std.specs.Prelude.{◌≡◌, List, ℕ, Some, ⊤};
 ghost use Rattle.std.specs.Option.{option_copied};
-ghost use Rattle.mh_outside.specs.Faults.{ShelfCounts};
+ghost use Rattle.mh_outside.specs.Faults.{CountsShelfFault};
 ghost use Rattle.mh_outside.specs.Schedule.{no_calls, fails_next, after_call};
-ghost use Rattle.mh_outside.specs.Shelf.{files_of, file_at, HasDistinctNames, Reads};
+ghost use Rattle.mh_outside.specs.Shelf.{files_of, file_at, HasDistinctNames, ReadsFile};
 
-use crate::schedule::Schedule;
+use crate::schedule::FaultSchedule;
 use crate::shelf::{Shelf, ShelfFault};
 use std::alloc::Global;
 
-/// Files in memory.
+/// A shelf of files in memory.
 #[derive(Drop)]
 pub struct MemShelf {
     files: Vec<(Vec<u8>, Vec<u8>)>,
-    schedule: Schedule,
+    schedule: FaultSchedule,
 }
 
 impl MemShelf {
     ghost use Rattle.mh_outside.specs.Fakes.{shelf_files, shelf_calls};
 
-    /// A shelf of these files, by name and bytes, whose calls with these numbers, from 1, fail.
+    /// A shelf of these files, given by name and bytes. Its calls with the numbers in `fails`, counted from 1, fail.
     pub fn new(files: Vec<(Vec<u8>, Vec<u8>)>, fails: Vec<u64>) -> Self
         requires { HasDistinctNames (files_of files.items) }
         ensures files { shelf_files result ≡ files_of files.items }
@@ -27,12 +27,12 @@ impl MemShelf {
     {
         MemShelf {
             files,
-            schedule: Schedule::new(fails),
+            schedule: FaultSchedule::new(fails),
         }
     }
 }
 
-/// The bytes of the file with this name.
+/// The bytes of the file with this name, if there is one.
 fn file_of<'a>(files: &'a [(Vec<u8>, Vec<u8>)], name: &[u8]) -> Option<&'a [u8]>
     ensures { option_copied result ≡ file_at (files_of files.now) name.now }
 {
@@ -57,10 +57,10 @@ impl Shelf for MemShelf {
 
     fn read_file(&mut self, alloc: Global, name: &[u8], limit: usize) -> Result<Vec<u8>, ShelfFault>
         requires asked { ⊤ }
-        ensures answer { Reads (Some (shelf_files self.old)) name.now limit result }
+        ensures answer { ReadsFile (Some (shelf_files self.old)) name.now limit result }
         ensures kept { Some (shelf_files self.new) ≡ Some (shelf_files self.old) }
         ensures may_still { (other : List ℕ) → ⊤ → ⊤ }
-        ensures counts { ShelfCounts (shelf_calls self.old).faults (shelf_calls self.new).faults result }
+        ensures counts { CountsShelfFault (shelf_calls self.old).faults (shelf_calls self.new).faults result }
         ensures fails { FailsExactly (fails_next (shelf_calls self.old)) result }
         ensures calls { shelf_calls self.new ≡ after_call (fails_next (shelf_calls self.old)) (shelf_calls self.old) }
     {

@@ -1,53 +1,54 @@
--- How words of settled facts get their numbers.
+-- Definitions on the numbering of the words of settled facts. A fact is settled when it is stored with its least word.
 use Rattle.std.specs.Prelude.{◌≡◌, ◌<◌, ◌≤◌, ◌+◌, ℕ, List, ◌++◌, length, max, slice_get, Some}
 use Rattle.std.specs.List.{Contains}
 use Rattle.mh_tables_core.specs.Table.{TableData}
 use Rattle.mh_facts.specs.declared.store.FactKey.{FactKey}
 use Rattle.mh_facts.specs.Stored.{Facts}
 use Rattle.mh_facts.specs.Costs.{cap}
-use Rattle.mh_reach_words.specs.declared.made.Last.{Last}
-use Rattle.mh_reach_words.specs.declared.made.Made.{Made}
-use Rattle.mh_reach_words.specs.code.Words.{Words, IsBook, IsLastBelow, Knows, last_of, spelled}
-use Rattle.mh_reach_words.specs.code.Numbered.{AreBelowGroup}
-use Rattle.mh_facts.specs.declared.work.Item.{Item}
-use Rattle.mh_facts.specs.code.Tales.{capped, WordBy, Tale, before_dot}
-use Rattle.mh_reach_found.specs.declared.numbers.Numbering.{Numbering}
-use Rattle.mh_reach_found.specs.code.Numbers.{StandsFor, IsNumbered}
+use Rattle.mh_reach_words.specs.declared.word_parts.LastPart.{LastPart}
+use Rattle.mh_reach_words.specs.declared.word_parts.WordParts.{WordParts}
+use Rattle.mh_reach_words.specs.code.Words.{Words, IsBook, IsLastBelow, HasParts, word_of_last, spelled}
+use Rattle.mh_reach_words.specs.code.Numbering.{AreBelowGroup}
+use Rattle.mh_facts.specs.declared.work.QueuedFact.{QueuedFact}
+use Rattle.mh_facts.specs.code.WordAssignment.{cost_up_to_cap, WordBy, WordAssignment, before_dot}
+use Rattle.mh_reach_found.specs.declared.numbers.WordNumbering.{WordNumbering}
+use Rattle.mh_reach_found.specs.code.WordNumbers.{IsNumberOfWord, FactsAreNumbered}
 
--- the token before the dot, if there is one
-abbrev pub IsLast : TableData → FactKey → Last → Type 0
-IsLast t k last = (book : Words) → IsBook book → IsLastBelow (length book) last × (last_of book last ≡ before_dot t k)
+-- The last part is the token before the dot, or the empty word if there is none.
+abbrev pub IsLastPart : TableData → FactKey → LastPart → Type 0
+IsLastPart t k last = (book : Words) → IsBook book → IsLastBelow (length book) last × (word_of_last book last ≡ before_dot t k)
 
-pub record Spells (book : Words) (made : Made) (w : List ℕ) : Type 0 where
-  pub known : Knows book made
+pub record SpellsWord (book : Words) (made : WordParts) (w : List ℕ) : Type 0 where
+  pub known : HasParts book made
   pub is : spelled book made ≡ w
 
--- what is made spells the item's word
-abbrev pub IsMade : TableData → Facts → Numbering → Item → Made → Type 0
-IsMade t facts numbering i made = (tale : Tale t facts) (level : ℕ) (w : List ℕ) → IsBook numbering.book → IsNumbered facts tale.words level numbering → WordBy t tale.words i.key i.back w → capped t w < cap → Spells numbering.book made w
+-- The parts spell the word of the item.
+abbrev pub SpellsItem : TableData → Facts → WordNumbering → QueuedFact → WordParts → Type 0
+SpellsItem t facts numbering i made = (tale : WordAssignment t facts) (level : ℕ) (w : List ℕ) → IsBook numbering.book → FactsAreNumbered facts tale.words level numbering → WordBy t tale.words i.key i.back w → cost_up_to_cap t w < cap → SpellsWord numbering.book made w
 
--- so do the first ones
-pub record AreMade (t : TableData) (facts : Facts) (numbering : Numbering) (items : List Item) (count : ℕ) (made : List Made) : Type 0 where
+-- The list has the parts of the words of the first `count` items.
+pub record SpellItems (t : TableData) (facts : Facts) (numbering : WordNumbering) (items : List QueuedFact) (count : ℕ) (made : List WordParts) : Type 0 where
   pub long : length made ≡ count
-  pub each : (n : ℕ) (i : Item) (m : Made) → slice_get items n ≡ Some i → slice_get made n ≡ Some m → IsMade t facts numbering i m
+  pub each : (n : ℕ) (i : QueuedFact) (m : WordParts) → slice_get items n ≡ Some i → slice_get made n ≡ Some m → SpellsItem t facts numbering i m
 
--- the empty word for each
+-- The list has the number of the empty word `count` times.
 pub record AreEmpty (count : ℕ) (numbers : List ℕ) : Type 0 where
   pub long : length numbers ≡ count
   pub each : (n m : ℕ) → slice_get numbers n ≡ Some m → m ≡ 0
 
--- items of one cost, and the numbers of all that is cheaper
-pub record AreToNumber (t : TableData) (facts : Facts) (numbering : Numbering) (cost : ℕ) (items : List Item) : Type 0 where
-  pub tale : Tale t facts
-  pub numbered : IsNumbered facts tale.words (max 1 cost) numbering
+-- All items have the given cost. The settled facts are numbered, and the book has the empty word and words of lower
+-- costs only.
+pub record AreToNumber (t : TableData) (facts : Facts) (numbering : WordNumbering) (cost : ℕ) (items : List QueuedFact) : Type 0 where
+  pub tale : WordAssignment t facts
+  pub numbered : FactsAreNumbered facts tale.words (max 1 cost) numbering
   pub most : cost ≤ cap
-  pub each : (i : Item) → Contains items i → (w : List ℕ) × WordBy t tale.words i.key i.back w × (cost ≡ capped t w)
+  pub each : (i : QueuedFact) → Contains items i → (w : List ℕ) × WordBy t tale.words i.key i.back w × (cost ≡ cost_up_to_cap t w)
 
--- their words have numbers
-pub record AreNumbered (t : TableData) (facts : Facts) (old new : Numbering) (cost : ℕ) (items : List Item) (numbers : List ℕ) : Type 0 where
+-- The words of the items are added to the book, and `numbers` has the number of each.
+pub record ItemsAreNumbered (t : TableData) (facts : Facts) (old new : WordNumbering) (cost : ℕ) (items : List QueuedFact) (numbers : List ℕ) : Type 0 where
   pub long : length numbers ≡ length items
   pub same : new.numbers.items ≡ old.numbers.items
   pub added : Words
   pub grown : new.book ≡ old.book ++ added
   pub below : AreBelowGroup old.book (max 1 cost) → AreBelowGroup new.book (cost + 1)
-  pub each : (tale : Tale t facts) (n m : ℕ) (i : Item) (w : List ℕ) → IsNumbered facts tale.words (max 1 cost) old → slice_get items n ≡ Some i → slice_get numbers n ≡ Some m → WordBy t tale.words i.key i.back w → cost ≡ capped t w → cost < cap → StandsFor new.book m cost w
+  pub each : (tale : WordAssignment t facts) (n m : ℕ) (i : QueuedFact) (w : List ℕ) → FactsAreNumbered facts tale.words (max 1 cost) old → slice_get items n ≡ Some i → slice_get numbers n ≡ Some m → WordBy t tale.words i.key i.back w → cost ≡ cost_up_to_cap t w → cost < cap → IsNumberOfWord new.book m cost w

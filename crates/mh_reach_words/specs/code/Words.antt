@@ -1,24 +1,24 @@
--- Words that have numbers, each made of words with lower numbers.
+-- Definitions on numbered words, each made of a word with a lower number and a last part.
 use Rattle.std.specs.Prelude.{◌≡◌, ◌<◌, ◌≤◌, ◌⊎◌, ℕ, suc, List, [], ◌∷◌, ◌++◌, length, slice_get, Option, Some, None}
-use Rattle.mh_reach_words.specs.declared.made.Last.{Last}
-use Rattle.mh_reach_words.specs.declared.made.Last.TheVariants as lasts
-use Rattle.mh_reach_words.specs.declared.made.Made.{Made}
-use Rattle.mh_reach_words.specs.declared.made.Entry.{Entry}
+use Rattle.mh_reach_words.specs.declared.word_parts.LastPart.{LastPart}
+use Rattle.mh_reach_words.specs.declared.word_parts.LastPart.TheVariants as lasts
+use Rattle.mh_reach_words.specs.declared.word_parts.WordParts.{WordParts}
+use Rattle.mh_reach_words.specs.declared.word_parts.BookEntry.{BookEntry}
 
--- a word, and the group that it is in
-pub record Word : Type 0 where
+-- A word with the group that it belongs to.
+pub record GroupedWord : Type 0 where
   pub letters : List ℕ
   pub group : ℕ
 
--- the number of a word is its place
+-- The words of a book; the number of a word is its index.
 abbrev pub Words : Type 0
-Words = List Word
+Words = List GroupedWord
 
-abbrev pub letters_in : Option Word → List ℕ
+abbrev pub letters_in : Option GroupedWord → List ℕ
 letters_in None = []
 letters_in (Some w) = w.letters
 
-abbrev pub group_in : Option Word → ℕ
+abbrev pub group_in : Option GroupedWord → ℕ
 group_in None = 0
 group_in (Some w) = w.group
 
@@ -28,64 +28,64 @@ letters_of words n = letters_in (slice_get words n)
 abbrev pub group_of : Words → ℕ → ℕ
 group_of words n = group_in (slice_get words n)
 
-abbrev pub last_of : Words → Last → List ℕ
-last_of words (lasts.Token x) = x ∷ []
-last_of words (lasts.Word n) = letters_of words n
+abbrev pub word_of_last : Words → LastPart → List ℕ
+word_of_last words (lasts.Token x) = x ∷ []
+word_of_last words (lasts.Word n) = letters_of words n
 
--- the word that is made of others
-abbrev pub spelled : Words → Made → List ℕ
-spelled words m = letters_of words m.front ++ last_of words m.last
+-- The word that the parts spell: the word of the number `front`, followed by the last part.
+abbrev pub spelled : Words → WordParts → List ℕ
+spelled words m = letters_of words m.front ++ word_of_last words m.last
 
--- what a word ends with is a token or has a lower number
-abbrev pub IsLastBelow : ℕ → Last → Type 0
+-- The last part is a token or the number of a word below n.
+abbrev pub IsLastBelow : ℕ → LastPart → Type 0
 IsLastBelow n (lasts.Token x) = Unit {0}
 IsLastBelow n (lasts.Word m) = m < n
 
--- what a word is made of has lower numbers
-abbrev pub IsMadeBelow : ℕ → Made → Type 0
+-- The parts are words with numbers below n, or tokens.
+abbrev pub IsMadeBelow : ℕ → WordParts → Type 0
 IsMadeBelow n m = (m.front < n) × IsLastBelow n m.last
 
--- what a word is made of is there
-abbrev pub Knows : Words → Made → Type 0
-Knows words m = IsMadeBelow (length words) m
+-- The parts are in the book.
+abbrev pub HasParts : Words → WordParts → Type 0
+HasParts words m = IsMadeBelow (length words) m
 
--- they differ at some place, and at the first such place u has the lower number
-abbrev pub Before : List ℕ → List ℕ → Type 0
-Before [] v = ⊥
-Before (x ∷ u) [] = ⊥
-Before (x ∷ u) (y ∷ v) = (x < y) ⊎ ((x ≡ y) × Before u v)
+-- The words u and v differ at some common position, and at the first such position u has the lower token.
+abbrev pub LessAtDifference : List ℕ → List ℕ → Type 0
+LessAtDifference [] v = ⊥
+LessAtDifference (x ∷ u) [] = ⊥
+LessAtDifference (x ∷ u) (y ∷ v) = (x < y) ⊎ ((x ≡ y) × LessAtDifference u v)
 
--- v begins with u, and goes on
-abbrev pub IsFront : List ℕ → List ℕ → Type 0
-IsFront u v = (x : ℕ) × (r : List ℕ) × (v ≡ u ++ x ∷ r)
+-- The word u is a proper prefix of v.
+abbrev pub IsProperPrefix : List ℕ → List ℕ → Type 0
+IsProperPrefix u v = (x : ℕ) × (r : List ℕ) × (v ≡ u ++ x ∷ r)
 
--- groups rise, and in a group the words
+-- The groups rise with the numbers, and in each group the words rise at their first difference.
 abbrev pub InGroups : Words → Type 0
-InGroups words = (n m : ℕ) → n < m → m < length words → (group_of words n ≤ group_of words m) × (group_of words n ≡ group_of words m → Before (letters_of words n) (letters_of words m))
+InGroups words = (n m : ℕ) → n < m → m < length words → (group_of words n ≤ group_of words m) × (group_of words n ≡ group_of words m → LessAtDifference (letters_of words n) (letters_of words m))
 
--- the empty word has the number 0 and is in group 0
+-- The words of a book: the empty word has the number 0 and the group 0, and the words are in their order.
 pub record IsBook (words : Words) : Type 0 where
   pub some : 0 < length words
   pub empty : letters_of words 0 ≡ []
   pub free : group_of words 0 ≡ 0
   pub groups : InGroups words
 
--- THE WORDS OF ENTRIES
+-- The words of the entries of a book.
 
-abbrev pub word_of : Words → Entry → Word
+abbrev pub word_of : Words → BookEntry → GroupedWord
 word_of words e = record { letters = spelled words e.made; group = e.group }
 
-abbrev pub grown : Words → List Entry → Words
+abbrev pub grown : Words → List BookEntry → Words
 grown words [] = words
 grown words (e ∷ es) = grown (words ++ word_of words e ∷ []) es
 
-abbrev pub empty_word : Word
+abbrev pub empty_word : GroupedWord
 empty_word = record { letters = []; group = 0 }
 
-abbrev pub words_of : List Entry → Words
+abbrev pub words_of : List BookEntry → Words
 words_of entries = grown (empty_word ∷ []) entries
 
--- what holds of every book
-pub record IsSound (entries : List Entry) : Type 0 where
-  pub parts : (i : ℕ) (e : Entry) → slice_get entries i ≡ Some e → IsMadeBelow (suc i) e.made
+-- The invariant of the entries of a book.
+pub record AreSoundEntries (entries : List BookEntry) : Type 0 where
+  pub parts : (i : ℕ) (e : BookEntry) → slice_get entries i ≡ Some e → IsMadeBelow (suc i) e.made
   pub groups : InGroups (words_of entries)

@@ -1,10 +1,10 @@
--- How a module is printed: its lexemes in order, with a space behind each. Source: this project's profile.
+-- The text of a module: its lexemes in order, with a space after each (a rule of this project).
 use Rattle.std.specs.Prelude.{◌≡◌, ℕ, List, [], ◌∷◌, ◌++◌, map, Option, Some, None, Bool, true, false, codes, decimal}
 use Rattle.std.specs.List.{flat_map}
 use Rattle.mh_grammar.specs.declared.types.Assoc.{Assoc}
 use Rattle.mh_grammar.specs.declared.types.Assoc.TheVariants.{Left, Right, Nonassoc}
 use Rattle.mh_lex.specs.declared.kinds.Kind.TheVariants as kinds
-use Rattle.mh_lex.specs.Texts.{laid}
+use Rattle.mh_lex.specs.LexemeTexts.{laid_out}
 use Rattle.mh_rules.specs.declared.modules.Ref.{Ref}
 use Rattle.mh_rules.specs.declared.modules.Actual.{Actual}
 use Rattle.mh_rules.specs.declared.modules.Alternative.{Alternative}
@@ -14,15 +14,15 @@ use Rattle.mh_rules.specs.declared.modules.LevelDecl.{LevelDecl}
 use Rattle.mh_rules.specs.declared.modules.Module.{Module}
 use Rattle.mh_reader_parser.specs.code.Pieces.{Piece, word, mark, quoted, ref_piece, bracketed, actual_pieces}
 
--- a percent sign and a word
+-- A percent sign and a word.
 abbrev pub keyword : List ℕ → Piece
 keyword w = (kinds.Keyword, 37 ∷ w)
 
--- %%
+-- The lexeme `%%`.
 abbrev pub percents : Piece
 percents = (kinds.Percents, 37 ∷ 37 ∷ [])
 
--- {}
+-- The lexeme `{}`.
 abbrev pub action : Piece
 action = (kinds.Action, 123 ∷ 125 ∷ [])
 
@@ -30,11 +30,11 @@ abbrev pub prec_pieces : Option Ref → List Piece
 prec_pieces None = []
 prec_pieces (Some r) = keyword (codes "prec") ∷ ref_piece r ∷ []
 
--- a group of its own behind a bar
+-- An alternative: a group by itself, after a bar.
 abbrev pub alternative_pieces : Alternative → List Piece
 alternative_pieces a = mark 124 ∷ flat_map actual_pieces a.producers ++ (prec_pieces a.prec ++ action ∷ [])
 
--- a modifier that a rule has or has not
+-- A modifier, if the rule has it.
 abbrev pub modifier_pieces : Bool → List ℕ → List Piece
 modifier_pieces true w = keyword w ∷ []
 modifier_pieces false w = []
@@ -51,7 +51,7 @@ abbrev pub alias_pieces : Option (List ℕ) → List Piece
 alias_pieces None = []
 alias_pieces (Some s) = quoted s ∷ []
 
--- [@cost n]
+-- The text `[@cost n]`.
 abbrev pub cost_text : ℕ → List ℕ
 cost_text n = codes "[@cost " ++ (decimal n ++ 93 ∷ [])
 
@@ -76,12 +76,12 @@ level_pieces l = keyword (assoc_word l.assoc) ∷ map ref_piece l.names
 abbrev pub on_error_pieces : List Actual → List Piece
 on_error_pieces ks = keyword (codes "on_error_reduce") ∷ flat_map actual_pieces ks
 
--- a declaration for each token, start, level and list of %on_error_reduce, and the rules
+-- A declaration for each token, start, level and list of `%on_error_reduce`, and after them the rules.
 abbrev pub module_pieces : Module → List Piece
 module_pieces m =
     flat_map token_pieces m.tokens ++ (flat_map start_pieces m.starts ++ (flat_map level_pieces m.levels ++
     (flat_map on_error_pieces m.on_error ++ percents ∷ flat_map rule_pieces m.rules)))
 
--- so many lexemes more were written
+-- These lexemes were appended to the text.
 abbrev pub Writes : List ℕ → List ℕ → List Piece → Type 0
-Writes old new pieces = new ≡ old ++ laid pieces
+Writes old new pieces = new ≡ old ++ laid_out pieces

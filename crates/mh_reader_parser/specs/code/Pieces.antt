@@ -1,4 +1,4 @@
--- The lexemes of an actual. Source: this project's profile.
+-- The printed lexemes of an actual (a rule of this project).
 use Rattle.std.specs.Prelude.{ℕ, List, [], ◌∷◌, ◌++◌}
 use Rattle.mh_lex.specs.declared.kinds.Kind.{Kind}
 use Rattle.mh_lex.specs.declared.kinds.Kind.TheVariants as kinds
@@ -6,7 +6,7 @@ use Rattle.mh_rules.specs.declared.modules.Ref.{Ref}
 use Rattle.mh_rules.specs.declared.modules.Ref.TheVariants.{Plain, Alias}
 use Rattle.mh_rules.specs.declared.modules.Actual.{Actual, fold-Actual}
 
--- the bytes of a lexeme, with its kind
+-- A lexeme to print: its kind and its bytes.
 abbrev pub Piece : Type 0
 Piece = Kind × List ℕ
 
@@ -16,7 +16,7 @@ word t = (kinds.Word, t)
 abbrev pub mark : ℕ → Piece
 mark b = (kinds.Mark, b ∷ [])
 
--- its content in quotes
+-- A string in its quotes.
 abbrev pub quoted : List ℕ → Piece
 quoted s = (kinds.Quoted, 34 ∷ s ++ 34 ∷ [])
 
@@ -24,16 +24,16 @@ abbrev pub ref_piece : Ref → Piece
 ref_piece (Plain t) = word t
 ref_piece (Alias s) = quoted s
 
--- ("," item)* ")"
+-- `("," item)* ")"`.
 abbrev pub bracket_end : List (List Piece) → List Piece
 bracket_end [] = mark 41 ∷ []
 bracket_end (w ∷ ws) = mark 44 ∷ w ++ bracket_end ws
 
--- items in brackets, with commas between them; no brackets round none
+-- Items in brackets, with commas between them; no brackets if there are no items.
 abbrev pub bracketed : List (List Piece) → List Piece
 bracketed [] = []
 bracketed (w ∷ ws) = mark 40 ∷ w ++ bracket_end ws
 
--- its head, and its arguments in brackets
+-- The printed lexemes of an actual: its head, and its arguments in brackets.
 abbrev pub actual_pieces : Actual → List Piece
 actual_pieces = fold-Actual (List Piece) (λ l. ref_piece l.head ∷ bracketed l.args)

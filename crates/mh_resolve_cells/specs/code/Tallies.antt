@@ -1,4 +1,4 @@
--- What the code counts of a cell.
+-- The tally of a cell.
 use Rattle.std.specs.Prelude.{◌≡◌, ◌<◌, ◌≤◌, ◌⊎◌, ℕ, Bool, true, false, ◌&&◌, ◌||◌, nat_lt, if◌then◌else◌, Option, Some, None, is_some, MatchBool}
 use Rattle.mh_tables_core.specs.declared.parts.Action.{Action}
 use Rattle.mh_tables_core.specs.declared.parts.Action.TheVariants.{Shift, Reduce, Refuse}
@@ -8,36 +8,41 @@ use Rattle.mh_resolve_cells.specs.declared.kinds.ConflictKind.{ConflictKind}
 use Rattle.mh_resolve_cells.specs.declared.kinds.ConflictKind.TheVariants.{Solved, Unsolved, Stream}
 use Rattle.mh_resolve_cells.specs.declared.cells.Cell.{Cell}
 use Rattle.mh_resolve_cells.specs.declared.cells.Tally.{Tally}
-use Rattle.mh_resolve_cells.specs.Cells.{IsForShift, Stays, Takes, IsConflict, IsUnsolved}
+use Rattle.mh_resolve_cells.specs.Cells.{IsForShift, Remains, IsChosen, IsConflict, IsUnsolved}
 
+-- The tally of no reductions.
 abbrev pub empty_tally : Tally
 empty_tally = record { lowest = None; some = false; two = false; shifts = true; unknown = false }
 
--- the lowest production, with one more
-abbrev pub lower : Option ℕ → ℕ → ℕ
-lower None p = p
-lower (Some q) p = if nat_lt p q then p else q
+-- The lower of a production and the lowest one so far.
+abbrev pub lower_production : Option ℕ → ℕ → ℕ
+lower_production None p = p
+lower_production (Some q) p = if nat_lt p q then p else q
 
-abbrev pub is_other : Option ℕ → ℕ → Bool
-is_other None p = false
-is_other (Some q) p = nat_lt p q || nat_lt q p
+-- There is a lowest production so far, and p is another one.
+abbrev pub is_another_production : Option ℕ → ℕ → Bool
+is_another_production None p = false
+is_another_production (Some q) p = nat_lt p q || nat_lt q p
 
+-- The tally after one more reduction with this comparison.
 abbrev pub tally_with : Tally → ℕ → Comparison → Tally
-tally_with t p Reduces = record { lowest = Some (lower t.lowest p); some = true; two = is_other t.lowest p || t.two; shifts = false; unknown = t.unknown }
+tally_with t p Reduces = record { lowest = Some (lower_production t.lowest p); some = true; two = is_another_production t.lowest p || t.two; shifts = false; unknown = t.unknown }
 tally_with t p Shifts = record t { some = true }
 tally_with t p Neither = record t { some = true; shifts = false }
 tally_with t p Unknown = record t { some = true; unknown = true }
 
--- without a shift a reduction stays
-abbrev pub weighed : (ℕ → Comparison) → Option ℕ → ℕ → Comparison
-weighed by None p = Reduces
-weighed by (Some j) p = by p
+-- The comparison of a reduction with the shift; without a shift the reduction remains.
+abbrev pub comparison_with_shift : (ℕ → Comparison) → Option ℕ → ℕ → Comparison
+comparison_with_shift by None p = Reduces
+comparison_with_shift by (Some j) p = by p
 
+-- The action of a cell: the lowest remaining reduction, else the shift if it remains, else a refusal.
 abbrev pub action_from : Option ℕ → Option ℕ → Bool → Action
 action_from (Some p) shift shifts = Reduce p
 action_from None (Some j) shifts = if shifts then Shift j else Refuse
 action_from None None shifts = Refuse
 
+-- The cell of a tally and a shift.
 abbrev pub cell_from : Tally → Option ℕ → Cell
 cell_from t shift = record {
   action = action_from t.lowest shift t.shifts;
@@ -45,12 +50,13 @@ cell_from t shift = record {
   kind = if t.two || t.unknown then Some Unsolved else if t.some && is_some shift then Some Solved else None;
 }
 
+-- The lowest production that wins its comparison.
 abbrev pub IsLowest : (ℕ → Comparison) → (ℕ → Type 0) → Option ℕ → Type 0
 IsLowest by Has None = (p : ℕ) → Has p → by p ≡ Reduces → ⊥
 IsLowest by Has (Some p) = Has p × (by p ≡ Reduces) × ((q : ℕ) → Has q → by q ≡ Reduces → p ≤ q)
 
--- two that reduce
-pub record AreTwo (by : ℕ → Comparison) (Has : ℕ → Type 0) : Type 0 where
+-- Two different productions win their comparison.
+pub record TwoReduce (by : ℕ → Comparison) (Has : ℕ → Type 0) : Type 0 where
   pub one : ℕ
   pub other : ℕ
   pub has_one : Has one
@@ -59,26 +65,27 @@ pub record AreTwo (by : ℕ → Comparison) (Has : ℕ → Type 0) : Type 0 wher
   pub reduces_other : by other ≡ Reduces
   pub below : one < other
 
--- what a tally says of the productions that were seen
+-- The tally is correct for the productions that were counted.
 pub record IsTally (by : ℕ → Comparison) (Has : ℕ → Type 0) (t : Tally) : Type 0 where
   pub lowest : IsLowest by Has t.lowest
   pub some : MatchBool t.some ((p : ℕ) × Has p) ((p : ℕ) → Has p → ⊥)
-  pub two : MatchBool t.two (AreTwo by Has) ((p q : ℕ) → Has p → Has q → by p ≡ Reduces → by q ≡ Reduces → p ≡ q)
+  pub two : MatchBool t.two (TwoReduce by Has) ((p q : ℕ) → Has p → Has q → by p ≡ Reduces → by q ≡ Reduces → p ≡ q)
   pub shifts : MatchBool t.shifts ((p : ℕ) → Has p → IsForShift (by p)) ((p : ℕ) × Has p × (IsForShift (by p) → ⊥))
   pub unknown : MatchBool t.unknown ((p : ℕ) × Has p × (by p ≡ Unknown)) ((p : ℕ) → Has p → by p ≡ Unknown → ⊥)
 
--- the action is the one that is taken, or none is left
-abbrev pub IsTaken : (ℕ → Comparison) → (Action → Type 0) → Action → Type 0
-IsTaken by Raw a = Takes by Raw a ⊎ ((a ≡ Refuse) × ((b : Action) → Stays by Raw b → ⊥))
+-- The action is the chosen one, or a refusal if no action remains.
+abbrev pub IsChosenOrRefuse : (ℕ → Comparison) → (Action → Type 0) → Action → Type 0
+IsChosenOrRefuse by Raw a = IsChosen by Raw a ⊎ ((a ≡ Refuse) × ((b : Action) → Remains by Raw b → ⊥))
 
+-- The kind of the conflict of a cell, if it has one.
 abbrev pub IsKind : (ℕ → Comparison) → (Action → Type 0) → Option ConflictKind → Type 0
 IsKind by Raw None = IsConflict Raw → ⊥
 IsKind by Raw (Some Solved) = IsConflict Raw × (IsUnsolved by Raw → ⊥)
 IsKind by Raw (Some Unsolved) = IsUnsolved by Raw
 IsKind by Raw (Some Stream) = ⊥
 
--- what a cell says of its raw actions
+-- The cell is correct for the raw actions.
 pub record IsDecided (by : ℕ → Comparison) (Raw : Action → Type 0) (cell : Cell) : Type 0 where
-  pub action : IsTaken by Raw cell.action
+  pub action : IsChosenOrRefuse by Raw cell.action
   pub raw : MatchBool cell.raw ((a : Action) × Raw a) ((a : Action) → Raw a → ⊥)
   pub kind : IsKind by Raw cell.kind

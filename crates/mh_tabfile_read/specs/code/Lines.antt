@@ -1,4 +1,4 @@
--- Bytes as lines, and what reading them line by line gives.
+-- Bytes as lines, and the result of reading them line by line.
 use Rattle.std.specs.Prelude.{◌≡◌, ◌+◌, ◌==◌, ℕ, Bool, true, false, not, ◌&&◌, if◌then◌else◌, List, [], ◌∷◌, ◌++◌, map, length, Option, Some, None, Result, Ok, Err, codes}
 use Rattle.std.specs.List.{slice_split}
 use Rattle.mh_resolve_cells.specs.declared.kinds.Mode.{Mode}
@@ -9,7 +9,7 @@ use Rattle.mh_tabfile_read.specs.declared.reading.TabFault.TheVariants as faults
 use Rattle.mh_tabfile_form.specs.Form.{Line, Begins}
 use Rattle.mh_tabfile_read.specs.code.Numbers.{number_of}
 use Rattle.mh_tabfile_read.specs.code.Words.{same_word, mode_of}
-use Rattle.mh_tabfile_read.specs.code.Machine.{run, start, finish}
+use Rattle.mh_tabfile_read.specs.code.Machine.{run, initial_reader, finish}
 
 abbrev pub words_of : List ℕ → Line
 words_of = slice_split (λ b. b == 32)
@@ -21,7 +21,7 @@ abbrev pub is_mode : Option Mode → Bool
 is_mode None = false
 is_mode (Some m) = true
 
--- a number is read that is neither 1 nor 2
+-- There is a number, and it is neither 1 nor 2, the versions that are known.
 abbrev pub is_other_number : Option ℕ → Bool
 is_other_number None = false
 is_other_number (Some n) = not (n == 1) && not (n == 2)
@@ -29,7 +29,7 @@ is_other_number (Some n) = not (n == 1) && not (n == 2)
 abbrev pub are_other : List ℕ → List ℕ → List ℕ → Bool
 are_other w v m = if same_word w (codes "menhir-tables") then (if is_other_number (number_of v) then is_mode (mode_of m) else false) else false
 
--- the first line, of the parts that end with LFs and of what is after the last LF
+-- The first line of a file that is split at LF: the first part, or the empty list if there is none.
 abbrev pub first_line : List (List ℕ) → List ℕ
 first_line [] = []
 first_line (part ∷ parts) = part
@@ -41,7 +41,7 @@ is_other_head (w ∷ v ∷ []) = false
 is_other_head (w ∷ v ∷ m ∷ []) = are_other w v m
 is_other_head (w ∷ v ∷ m ∷ x ∷ ws) = false
 
--- the lines before the n-th begin a file, and with it they do not
+-- The lines before line `n` begin some file, but together with line `n` they do not.
 pub record IsMisplaced (ls : List Line) (n : ℕ) : Type 0 where
   pub before : List Line
   pub line : Line
@@ -51,20 +51,20 @@ pub record IsMisplaced (ls : List Line) (n : ℕ) : Type 0 where
   pub first : Begins (before ++ line ∷ []) → ⊥
   pub number : n ≡ length before + 1
 
-abbrev pub Reaches : List Line → Result Reader TabFault → Type 0
-Reaches ls (Ok r) = run start ls ≡ run r []
-Reaches ls (Err faults.Version) = ⊥
-Reaches ls (Err (faults.TabShape n)) = IsMisplaced ls n
-Reaches ls (Err faults.Memory) = Unit {0}
+abbrev pub ReadsLines : List Line → Result Reader TabFault → Type 0
+ReadsLines ls (Ok r) = run initial_reader ls ≡ run r []
+ReadsLines ls (Err faults.Version) = ⊥
+ReadsLines ls (Err (faults.TabShape n)) = IsMisplaced ls n
+ReadsLines ls (Err faults.Memory) = Unit {0}
 
--- the same, of a reader that is lent
-abbrev pub HasRead : {X : Type 0} → List Line → Reader → Result X TabFault → Type 0
-HasRead ls r (Ok x) = Reaches ls (Ok r)
-HasRead ls r (Err fault) = Reaches ls (Err fault)
+-- The same result for a reader that is passed by mutable reference.
+abbrev pub ReadsLinesInto : {X : Type 0} → List Line → Reader → Result X TabFault → Type 0
+ReadsLinesInto ls r (Ok x) = ReadsLines ls (Ok r)
+ReadsLinesInto ls r (Err fault) = ReadsLines ls (Err fault)
 
--- the file ends here, or may not
-abbrev pub EndsAt : Option RawTable → ℕ → Result RawTable TabFault → Type 0
-EndsAt o at (Ok raw) = o ≡ Some raw
-EndsAt o at (Err faults.Version) = ⊥
-EndsAt o at (Err (faults.TabShape n)) = (o ≡ None) × (n ≡ at)
-EndsAt o at (Err faults.Memory) = Unit {0}
+-- The file is whole here, or its bad line is `at`.
+abbrev pub IsFinished : Option RawTable → ℕ → Result RawTable TabFault → Type 0
+IsFinished o at (Ok raw) = o ≡ Some raw
+IsFinished o at (Err faults.Version) = ⊥
+IsFinished o at (Err (faults.TabShape n)) = (o ≡ None) × (n ≡ at)
+IsFinished o at (Err faults.Memory) = Unit {0}

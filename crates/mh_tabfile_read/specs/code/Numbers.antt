@@ -1,8 +1,8 @@
--- The numbers that words are. The form is this project's own.
+-- The definition of the numbers in table files. The form is this project's own.
 use Rattle.std.specs.Prelude.{ℕ, ◌+◌, ◌*◌, ◌-◌, ◌^◌, Bool, true, false, not, ◌&&◌, ◌==◌, nat_lt, nat_le, if◌then◌else◌, List, [], ◌∷◌, Option, Some, None}
 use Rattle.std.specs.List.{list_all}
 
--- decimal digits with no zero in front of others, for a number of 32 bits
+-- A number is written in decimal digits without leading zeros, and is below 2^32.
 abbrev pub is_digit : ℕ → Bool
 is_digit b = nat_le 48 b && nat_le b 57
 

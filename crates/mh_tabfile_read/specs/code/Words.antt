@@ -1,11 +1,11 @@
--- What words and lines are read as.
+-- Definitions that parse the words of a line.
 use Rattle.std.specs.Prelude.{◌≡◌, ℕ, Bool, true, false, ◌&&◌, nat_eq, if◌then◌else◌, List, [], ◌∷◌, ◌++◌, Option, Some, None, codes, Result, Ok, Err}
 use Rattle.std.specs.List.{list_all}
 use Rattle.std.specs.Cmp.Lexicographic.{pointwise}
 use Rattle.mh_tabfile_read.specs.code.Numbers.{number_of}
 use Rattle.mh_tabfile_form.specs.Form.{Line}
-use Rattle.mh_tabfile_read.specs.declared.advance.Refusal.{Refusal}
-use Rattle.mh_tabfile_read.specs.declared.advance.Refusal.TheVariants.{Unexpected, Memory}
+use Rattle.mh_tabfile_read.specs.declared.advance.LineRefusal.{LineRefusal}
+use Rattle.mh_tabfile_read.specs.declared.advance.LineRefusal.TheVariants.{Unexpected, Memory}
 use Rattle.mh_resolve_cells.specs.declared.kinds.Mode.{Mode}
 use Rattle.mh_resolve_cells.specs.declared.kinds.Mode.TheVariants.{Merged, Canonical}
 use Rattle.mh_tables_core.specs.declared.parts.Action.{Action}
@@ -16,8 +16,8 @@ use Rattle.mh_tabfile_form.specs.declared.types.RawProduction.{RawProduction}
 use Rattle.mh_tabfile_form.specs.declared.types.RawItem.{RawItem}
 use Rattle.mh_tabfile_form.specs.declared.types.RawEdge.{RawEdge}
 use Rattle.mh_tabfile_form.specs.declared.types.RawCell.{RawCell}
-use Rattle.mh_tabfile_read.specs.declared.places.Kind.{Kind}
-use Rattle.mh_tabfile_read.specs.declared.places.Kind.TheVariants as kinds
+use Rattle.mh_tabfile_read.specs.declared.places.LineKind.{LineKind}
+use Rattle.mh_tabfile_read.specs.declared.places.LineKind.TheVariants as kinds
 
 infixl 10 ◌>>=◌
 abbrev pub ◌>>=◌ : {A B : Type 0} → Option A → (A → Option B) → Option B
@@ -41,7 +41,7 @@ numbers_of (word ∷ words) = number_of word >>= λ n. numbers_of words >>= λ n
 unfoldable pub mode_of : List ℕ → Option Mode
 mode_of word = if same_word word (codes "merged") then Some Merged else if same_word word (codes "canonical") then Some Canonical else None
 
-unfoldable pub kind_of : List ℕ → Kind
+unfoldable pub kind_of : List ℕ → LineKind
 kind_of word =
     if same_word word (codes "item") then kinds.Item else
     if same_word word (codes "edge") then kinds.Edge else
@@ -56,13 +56,13 @@ kind_of word =
     if same_word word (codes "productions") then kinds.Productions else
     if same_word word (codes "states") then kinds.States else kinds.Other
 
--- the only word is a number
+-- The number, if the line has exactly one word and this word is a number.
 unfoldable pub count_of : Line → Option ℕ
 count_of [] = None
 count_of (n ∷ []) = number_of n
 count_of (n ∷ m ∷ ws) = None
 
--- The words after the first one.
+-- Parsers of the words after the first word of a line; for a production, of all words.
 
 unfoldable pub production_of : Line → Option RawProduction
 production_of [] = None
@@ -98,13 +98,13 @@ fallback_of (verb ∷ []) = if same_word verb (codes "accept") then Some fallbac
 fallback_of (verb ∷ n ∷ []) = if same_word verb (codes "reduce") then (number_of n >>= λ p. Some (fallbacks.Reduce p)) else None
 fallback_of (verb ∷ n ∷ w ∷ ws) = None
 
--- a call did what a definition gives, unless memory ran out
-abbrev pub Refers : {X : Type 0} → Option X → Result X Refusal → Type 0
-Refers found (Ok x) = found ≡ Some x
-Refers found (Err Unexpected) = found ≡ None
-Refers found (Err Memory) = Unit {0}
+-- The call returned what the definition gives, unless memory ran out.
+abbrev pub AgreesWith : {X : Type 0} → Option X → Result X LineRefusal → Type 0
+AgreesWith found (Ok x) = found ≡ Some x
+AgreesWith found (Err Unexpected) = found ≡ None
+AgreesWith found (Err Memory) = Unit {0}
 
--- numbers, and then those that were read
+-- The numbers `front` before the other numbers, if these were read.
 abbrev pub then_numbers : List ℕ → Option (List ℕ) → Option (List ℕ)
 then_numbers front None = None
 then_numbers front (Some ns) = Some (front ++ ns)

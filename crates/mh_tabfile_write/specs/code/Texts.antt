@@ -1,9 +1,9 @@
--- Lines as they are written, word behind word.
+-- The bytes of lines that are written word by word.
 use Rattle.std.specs.Prelude.{ℕ, List, [], ◌∷◌, ◌++◌}
 use Rattle.std.specs.List.{flat_map}
 use Rattle.mh_tabfile_form.specs.Form.{Line}
 
--- words, each after a space
+-- Words, each after a space.
 abbrev pub words_after : Line → List ℕ
 words_after [] = []
 words_after (word ∷ words) = 32 ∷ (word ++ words_after words)

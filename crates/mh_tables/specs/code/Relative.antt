@@ -1,116 +1,123 @@
--- What the test of relative runs finds at each level.
+-- The results of the test of relative runs, for each of its functions. A relative run begins with a start state alone,
+-- or with a state (`below`) and a state to which one of its edges leads (`s`); it makes only reductions.
 use Rattle.std.specs.Prelude.{◌≡◌, ℕ, suc, List, [], ◌∷◌, ◌++◌, length, take, ◌≤◌, ◌⊎◌, Option, Some, None, ◌<◌, Bool, true, false}
 use Rattle.std.specs.List.{All, Contains}
 use Rattle.std.specs.List.Sorted.{IsNonDecreasing}
 use Rattle.mh_grammar.specs.Plain.{production_count}
 use Rattle.mh_tables_core.specs.Table.{TableData, fallback_of}
-use Rattle.mh_tables.specs.declared.relative.RelativeRun.{RelativeRun}
+use Rattle.mh_tables.specs.declared.relative_runs.RelativeRun.{RelativeRun}
 use Rattle.mh_tables_core.specs.declared.halting.TheConstants.{MAX_REDUCTIONS}
-use Rattle.mh_tables_core.specs.Run.{Reduces, move_of, top_of, reduce, reduction, reductions}
-use Rattle.mh_tables_core.specs.Halting.{IsBeginning, IsLook, Loops, Clear, Before, LoopsAt, look_list, beginning}
+use Rattle.mh_tables_core.specs.Run.{Reduces, run_move_of, top_of, reduce, reduction, reductions}
+use Rattle.mh_tables_core.specs.Halting.{IsBeginning, IsLook, RunLoops, NeverLoops, IsOptionBefore, LoopsAt, look_list, beginning}
 
--- a reduction was made, or none comes
-abbrev pub ReducedOr : TableData → List ℕ → List ℕ → List ℕ → Bool → Type 0
-ReducedOr t left old new true = reduction t left old ≡ Some new
-ReducedOr t left old new false = (reduction t left old ≡ None) × (new ≡ old)
+-- If the result is true, a reduction was made; otherwise the next move is not a reduction, and the stack is unchanged.
+abbrev pub IsReduceOnceResult : TableData → List ℕ → List ℕ → List ℕ → Bool → Type 0
+IsReduceOnceResult t left old new true = reduction t left old ≡ Some new
+IsReduceOnceResult t left old new false = (reduction t left old ≡ None) × (new ≡ old)
 
--- the reduction that comes next, if one does
+-- The production that is reduced next, if the next move is a reduction.
 abbrev pub ReducesNext : TableData → List ℕ → List ℕ → Option ℕ → Type 0
-ReducesNext t left stack None = (p : ℕ) → move_of t (top_of stack) left ≡ Reduces p → ⊥
-ReducesNext t left stack (Some p) = (move_of t (top_of stack) left ≡ Reduces p) × (length t.grammar.starts ≤ p) × (p < production_count t.grammar)
+ReducesNext t left stack None = (p : ℕ) → run_move_of t (top_of stack) left ≡ Reduces p → ⊥
+ReducesNext t left stack (Some p) = (run_move_of t (top_of stack) left ≡ Reduces p) × (length t.grammar.starts ≤ p) × (p < production_count t.grammar)
 
--- what a reduction leaves
-pub record Leaves (t : TableData) (p : ℕ) (stack : List ℕ) (kept target : ℕ) : Type 0 where
+-- The reduction keeps the first `kept` states of the stack and pushes `target`.
+pub record IsReductionResult (t : TableData) (p : ℕ) (stack : List ℕ) (kept target : ℕ) : Type 0 where
   pub is : reduce t p stack ≡ Some (take kept stack ++ target ∷ [])
   pub begun : 0 < kept
   pub within : kept ≤ length stack
   pub known : target < length t.states
 
+-- The result of a reduction, if it finds its states and its goto.
 abbrev pub StackReduced : TableData → ℕ → List ℕ → Option (ℕ × ℕ) → Type 0
 StackReduced t p stack None = reduce t p stack ≡ None
-StackReduced t p stack (Some (kept, target)) = Leaves t p stack kept target
+StackReduced t p stack (Some (kept, target)) = IsReductionResult t p stack kept target
 
--- the relative run makes so many reductions, no more than `most`, and they leave this stack
+-- The relative run makes exactly `count` reductions, at most `most`, and leaves this stack.
 pub record StopsWithin (t : TableData) (below : Option ℕ) (s : ℕ) (look : Option ℕ) (most : ℕ) (stack : List ℕ) (count : ℕ) : Type 0 where
   pub few : count ≤ most
   pub made : reductions t (look_list look) count (beginning below s) ≡ Some stack
   pub over : reduction t (look_list look) stack ≡ None
 
--- it does, or makes one more
-abbrev pub StoppedOr : TableData → Option ℕ → ℕ → Option ℕ → ℕ → List ℕ → Option ℕ → Type 0
-StoppedOr t below s look most stack None = reductions t (look_list look) (suc most) (beginning below s) ≡ Some stack
-StoppedOr t below s look most stack (Some count) = StopsWithin t below s look most stack count
+-- The relative run stops after the returned number of reductions, at most `most`; or it makes more, and the stack is
+-- that after `most` + 1 reductions.
+abbrev pub IsReducedWithinResult : TableData → Option ℕ → ℕ → Option ℕ → ℕ → List ℕ → Option ℕ → Type 0
+IsReducedWithinResult t below s look most stack None = reductions t (look_list look) (suc most) (beginning below s) ≡ Some stack
+IsReducedWithinResult t below s look most stack (Some count) = StopsWithin t below s look most stack count
 
--- the relative run makes no more than `MAX_REDUCTIONS` reductions, and they leave this stack
-pub record RunsOut (t : TableData) (below : Option ℕ) (s : ℕ) (look : Option ℕ) (stack : List ℕ) : Type 0 where
+-- The relative run makes at most `MAX_REDUCTIONS` reductions, and leaves this stack.
+pub record StopsWithinLimit (t : TableData) (below : Option ℕ) (s : ℕ) (look : Option ℕ) (stack : List ℕ) : Type 0 where
   pub count : ℕ
   pub few : count ≤ MAX_REDUCTIONS
   pub made : reductions t (look_list look) count (beginning below s) ≡ Some stack
   pub over : reduction t (look_list look) stack ≡ None
 
--- it makes more, or leaves this stack
-abbrev pub TriedOr : TableData → Option ℕ → ℕ → Option ℕ → List ℕ → Bool → Type 0
-TriedOr t below s look stack true = Loops t below s look
-TriedOr t below s look stack false = RunsOut t below s look stack
+-- If the result is true, the relative run makes more than `MAX_REDUCTIONS` reductions; otherwise it leaves this stack.
+abbrev pub LoopsOrStops : TableData → Option ℕ → ℕ → Option ℕ → List ℕ → Bool → Type 0
+LoopsOrStops t below s look stack true = RunLoops t below s look
+LoopsOrStops t below s look stack false = StopsWithinLimit t below s look stack
 
--- the relative run loops, or it doesn't
-abbrev pub LoopsOr : TableData → Option ℕ → ℕ → Option ℕ → Bool → Type 0
-LoopsOr t below s look true = Loops t below s look
-LoopsOr t below s look false = Loops t below s look → ⊥
+-- If the result is true, the relative run loops; otherwise it does not.
+abbrev pub LoopsOrNot : TableData → Option ℕ → ℕ → Option ℕ → Bool → Type 0
+LoopsOrNot t below s look true = RunLoops t below s look
+LoopsOrNot t below s look false = RunLoops t below s look → ⊥
 
--- with no token the relative run stops in a state without default
-pub record Waits (t : TableData) (below : Option ℕ) (s top : ℕ) : Type 0 where
+-- Without a next token the relative run stops in the state `top`, which has no default.
+pub record StopsWithoutDefault (t : TableData) (below : Option ℕ) (s top : ℕ) : Type 0 where
   pub stack : List ℕ
-  pub out : RunsOut t below s None stack
+  pub out : StopsWithinLimit t below s None stack
   pub stands : top ≡ top_of stack
   pub bare : fallback_of t top ≡ None
 
--- the first look with which the relative run loops
-pub record FirstLook (t : TableData) (below : Option ℕ) (s : ℕ) (look : Option ℕ) : Type 0 where
+-- The first look with which the relative run loops.
+pub record IsFirstLoopingLook (t : TableData) (below : Option ℕ) (s : ℕ) (look : Option ℕ) : Type 0 where
   pub known : IsLook t look
-  pub loops : Loops t below s look
-  pub no_look : (look' : Option ℕ) → Before look' look → IsLook t look' → Loops t below s look' → ⊥
+  pub loops : RunLoops t below s look
+  pub no_look : (look' : Option ℕ) → IsOptionBefore look' look → IsLook t look' → RunLoops t below s look' → ⊥
 
+-- The first look with which a relative run with this beginning loops, if there is one.
 abbrev pub LookFound : TableData → Option ℕ → ℕ → Option (Option ℕ) → Type 0
-LookFound t below s None = Clear t below s
-LookFound t below s (Some look) = FirstLook t below s look
+LookFound t below s None = NeverLoops t below s
+LookFound t below s (Some look) = IsFirstLoopingLook t below s look
 
--- the first token with which it loops
+-- The first token with which the relative run loops, if there is one.
 abbrev pub TokenFound : TableData → Option ℕ → ℕ → Option ℕ → Type 0
-TokenFound t below s None = Clear t below s
-TokenFound t below s (Some z) = FirstLook t below s (Some z)
+TokenFound t below s None = NeverLoops t below s
+TokenFound t below s (Some z) = IsFirstLoopingLook t below s (Some z)
 
--- the first upper state over a lower one, or the first start state alone
-pub record FirstState (t : TableData) (below : Option ℕ) (s : ℕ) (look : Option ℕ) : Type 0 where
+-- The first upper state above the state `below`, or the first start state alone, with which a relative run loops.
+pub record IsFirstLoopingState (t : TableData) (below : Option ℕ) (s : ℕ) (look : Option ℕ) : Type 0 where
   pub begins : IsBeginning t below s
-  pub first : FirstLook t below s look
-  pub no_state : (s' : ℕ) → s' < s → IsBeginning t below s' → Clear t below s'
+  pub first : IsFirstLoopingLook t below s look
+  pub no_state : (s' : ℕ) → s' < s → IsBeginning t below s' → NeverLoops t below s'
 
-abbrev pub AllClear : TableData → Option ℕ → Type 0
-AllClear t below = (s : ℕ) → IsBeginning t below s → Clear t below s
+-- No relative run above the state `below` loops.
+abbrev pub NoneLoopsAbove : TableData → Option ℕ → Type 0
+NoneLoopsAbove t below = (s : ℕ) → IsBeginning t below s → NeverLoops t below s
 
+-- The first relative run above the state `below` that loops, if there is one.
 abbrev pub StateFound : TableData → Option ℕ → Option RelativeRun → Type 0
-StateFound t below None = AllClear t below
-StateFound t below (Some run) = (run.below ≡ below) × FirstState t below run.state run.token
+StateFound t below None = NoneLoopsAbove t below
+StateFound t below (Some run) = (run.below ≡ below) × IsFirstLoopingState t below run.state run.token
 
--- where an edge of a state leads was added, or no relative run above it loops
+-- The target of an edge was added to the list, or no relative run above the edge loops.
 pub record AddsTarget (t : TableData) (r u : ℕ) (old new : List ℕ) : Type 0 where
   pub each : All (IsBeginning t (Some r)) old → All (IsBeginning t (Some r)) new
   pub kept : (v : ℕ) → Contains old v → Contains new v
-  pub here : Contains new u ⊎ Clear t (Some r) u
+  pub here : Contains new u ⊎ NeverLoops t (Some r) u
 
--- where the edges of a state lead above which relative runs are to be tried, in the order of states
+-- The list holds, in the order of states, the targets of the edges of state r above which relative runs have to be
+-- tried.
 pub record AreTargets (t : TableData) (r : ℕ) (targets : List ℕ) : Type 0 where
   pub each : All (IsBeginning t (Some r)) targets
-  pub all : (u : ℕ) → IsBeginning t (Some r) u → Contains targets u ⊎ Clear t (Some r) u
+  pub all : (u : ℕ) → IsBeginning t (Some r) u → Contains targets u ⊎ NeverLoops t (Some r) u
   pub known : All (λ u. u < length t.states) targets
   pub order : IsNonDecreasing targets
 
--- all relative runs were tried
+-- No relative run loops.
 abbrev pub NoneLoops : TableData → Type 0
-NoneLoops t = (below : Option ℕ) (s : ℕ) → IsBeginning t below s → Clear t below s
+NoneLoops t = (below : Option ℕ) (s : ℕ) → IsBeginning t below s → NeverLoops t below s
 
--- the outcome of the whole test
+-- The result of the whole test: the first relative run that loops, if there is one.
 abbrev pub TestFound : TableData → Option RelativeRun → Type 0
 TestFound t None = NoneLoops t
 TestFound t (Some run) = LoopsAt t run.below run.state run.token

@@ -1,13 +1,13 @@
 use Rattle.std.proofs.Common.{◌≡◌, length, ap, arith, rules}
 use Rattle.mh_grammar.specs.Plain.{plain_of}
-use Rattle.mh_items.specs.code.Moves.{symbols_of}
-use Rattle.mh_canon_states.proofs.Building.{Building-start, Building-step}
-use Rattle.mh_canon_states.proofs.Finished.{IsCanonical-done}
+use Rattle.mh_items.specs.code.AllMoves.{symbols_of}
+use Rattle.mh_canon_states.proofs.PartialCollection.{PartialCollection-start, PartialCollection-step}
+use Rattle.mh_canon_states.proofs.CollectionIsCanonical.{IsCanonical-done}
 use Rattle.mh_canon.proofs.collection.collect.Goals as goal
 
 pub states-init : goal.states-init
 states-init g c = record {
-  building = rw c.requires.none (Building-start (plain_of c.args.grammar.now) c.args.kernels.now.set.keys c.requires.starts);
+  building = rw c.requires.none (PartialCollection-start (plain_of c.args.grammar.now) c.args.kernels.now.set.keys c.requires.starts);
   few = let l = c.requires.starts.len in omega (arith, l);
   mover = c.in_ok-mover.ensures;
 }
@@ -15,14 +15,14 @@ states-init g c = record {
 pub edges_of-requires : goal.edges_of-requires
 edges_of-requires g c =
     let few = c.states.invariant.few in
-    (search rules, (search rules, (c.requires.small, (c.requires.width, (c.requires.range, (c.states.invariant.mover, (omega (arith, c.states.edges.ok.0, ap length c.all.ensures), (c.states.invariant.building.states, few))))))))
+    (search rules, (search rules, (c.requires.fits, (c.states.invariant.mover, (omega (arith, c.states.edges.ok.0, ap length c.all.ensures), (c.states.invariant.building.states, few))))))
 
 pub states-preserved : goal.states-preserved
 states-preserved g c =
     let e = c.in-Ok.ensures.ok in
     let n : length c.states.edges.items ≡ c.len-in-states.result = omega (arith, c.states.edges.ok.0) in
     record {
-      building = rw c.in_ok-push-in-Ok.ensures.items (Building-step (plain_of c.args.grammar.now) c.states.kernels.set.keys c.edges_of.new.kernels.set.keys c.states.edges.items e.kernel e.of.closed (symbols_of e.moves) c.in-Ok.row c.states.invariant.building (rw n e.at) e.of.valid e.of.same e.of.are.rising e.of.are.exact e.edges);
+      building = rw c.in_ok-push-in-Ok.ensures.items (PartialCollection-step (plain_of c.args.grammar.now) c.states.kernels.set.keys c.edges_of.new.kernels.set.keys c.states.edges.items e.kernel e.of.closed (symbols_of e.moves) c.in-Ok.row c.states.invariant.building (rw n e.at) e.of.valid e.of.same e.of.are.rising e.of.are.exact e.edges);
       few = c.in-Ok.ensures.few;
       mover = c.in-Ok.ensures.mover;
     }

@@ -4,8 +4,8 @@ use Rattle.std.proofs.lemmas.List.Elements.{All-get_or}
 use Rattle.std.proofs.lemmas.Option.{slice_get-get_or}
 use Rattle.std.proofs.lemmas.Result.{IfOk-weaker}
 use Rattle.mh_grammar.specs.Plain.{plain_of}
-use Rattle.mh_canon_states.specs.code.Found.{IsState}
-use Rattle.mh_canon_states.proofs.States.{IsSource-close}
+use Rattle.mh_canon_states.specs.code.FoundStates.{IsCanonicalState}
+use Rattle.mh_canon_states.proofs.AreCanonicalStates.{IsStateClosure-close}
 use Rattle.mh_canon.proofs.collection.edges_of.Goals as goal
 
 pub moves-requires : goal.moves-requires
@@ -13,11 +13,11 @@ moves-requires g c =
     let kernels = c.args.kernels.now.set.keys in
     let k = c.index-all-state.result in
     let is = rw c.all.ensures at c.index-all-state.is in
-    let state : IsState (plain_of c.args.grammar.now) k = rw is (All-get_or (IsState (plain_of c.args.grammar.now)) kernels c.args.state k c.requires.state c.requires.states.each) in
-    (search rules, (search rules, (c.requires.small, (c.requires.width, (c.requires.range, (c.requires.mover, state.kernel))))))
+    let state : IsCanonicalState (plain_of c.args.grammar.now) k = rw is (All-get_or (IsCanonicalState (plain_of c.args.grammar.now)) kernels c.args.state k c.requires.state c.requires.states.each) in
+    (search rules, (search rules, (c.requires.fits, (c.requires.mover, state.kernel))))
 
 pub place_all-requires : goal.place_all-requires
-place_all-requires g c = (search rules, (search rules, (c.requires.small, (c.requires.states, c.requires.few))))
+place_all-requires g c = (search rules, (search rules, (c.requires.fits.few, (c.requires.states, c.requires.few))))
 
 pub returns-clause-ok : goal.returns-clause-ok
 returns-clause-ok g c =
@@ -33,6 +33,6 @@ returns-clause-over g c over =
     let kernels = c.args.kernels.now.set.keys in
     let k = c.index-all-state.result in
     let is = rw c.all.ensures at c.index-all-state.is in
-    let state : IsState (plain_of c.args.grammar.now) k = rw is (All-get_or (IsState (plain_of c.args.grammar.now)) kernels c.args.state k c.requires.state c.requires.states.each) in
+    let state : IsCanonicalState (plain_of c.args.grammar.now) k = rw is (All-get_or (IsCanonicalState (plain_of c.args.grammar.now)) kernels c.args.state k c.requires.state c.requires.states.each) in
     let of = c.in_ok-moves.ensures.moves in
-    c.place_all.ensures.over over of.closed (IsSource-close (plain_of c.args.grammar.now) k of.closed state of.valid of.same) of.are
+    c.place_all.ensures.over over of.closed (IsStateClosure-close (plain_of c.args.grammar.now) k of.closed state of.valid of.same) of.are

@@ -1,7 +1,7 @@
 use Rattle.std.proofs.Common.{◌≤◌, length}
 use Rattle.mh_grammar.specs.Plain.{plain_of}
 use Rattle.mh_canon_states.specs.declared.limits.TheConstants.{MAX_STATES}
-use Rattle.mh_canon.proofs.Placing.{PlacedSoFar}
+use Rattle.mh_canon.proofs.AreEdgesOfMoves.{PlacedSoFar}
 use Rattle.mh_canon.proofs.collection.place_all.Given as goal
 
 abbrev pub invariant-loop-found : goal.invariant-loop-found

@@ -1,9 +1,9 @@
 use Rattle.std.proofs.Common.{◌≡◌, Err, ap, arith, ◌∙◌}
-use Rattle.mh_catalogue.proofs.Adding.{made, not_made, rows_begin}
+use Rattle.mh_catalogue.proofs.RowsBelow.{made, not_made, RowsBelow-start}
 use Rattle.mh_catalogue.proofs.gathering.all_rows.Goals as goal
 
 pub loop-state-init : goal.loop-state-init
-loop-state-init c = rw c.new-rows.ensures.items (rows_begin c.args.reach.now)
+loop-state-init c = rw c.new-rows.ensures.items (RowsBelow-start c.args.reach.now)
 
 pub returns-in-Err : goal.returns-in-Err
 returns-in-Err c = not_made c.args.reach.now c.in-Err.fault (λ s e. c.in-Err.ensures.long s (ap Err e))

@@ -1,5 +1,5 @@
 use Rattle.mh_catalogue_rows.specs.Rows.{rows_of}
-use Rattle.mh_catalogue.specs.code.Gathering.{RowsBelow}
+use Rattle.mh_catalogue.specs.code.RowsBelow.{RowsBelow}
 use Rattle.mh_catalogue.proofs.gathering.all_rows.Given as goal
 
 abbrev pub invariant-loop-state : goal.invariant-loop-state

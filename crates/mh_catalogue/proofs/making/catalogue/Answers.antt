@@ -1,16 +1,16 @@
 use Rattle.std.proofs.Common.{subst}
 use Rattle.mh_tables_core.specs.Table.{TableData}
-use Rattle.mh_catalogue_rows.specs.Rows.{IsMade}
+use Rattle.mh_catalogue_rows.specs.Rows.{IsCatalogueResult}
 use Rattle.mh_catalogue.proofs.making.catalogue.Goals as goal
 
 pub returns-in-Ok-clause-ok : goal.returns-in-Ok-clause-ok
-returns-in-Ok-clause-ok c = (subst (λ (t : TableData). IsMade t c.all_rows.result) c.in-Ok.ensures c.all_rows.ensures).ok
+returns-in-Ok-clause-ok c = (subst (λ (t : TableData). IsCatalogueResult t c.all_rows.result) c.in-Ok.ensures c.all_rows.ensures).ok
 
 pub returns-in-Ok-clause-short : goal.returns-in-Ok-clause-short
-returns-in-Ok-clause-short c = (subst (λ (t : TableData). IsMade t c.all_rows.result) c.in-Ok.ensures c.all_rows.ensures).short
+returns-in-Ok-clause-short c = (subst (λ (t : TableData). IsCatalogueResult t c.all_rows.result) c.in-Ok.ensures c.all_rows.ensures).short
 
 pub returns-in-Ok-clause-none : goal.returns-in-Ok-clause-none
-returns-in-Ok-clause-none c = (subst (λ (t : TableData). IsMade t c.all_rows.result) c.in-Ok.ensures c.all_rows.ensures).none
+returns-in-Ok-clause-none c = (subst (λ (t : TableData). IsCatalogueResult t c.all_rows.result) c.in-Ok.ensures c.all_rows.ensures).none
 
 pub returns-in-Ok-clause-long : goal.returns-in-Ok-clause-long
-returns-in-Ok-clause-long c = (subst (λ (t : TableData). IsMade t c.all_rows.result) c.in-Ok.ensures c.all_rows.ensures).long
+returns-in-Ok-clause-long c = (subst (λ (t : TableData). IsCatalogueResult t c.all_rows.result) c.in-Ok.ensures c.all_rows.ensures).long

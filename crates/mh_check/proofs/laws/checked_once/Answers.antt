@@ -1,5 +1,5 @@
-use Rattle.mh_check.proofs.Once.{fault_once, sound_right, compiled_once}
-use Rattle.mh_check.proofs.Either.{compiled_or_fault}
+use Rattle.mh_check.proofs.CheckedOnce.{fault_once, sound_right, compiled_once}
+use Rattle.mh_check.proofs.CompiledOrFault.{compiled_or_fault}
 use Rattle.mh_check.proofs.laws.checked_once.Goals as goal
 
 pub returns-clause-fault : goal.returns-clause-fault

@@ -1,5 +1,5 @@
 use Rattle.std.proofs.Common.{◌≡◌, ◌+◌, length, arith}
-use Rattle.mh_check.proofs.Placing.{fails_by, known_by, early_by, accepted_by, overshot_by}
+use Rattle.mh_check.proofs.ArePlaces.{fails_by, known_by, early_by, accepted_by, overshot_by}
 use Rattle.mh_check.proofs.places.failing_state.Goals as goal
 
 pub returns-in-Reject-clause-known : goal.returns-in-Reject-clause-known

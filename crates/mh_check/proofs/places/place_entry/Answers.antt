@@ -1,9 +1,9 @@
 use Rattle.std.proofs.Common.{◌+◌, ◌++◌, ◌∷◌, [], List, take, drop, subst}
 use Rattle.mh_check.specs.Checks.{FirstFault}
-use Rattle.mh_check.specs.Compiling.{Tells}
-use Rattle.mh_check.specs.code.Places.{Item, item, items_of, sentences_in}
-use Rattle.mh_check.proofs.Placing.{fault_more}
-use Rattle.mh_check.proofs.Files.{sentence_split, none_placed, one_placed, all_placed}
+use Rattle.mh_check.specs.Compiling.{ReportsCheckFault}
+use Rattle.mh_check.specs.code.Places.{EntrySentence, entry_sentence, sentences_of_entry, without_entries}
+use Rattle.mh_check.proofs.ArePlaces.{fault_more}
+use Rattle.mh_check.proofs.IsCompiled.{sentence_split, none_placed, one_placed, all_placed}
 use Rattle.mh_check.proofs.places.place_entry.Goals as goal
 
 pub returns-in-Err-clause-places : goal.returns-in-Err-clause-places
@@ -11,10 +11,10 @@ returns-in-Err-clause-places c = λ done placed.
     let t = c.args.table.now in
     let xs = c.args.sentences.now in
     let i = c.loop-sentence.sentence-index in
-    let before = done ++ items_of c.args.entry (take i xs) in
+    let before = done ++ sentences_of_entry c.args.entry (take i xs) in
     let told = c.in-Err.ensures.places before (c.loop-sentence.invariant.so_far done placed) in
-    let more = fault_more t (before ++ item c.args.entry c.sentence-item.result ∷ []) (items_of c.args.entry (drop (i + 1) xs)) c.in-Err.fault told in
-    subst (λ (l : List Item). Tells c.in-Err.fault (FirstFault t (sentences_in l))) (sentence_split done c.args.entry xs i c.sentence-item.result c.loop-sentence-test.true c.sentence-item.is) more
+    let more = fault_more t (before ++ entry_sentence c.args.entry c.sentence-item.result ∷ []) (sentences_of_entry c.args.entry (drop (i + 1) xs)) c.in-Err.fault told in
+    subst (λ (l : List EntrySentence). ReportsCheckFault c.in-Err.fault (FirstFault t (without_entries l))) (sentence_split done c.args.entry xs i c.sentence-item.result c.loop-sentence-test.true c.sentence-item.is) more
 
 pub loop-sentence-init : goal.loop-sentence-init
 loop-sentence-init c = record {
@@ -26,7 +26,7 @@ pub loop-sentence-preserved : goal.loop-sentence-preserved
 loop-sentence-preserved c = record {
   size = c.in-Ok.ensures.size;
   so_far = λ done placed. one_placed c.args.table.now done c.args.entry c.args.sentences.now c.loop-sentence.sentence-index c.sentence-item.result c.place_sentence.new.places.items c.loop-sentence-test.true c.sentence-item.is
-      (c.in-Ok.ensures.places (done ++ items_of c.args.entry (take c.loop-sentence.sentence-index c.args.sentences.now)) (c.loop-sentence.invariant.so_far done placed));
+      (c.in-Ok.ensures.places (done ++ sentences_of_entry c.args.entry (take c.loop-sentence.sentence-index c.args.sentences.now)) (c.loop-sentence.invariant.so_far done placed));
 }
 
 pub returns-clause-size : goal.returns-clause-size

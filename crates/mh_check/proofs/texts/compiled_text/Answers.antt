@@ -1,5 +1,5 @@
 use Rattle.std.proofs.Common.{arith}
-use Rattle.mh_check.proofs.Listing.{written_more}
+use Rattle.mh_check.proofs.CompiledText.{written_more}
 use Rattle.mh_check.proofs.texts.compiled_text.Goals as goal
 
 pub loop-state-preserved : goal.loop-state-preserved

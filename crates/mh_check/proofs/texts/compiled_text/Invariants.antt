@@ -1,4 +1,4 @@
-use Rattle.mh_check.proofs.Listing.{WrittenTo}
+use Rattle.mh_check.proofs.CompiledText.{WrittenTo}
 use Rattle.mh_check.proofs.texts.compiled_text.Given as goal
 
 abbrev pub invariant-loop-state : goal.invariant-loop-state

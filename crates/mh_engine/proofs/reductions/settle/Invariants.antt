@@ -1,10 +1,10 @@
 use Rattle.std.proofs.Common.{◌+◌, ◌-◌, ◌*◌}
-use Rattle.mh_engine.proofs.Settling.{Progress}
+use Rattle.mh_engine.proofs.SettleLoop.{SettleInvariant}
 use Rattle.mh_engine.proofs.reductions.settle.Given as goal
 
 abbrev pub invariant-reductions : goal.invariant-reductions
-invariant-reductions l = Progress l.fn.from l.at l.floor l.count
+invariant-reductions l = SettleInvariant l.fn.from l.at l.floor l.count
 
--- the place falls, or one reduction fewer is left above it
+-- In each turn `floor` falls, or one fewer of at most 10,000 reductions is left above it.
 abbrev pub decreases-reductions : goal.decreases-reductions
 decreases-reductions l = 10001 * l.floor + (10000 - l.count)

@@ -1,5 +1,5 @@
 use Rattle.mh_engine.specs.declared.sentence.TreeOutcome.TheVariants as outcomes
-use Rattle.mh_engine.proofs.Ending.{run_ending}
+use Rattle.mh_engine.proofs.OutcomeIsEnding.{run_ending}
 use Rattle.mh_engine.proofs.sentence.run_with_trees.Goals as goal
 
 pub returns-in-Ok : goal.returns-in-Ok

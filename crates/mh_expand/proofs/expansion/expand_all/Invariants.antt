@@ -1,7 +1,7 @@
 use Rattle.std.proofs.Common.{◌-◌, nat_eq, length}
 use Rattle.indexmap.specs.IndexMap.{get}
-use Rattle.mh_expand.specs.code.Sharing.{terms_of, terms_at}
-use Rattle.mh_expand.specs.code.Searching.{IsExpanding, IsLonger}
+use Rattle.mh_expand.specs.code.SharedTerms.{terms_of, terms_at}
+use Rattle.mh_expand.specs.code.InstanceSearch.{IsExpanding, IsPrefixOf}
 use Rattle.mh_expand.proofs.expansion.expand_all.Given as goal
 
 abbrev pub decreases-instances : goal.decreases-instances
@@ -13,5 +13,5 @@ invariant-instances l =
     let new = terms_of l.terms.nodes.keys in
     record {
       expanding : IsExpanding l.joined new l.found.keys l.instances (get nat_eq l.ranks);
-      longer : IsLonger (terms_at old l.fn.found.keys) (terms_at new l.found.keys);
+      longer : IsPrefixOf (terms_at old l.fn.found.keys) (terms_at new l.found.keys);
     }

@@ -2,15 +2,15 @@ use Rattle.std.proofs.Common.{◌++◌, map, refl, subst, ◌∙◌}
 use Rattle.std.proofs.lemmas.List.{take_all}
 use Rattle.std.proofs.lemmas.Option.{slice_get_within}
 use Rattle.mh_expand.specs.Terms.{arguments}
-use Rattle.mh_expand.specs.Expansion.{Fails, Causes}
-use Rattle.mh_expand.specs.code.Sharing.{terms_of, terms_at}
-use Rattle.mh_expand.proofs.Actuals.{stands}
-use Rattle.mh_expand.proofs.Going.{below_grows}
-use Rattle.mh_expand.proofs.Steps.{producers_none, producers_more, producers_fail}
+use Rattle.mh_expand.specs.Expansion.{IsFirstFaultIn, IsMemoryOr}
+use Rattle.mh_expand.specs.code.SharedTerms.{terms_of, terms_at}
+use Rattle.mh_expand.proofs.ReplacedActuals.{replaced_term_of}
+use Rattle.mh_expand.proofs.FindsTerms.{below-extended}
+use Rattle.mh_expand.proofs.ExpansionSteps.{producers_none, producers_more, producers_fail}
 use Rattle.mh_expand.proofs.expansion.expand_alternative.Goals as goal
 
 pub replace-requires : goal.replace-requires
-replace-requires c = below_grows (terms_of c.args.terms.now.nodes.keys) (terms_of c.loop-producer.terms.nodes.keys) c.args.formals.now c.loop-producer.invariant.grows c.requires.formals
+replace-requires c = below-extended (terms_of c.args.terms.now.nodes.keys) (terms_of c.loop-producer.terms.nodes.keys) c.args.formals.now c.loop-producer.invariant.grows c.requires.formals
 
 pub loop-producer-init : goal.loop-producer-init
 loop-producer-init c = rw c.new-rhs.ensures (producers_none c.args.joined.now c.args.formals.now (terms_of c.args.terms.now.nodes.keys) c.args.found.now.keys c.requires.few)
@@ -25,7 +25,7 @@ pub returns-in-Err-clause-err : goal.returns-in-Err-clause-err
 returns-in-Err-clause-err c = λ before t e s.
     let us = terms_of c.loop-producer.terms.nodes.keys in
     let vs = terms_of c.replace.new.terms.nodes.keys in
-    subst (λ l. Causes (Fails c.args.joined.now (before ++ map (stands (arguments t)) l)) c.in-Err.fault) c.as_slice-producer-items.ensures (producers_fail c.args.joined.now c.args.formals.now (terms_of c.args.terms.now.nodes.keys) c.args.found.now.keys c.requires.formals us vs c.loop-producer.found.keys c.as_slice-producer-items.result.now c.loop-producer.producer-index c.producer-item.result c.loop-producer.rhs c.in_ok-number.number c.loop-producer.invariant c.loop-producer-test.true c.producer-item.is (record { grows = c.in_ok-number.ensures.grows; at = c.in_ok-number.ensures.term }) c.in-Err.fault c.in-Err.ensures.err before t e s)
+    subst (λ l. IsMemoryOr (IsFirstFaultIn c.args.joined.now (before ++ map (replaced_term_of (arguments t)) l)) c.in-Err.fault) c.as_slice-producer-items.ensures (producers_fail c.args.joined.now c.args.formals.now (terms_of c.args.terms.now.nodes.keys) c.args.found.now.keys c.requires.formals us vs c.loop-producer.found.keys c.as_slice-producer-items.result.now c.loop-producer.producer-index c.producer-item.result c.loop-producer.rhs c.in_ok-number.number c.loop-producer.invariant c.loop-producer-test.true c.producer-item.is (record { grows = c.in_ok-number.ensures.grows; at = c.in_ok-number.ensures.term }) c.in-Err.fault c.in-Err.ensures.err before t e s)
 
 pub returns-clause-ok : goal.returns-clause-ok
 returns-clause-ok c = λ before t e s.
@@ -33,7 +33,7 @@ returns-clause-ok c = λ before t e s.
     record { went = v.went; made = record { file = refl; place = refl; rhs = v.parts; prec = refl } }
 
 pub find-requires-clause-number : goal.find-requires-clause-number
-find-requires-clause-number c = slice_get_within (terms_of c.replace.new.terms.nodes.keys) c.in_ok-number.number (stands (terms_at (terms_of c.loop-producer.terms.nodes.keys) c.args.formals.now) c.producer-item.result) c.in_ok-number.ensures.term
+find-requires-clause-number c = slice_get_within (terms_of c.replace.new.terms.nodes.keys) c.in_ok-number.number (replaced_term_of (terms_at (terms_of c.loop-producer.terms.nodes.keys) c.args.formals.now) c.producer-item.result) c.in_ok-number.ensures.term
 
 pub find-requires-clause-few : goal.find-requires-clause-few
 find-requires-clause-few c = c.loop-producer.invariant.few

@@ -1,6 +1,6 @@
 use Rattle.std.proofs.Common.{take}
-use Rattle.mh_expand.specs.code.Sharing.{terms_of}
-use Rattle.mh_expand.proofs.Steps.{ProducersSoFar}
+use Rattle.mh_expand.specs.code.SharedTerms.{terms_of}
+use Rattle.mh_expand.proofs.ExpansionSteps.{ProducersSoFar}
 use Rattle.mh_expand.proofs.expansion.expand_alternative.Given as goal
 
 abbrev pub invariant-loop-producer : goal.invariant-loop-producer

@@ -1,6 +1,6 @@
 use Rattle.std.proofs.Common.{take}
-use Rattle.mh_expand.specs.code.Sharing.{terms_of}
-use Rattle.mh_expand.proofs.Steps.{AlternativesSoFar}
+use Rattle.mh_expand.specs.code.SharedTerms.{terms_of}
+use Rattle.mh_expand.proofs.ExpansionSteps.{AlternativesSoFar}
 use Rattle.mh_expand.proofs.expansion.expand_alternatives.Given as goal
 
 abbrev pub invariant-loop-alternative : goal.invariant-loop-alternative

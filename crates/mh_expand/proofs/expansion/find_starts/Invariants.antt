@@ -1,6 +1,6 @@
 use Rattle.std.proofs.Common.{take}
-use Rattle.mh_expand.specs.code.Sharing.{terms_of}
-use Rattle.mh_expand.proofs.Steps.{StartsSoFar}
+use Rattle.mh_expand.specs.code.SharedTerms.{terms_of}
+use Rattle.mh_expand.proofs.ExpansionSteps.{StartsSoFar}
 use Rattle.mh_expand.proofs.expansion.find_starts.Given as goal
 
 abbrev pub invariant-loop-rule : goal.invariant-loop-rule

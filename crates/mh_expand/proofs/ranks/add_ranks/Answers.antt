@@ -2,12 +2,12 @@ use Rattle.std.proofs.Common.{◌≡◌, ◌∷◌, ◌++◌, [], Some, nat_eq, 
 use Rattle.std.specs.List.{slice_get}
 use Rattle.std.proofs.lemmas.List.{take_all}
 use Rattle.indexmap.specs.IndexMap.{get}
-use Rattle.mh_grammar.proofs.Lists.{taken}
+use Rattle.mh_grammar.proofs.Lists.{take_step}
 use Rattle.mh_expand.specs.Terms.{term_of}
-use Rattle.mh_expand.specs.code.Sharing.{terms_of}
-use Rattle.mh_expand.specs.code.Searching.{AddsRank}
-use Rattle.mh_expand.proofs.Shared.{terms_of-distinct}
-use Rattle.mh_expand.proofs.Ranking.{replaced-none, AreRanks-open, AreRanks-grows, AreRanks-add}
+use Rattle.mh_expand.specs.code.SharedTerms.{terms_of}
+use Rattle.mh_expand.specs.code.InstanceSearch.{AddsRank}
+use Rattle.mh_expand.proofs.SharedTerms.{terms_of-distinct}
+use Rattle.mh_expand.proofs.AreRanks.{replaced-none, AreRanks-open, AreRanks-grows, AreRanks-add}
 use Rattle.mh_expand.proofs.ranks.add_ranks.Goals as goal
 
 pub loop-applied-init : goal.loop-applied-init
@@ -24,7 +24,7 @@ loop-applied-preserved c = λ before len w.
     let here : slice_get us c.in_ok-number.number ≡ Some (term_of a) = c.in_ok-number.ensures.term ∙ ap Some (replaced-none (term_of a)) in
     let grown = AreRanks-grows (before ++ take i items ∷ []) ts us (get nat_eq c.loop-applied.ranks) distinct c.in_ok-number.ensures.grows (c.loop-applied.invariant before len w) in
     let add : AddsRank (get nat_eq c.loop-applied.ranks) (get nat_eq c.add_rank.new.ranks) c.in_ok-number.number (length before) = rw len c.in_ok-add_rank.ensures in
-    rw (taken items i a c.loop-applied-test.true c.applied-item.is) (AreRanks-add before (take i items) a us (get nat_eq c.loop-applied.ranks) (get nat_eq c.add_rank.new.ranks) c.in_ok-number.number distinct here grown add)
+    rw (take_step items i a c.loop-applied-test.true c.applied-item.is) (AreRanks-add before (take i items) a us (get nat_eq c.loop-applied.ranks) (get nat_eq c.add_rank.new.ranks) c.in_ok-number.number distinct here grown add)
 
 pub returns : goal.returns
 returns c = λ before len w. rw (take_all c.loop-applied.applied-index c.args.declaration.now (omega arith)) at (c.loop-applied.invariant before len w)

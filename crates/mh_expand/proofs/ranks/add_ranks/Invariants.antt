@@ -1,8 +1,8 @@
 use Rattle.std.proofs.Common.{◌≡◌, ◌∷◌, ◌++◌, [], List, nat_eq, length, take}
 use Rattle.indexmap.specs.IndexMap.{get}
 use Rattle.mh_rules.specs.declared.joined.Applied.{Applied}
-use Rattle.mh_expand.specs.code.Sharing.{terms_of}
-use Rattle.mh_expand.specs.code.Searching.{AreRanks}
+use Rattle.mh_expand.specs.code.SharedTerms.{terms_of}
+use Rattle.mh_expand.specs.code.InstanceSearch.{AreRanks}
 use Rattle.mh_expand.proofs.ranks.add_ranks.Given as goal
 
 abbrev pub invariant-loop-applied : goal.invariant-loop-applied

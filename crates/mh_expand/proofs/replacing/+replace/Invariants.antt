@@ -1,6 +1,6 @@
 use Rattle.std.proofs.Common.{drop}
-use Rattle.mh_expand.specs.code.Sharing.{terms_of, terms_at}
-use Rattle.mh_expand.proofs.Actuals.{stands, IsReplacing}
+use Rattle.mh_expand.specs.code.SharedTerms.{terms_of, terms_at}
+use Rattle.mh_expand.proofs.ReplacedActuals.{replaced_term_of, IsReplacing}
 use Rattle.mh_expand.proofs.replacing.+replace.Given as goal
 
 abbrev pub decreases-replace : goal.decreases-replace
@@ -10,4 +10,4 @@ abbrev pub invariant-loop-arg : goal.invariant-loop-arg
 invariant-loop-arg l =
     let old = terms_of l.fn.terms.nodes.keys in
     let fs = terms_at old l.formals in
-    IsReplacing old (terms_of l.terms.nodes.keys) fs l.node (drop l.arg-index l.arg-items) (stands fs l.applied)
+    IsReplacing old (terms_of l.terms.nodes.keys) fs l.node (drop l.arg-index l.arg-items) (replaced_term_of fs l.applied)

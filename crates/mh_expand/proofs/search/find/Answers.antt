@@ -2,9 +2,9 @@ use Rattle.std.proofs.Common.{◌≡◌, refl, sym, ap, ◌∙◌}
 use Rattle.std.proofs.lemmas.List.{nil_from_length}
 use Rattle.mh_rules.specs.declared.joined.Head.TheVariants.{Token}
 use Rattle.mh_expand.specs.Terms.{Atom, apply_all}
-use Rattle.mh_expand.specs.code.Sharing.{terms_of, term_at, terms_at, node_term}
-use Rattle.mh_expand.proofs.Shared.{node_count, node_head, term_got}
-use Rattle.mh_expand.proofs.Found.{Finds-token}
+use Rattle.mh_expand.specs.code.SharedTerms.{terms_of, term_at, terms_at, node_term}
+use Rattle.mh_expand.proofs.SharedTerms.{node_count, node_head, term_at-slice_get}
+use Rattle.mh_expand.proofs.AreFound.{FindsTerm-token}
 use Rattle.mh_expand.proofs.search.find.Goals as goal
 use Rattle.mh_expand.proofs.search.find.Goals.{in_default-via-in-Token+else-is_empty, in_default-via-in_default}
 
@@ -28,10 +28,10 @@ returns-in-Token-clause-ok c = λ before s.
     let ts = terms_of c.args.terms.now.nodes.keys in
     let node = c.at-node.result.now in
     let same : term_at ts c.args.number ≡ Atom (Token c.in-Token.token) =
-    term_got ts c.args.number (node_term ts node) c.at-node.ensures.means
+    term_at-slice_get ts c.args.number (node_term ts node) c.at-node.ensures.means
     ∙ ap (λ ns. apply_all (Atom node.head) (terms_at ts ns)) (c.if-is_empty.ensures.0 refl)
     ∙ ap Atom c.in-Token.is in
-    rw same (Finds-token c.args.joined.now before ts c.args.found.now.keys c.in-Token.token s)
+    rw same (FindsTerm-token c.args.joined.now before ts c.args.found.now.keys c.in-Token.token s)
 
 pub returns-in_default-clause-err : goal.returns-in_default-clause-err
 returns-in_default-clause-err c = λ before s. c.wrong_count.ensures before

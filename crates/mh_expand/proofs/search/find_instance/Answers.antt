@@ -3,8 +3,8 @@ use Rattle.std.specs.Option.{option_map, unwrap_or}
 use Rattle.std.specs.List.{slice_get}
 use Rattle.mh_rules.specs.declared.joined.JoinedRule.{JoinedRule}
 use Rattle.mh_expand.specs.Terms.{arguments}
-use Rattle.mh_expand.specs.code.Sharing.{terms_of, term_at}
-use Rattle.mh_expand.proofs.Shared.{node_count}
+use Rattle.mh_expand.specs.code.SharedTerms.{terms_of, term_at}
+use Rattle.mh_expand.proofs.SharedTerms.{node_count}
 use Rattle.mh_expand.proofs.search.find_instance.Goals as goal
 use Rattle.mh_expand.proofs.search.find_instance.Goals.{in_default-via-in-Some+else-takes, in_default-via-in_default}
 

@@ -1,6 +1,6 @@
 use Rattle.std.proofs.Common.{eqb}
 use Rattle.std.proofs.lemmas.Bool.Decides.{Decides-eqb}
-use Rattle.mh_grammar.proofs.Placing.{Placed-insert}
+use Rattle.mh_grammar.proofs.NumberingInvariant.{Placed-insert}
 use Rattle.mh_expand.proofs.search.place.Goals as goal
 
 pub returns : goal.returns

@@ -1,6 +1,6 @@
 use Rattle.std.proofs.Common.{refl}
-use Rattle.mh_grammar.proofs.Placing.{Placed-insert}
-use Rattle.mh_expand.proofs.Equal.{compares_Decides}
+use Rattle.mh_grammar.proofs.NumberingInvariant.{Placed-insert}
+use Rattle.mh_expand.proofs.ApplicationEquality.{compares_Decides}
 use Rattle.mh_expand.specs.contracts.applications.ApplicationPartialEq.TheImpl.{ghosts}
 use Rattle.mh_expand.proofs.terms.place.Goals as goal
 

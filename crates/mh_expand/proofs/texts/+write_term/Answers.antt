@@ -2,8 +2,8 @@ use Rattle.std.proofs.Common.{◌≡◌, ◌<◌, ◌⊎◌, ◌∷◌, ◌++◌
 use Rattle.std.proofs.lemmas.List.{take_at}
 use Rattle.mh_grammar.proofs.Lists.{take_few}
 use Rattle.mh_expand.specs.Terms.{text}
-use Rattle.mh_expand.specs.code.Sharing.{terms_of, term_at}
-use Rattle.mh_expand.proofs.Room.{IsWriting-start, IsWriting-arg, IsWriting-bare, IsWriting-end}
+use Rattle.mh_expand.specs.code.SharedTerms.{terms_of, term_at}
+use Rattle.mh_expand.proofs.BoundedTexts.{IsWriting-start, IsWriting-arg, IsWriting-without_args, IsWriting-end}
 use Rattle.mh_expand.proofs.texts.+write_term.Goals as goal
 use Rattle.mh_expand.proofs.texts.+write_term.Goals.{then-place-eq0, else-place-eq0}
 
@@ -45,4 +45,4 @@ write_term-requires t c =
 pub returns-else-not-is_empty : goal.returns-else-not-is_empty
 returns-else-not-is_empty t c =
     let node = c.at-node.result.now in
-    IsWriting-bare c.args.joined.now c.args.room c.args.text.now.items c.loop-place.text.items node.head (terms_of c.args.terms.now.nodes.keys) node.args c.loop-place.place c.args.number (c.if-not-is_empty.ensures.0 refl) c.at-node.ensures.means c.loop-place.invariant
+    IsWriting-without_args c.args.joined.now c.args.room c.args.text.now.items c.loop-place.text.items node.head (terms_of c.args.terms.now.nodes.keys) node.args c.loop-place.place c.args.number (c.if-not-is_empty.ensures.0 refl) c.at-node.ensures.means c.loop-place.invariant

@@ -1,7 +1,7 @@
 use Rattle.std.proofs.Common.{take}
 use Rattle.mh_expand.specs.Terms.{Atom, apply_all}
-use Rattle.mh_expand.specs.code.Sharing.{terms_of, terms_at}
-use Rattle.mh_expand.proofs.Room.{IsWriting}
+use Rattle.mh_expand.specs.code.SharedTerms.{terms_of, terms_at}
+use Rattle.mh_expand.proofs.BoundedTexts.{IsWriting}
 use Rattle.mh_expand.proofs.texts.+write_term.Given as goal
 
 abbrev pub decreases-write_term : goal.decreases-write_term

@@ -1,5 +1,5 @@
 use Rattle.std.proofs.Common.{◌≡◌, ℕ, ◌-◌, ◌+◌, length}
-use Rattle.mh_facts.specs.code.Rows.{row_of}
+use Rattle.mh_facts.specs.code.Queues.{row_of}
 use Rattle.mh_facts.proofs.queue.push.Given as goal
 
 abbrev pub invariant-buckets : goal.invariant-buckets

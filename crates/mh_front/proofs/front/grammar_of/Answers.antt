@@ -5,9 +5,9 @@ use Rattle.mh_grammar.specs.Numbering.{AreDistinct}
 use Rattle.mh_grammar.specs.Plain.{plain_of, IsInRange}
 use Rattle.mh_rules.specs.declared.joined.TheConstants.{MAX_TOKENS}
 use Rattle.mh_front.specs.Sentences.{HasSentencesOfModules}
-use Rattle.mh_front.specs.Stages.{Causes, IsGrammarOfJoined, IsGrammarOfModules, IsGrammarFault, IsJoinedFault}
-use Rattle.mh_front.proofs.OneGrammar as one
-use Rattle.mh_front.proofs.Passing.{join_fault, later_fault}
+use Rattle.mh_front.specs.Stages.{HasCauseOrMemory, IsGrammarOfJoined, IsGrammarOfModules, IsGrammarFault, IsJoinedFault}
+use Rattle.mh_front.proofs.GrammarUnique as one
+use Rattle.mh_front.proofs.StageFaults.{join_fault, later_fault}
 use Rattle.mh_front.proofs.front.grammar_of.Goals as goal
 
 pub returns-in-Ok-clause-tokens : goal.returns-in-Ok-clause-tokens
@@ -39,7 +39,7 @@ pub returns-in-Ok-clause-grammar : goal.returns-in-Ok-clause-grammar
 returns-in-Ok-clause-grammar c = IfOk-weaker c.grammar_of_joined.result (IsGrammarOfJoined c.in-Ok.joined) (IsGrammarOfModules c.args.prelude c.args.modules.now) (λ g o. record { joined = c.in-Ok.joined; joins = c.in-Ok.ensures.joins; grammar = o }) c.grammar_of_joined.ensures.grammar
 
 pub returns-in-Ok-clause-fault : goal.returns-in-Ok-clause-fault
-returns-in-Ok-clause-fault c = IfErr-weaker c.grammar_of_joined.result (Causes (IsJoinedFault c.in-Ok.joined)) (Causes (IsGrammarFault c.args.prelude c.args.modules.now)) (λ f e. later_fault c.args.prelude c.args.modules.now c.in-Ok.joined f c.in-Ok.ensures.joins e) c.grammar_of_joined.ensures.fault
+returns-in-Ok-clause-fault c = IfErr-weaker c.grammar_of_joined.result (HasCauseOrMemory (IsJoinedFault c.in-Ok.joined)) (HasCauseOrMemory (IsGrammarFault c.args.prelude c.args.modules.now)) (λ f e. later_fault c.args.prelude c.args.modules.now c.in-Ok.joined f c.in-Ok.ensures.joins e) c.grammar_of_joined.ensures.fault
 
 pub returns-in-Err-clause-fault : goal.returns-in-Err-clause-fault
-returns-in-Err-clause-fault c = subst (Causes (IsGrammarFault c.args.prelude c.args.modules.now)) (sym c.from.ensures) (join_fault c.args.prelude c.args.modules.now c.in-Err.fault c.in-Err.ensures.joins)
+returns-in-Err-clause-fault c = subst (HasCauseOrMemory (IsGrammarFault c.args.prelude c.args.modules.now)) (sym c.from.ensures) (join_fault c.args.prelude c.args.modules.now c.in-Err.fault c.in-Err.ensures.joins)

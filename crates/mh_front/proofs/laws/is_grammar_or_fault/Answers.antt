@@ -1,4 +1,4 @@
-use Rattle.mh_front.proofs.OneGrammar.{grammar_or_fault}
+use Rattle.mh_front.proofs.GrammarUnique.{grammar_or_fault}
 use Rattle.mh_front.proofs.laws.is_grammar_or_fault.Goals as goal
 
 pub returns : goal.returns

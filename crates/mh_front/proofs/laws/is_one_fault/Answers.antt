@@ -1,4 +1,4 @@
-use Rattle.mh_front.proofs.OneGrammar.{one_fault}
+use Rattle.mh_front.proofs.GrammarUnique.{one_fault}
 use Rattle.mh_front.proofs.laws.is_one_fault.Goals as goal
 
 pub returns : goal.returns

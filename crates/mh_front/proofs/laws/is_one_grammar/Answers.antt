@@ -1,4 +1,4 @@
-use Rattle.mh_front.proofs.OneGrammar.{one_grammar}
+use Rattle.mh_front.proofs.GrammarUnique.{one_grammar}
 use Rattle.mh_front.proofs.laws.is_one_grammar.Goals as goal
 
 pub returns : goal.returns

@@ -1,7 +1,7 @@
 use Rattle.std.proofs.Common.{◌∙◌, sym, length, get_or}
 use Rattle.std.proofs.lemmas.List.{drop_more}
 use Rattle.mh_grammar.specs.declared.types.Symbol.TheVariants.{T}
-use Rattle.mh_grammar.proofs.FirstSets.{symbol_fits, step_sound, SideSoFar-step, SideSoFar-stop}
+use Rattle.mh_grammar.proofs.FirstFlags.{symbol_fits, step_sound, SideSoFar-step, SideSoFar-stop}
 use Rattle.mh_grammar.proofs.firsts.add_side.Goals as goal
 
 pub add_symbol-grown-requires-clause-symbol : goal.add_symbol-grown-requires-clause-symbol

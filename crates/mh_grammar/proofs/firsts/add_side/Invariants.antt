@@ -1,5 +1,5 @@
 use Rattle.std.proofs.Common.{drop}
-use Rattle.mh_grammar.proofs.FirstSets.{SideSoFar}
+use Rattle.mh_grammar.proofs.FirstFlags.{SideSoFar}
 use Rattle.mh_grammar.proofs.firsts.add_side.Given as goal
 
 abbrev pub invariant-loop-symbol : goal.invariant-loop-symbol

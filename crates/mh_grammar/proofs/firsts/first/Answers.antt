@@ -1,5 +1,5 @@
 use Rattle.mh_grammar.specs.Plain.{plain_of}
-use Rattle.mh_grammar.proofs.FirstSets.{marks_from-nullable}
+use Rattle.mh_grammar.proofs.FirstFlags.{marks_from-nullable}
 use Rattle.mh_grammar.proofs.firsts.first.Goals as goal
 
 pub first_flags-requires-clause-nullable : goal.first_flags-requires-clause-nullable

@@ -1,7 +1,7 @@
 use Rattle.std.proofs.Common.{◌≡◌, ◌<◌, length, map, arith}
 use Rattle.std.proofs.lemmas.List.{map-append, length-map}
 use Rattle.mh_grammar.specs.Plain.{plain_of}
-use Rattle.mh_grammar.proofs.FirstSets.{RowsSoFar-push, row_exact}
+use Rattle.mh_grammar.proofs.FirstFlags.{RowsSoFar-push, row_exact}
 use Rattle.mh_grammar.proofs.firsts.rows_of.Goals as goal
 
 pub loop-n-preserved : goal.loop-n-preserved

@@ -1,6 +1,6 @@
 use Rattle.std.proofs.Common.{◌≡◌, map, vec_len}
 use Rattle.mh_grammar.specs.Plain.{plain_of}
-use Rattle.mh_grammar.proofs.FirstSets.{RowsSoFar}
+use Rattle.mh_grammar.proofs.FirstFlags.{RowsSoFar}
 use Rattle.mh_grammar.proofs.firsts.rows_of.Given as goal
 
 abbrev pub invariant-loop-n : goal.invariant-loop-n

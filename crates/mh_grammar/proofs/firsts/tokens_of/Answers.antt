@@ -1,5 +1,5 @@
 use Rattle.std.proofs.Common.{arith}
-use Rattle.mh_grammar.proofs.FirstSets.{TokensSoFar-push, TokensSoFar-skip, flag_within}
+use Rattle.mh_grammar.proofs.FirstFlags.{TokensSoFar-push, TokensSoFar-skip, flag_within}
 use Rattle.mh_grammar.proofs.firsts.tokens_of.Goals as goal
 use Rattle.mh_grammar.proofs.firsts.tokens_of.Goals.{then-flag+in_ok-push, else-flag}
 

@@ -1,4 +1,4 @@
-use Rattle.mh_grammar.proofs.FirstSets.{TokensSoFar}
+use Rattle.mh_grammar.proofs.FirstFlags.{TokensSoFar}
 use Rattle.mh_grammar.proofs.firsts.tokens_of.Given as goal
 
 abbrev pub invariant-loop-token : goal.invariant-loop-token

@@ -1,5 +1,5 @@
 use Rattle.std.proofs.Common.{arith, ◌≤◌, ◌+◌, ◌*◌, length}
-use Rattle.mh_grammar.proofs.Flags.{RowAdded-skip, RowAdded-set}
+use Rattle.mh_grammar.proofs.FlagTable.{RowAdded-skip, RowAdded-set}
 use Rattle.mh_grammar.proofs.grid.add_row.Goals as goal
 use Rattle.mh_grammar.proofs.grid.add_row.Goals.{then-flags-from, else-flags-from}
 

@@ -1,4 +1,4 @@
-use Rattle.mh_grammar.proofs.Flags.{RowAdded}
+use Rattle.mh_grammar.proofs.FlagTable.{RowAdded}
 use Rattle.mh_grammar.proofs.grid.add_row.Given as goal
 
 abbrev pub invariant-loop-column : goal.invariant-loop-column

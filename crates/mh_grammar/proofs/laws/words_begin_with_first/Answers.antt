@@ -1,6 +1,6 @@
 use Rattle.std.proofs.Common.{◌∷◌, refl}
 use Rattle.mh_grammar.specs.Plain.{plain_of}
-use Rattle.mh_grammar.proofs.Begins.{first_from-derivation, first_of_from-derivations}
+use Rattle.mh_grammar.proofs.DerivesFirst.{first_from-derivation, first_of_from-derivations}
 use Rattle.mh_grammar.proofs.laws.words_begin_with_first.Goals as goal
 
 pub returns-clause-symbol : goal.returns-clause-symbol

@@ -1,7 +1,7 @@
 use Rattle.std.proofs.Common.{◌-◌, length, refl, arith}
 use Rattle.std.proofs.lemmas.Option.{slice_get_read}
 use Rattle.mh_grammar.proofs.LeastMarks.{Closes}
-use Rattle.mh_grammar.proofs.Passes.{pass-back, pass-step, pass-end}
+use Rattle.mh_grammar.proofs.ProductionPasses.{pass-back, pass-step, pass-end}
 use Rattle.mh_grammar.proofs.marks.mark_once.Goals as goal
 
 pub loop-place-preserved : goal.loop-place-preserved

@@ -1,6 +1,6 @@
 use Rattle.mh_grammar.specs.Marked.{AreSound}
 use Rattle.mh_grammar.proofs.LeastMarks.{Closes}
-use Rattle.mh_grammar.proofs.Passes.{PassSoFar}
+use Rattle.mh_grammar.proofs.ProductionPasses.{PassSoFar}
 use Rattle.mh_grammar.proofs.marks.mark_once.Given as goal
 
 abbrev pub invariant-loop-place : goal.invariant-loop-place

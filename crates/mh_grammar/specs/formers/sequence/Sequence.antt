@@ -1,4 +1,7 @@
--- `Sequence` as a type that may hold the type that holds it.
+-- `Sequence` as a type constructor that recursive types may use around themselves. The names that begin with `the_` are
+-- those that the checker asks of each such type: `the_weighed` counts the items as smaller than the sequence (for
+-- recursion), `the_places` says that a map of the items keeps their number and order, `the_codes_placed` says the same
+-- of the items' codes.
 use mathlib.Core.Path.{◌≡◌, refl, sym}
 use mathlib.Core.List.{List, []}
 use mathlib.Core.Former.{Former, this, list, via, children}

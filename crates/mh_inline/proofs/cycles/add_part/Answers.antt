@@ -1,7 +1,7 @@
 use Rattle.std.proofs.Common.{sym, ◌∙◌}
 use Rattle.std.proofs.lemmas.Result.{on_ok_weaker}
-use Rattle.mh_inline_unfold.proofs.Producers.{inline_within}
-use Rattle.mh_inline.proofs.Finding.{part_inline, part_kept}
+use Rattle.mh_inline_unfold.proofs.InlineProducers.{inline_within}
+use Rattle.mh_inline.proofs.AddsFound.{part_inline, part_kept}
 use Rattle.mh_inline.proofs.cycles.add_part.Goals as goal
 
 pub add_one-requires-clause-number : goal.add_one-requires-clause-number

@@ -1,6 +1,6 @@
 use Rattle.std.proofs.Common.{arith}
-use Rattle.mh_inline_unfold.proofs.Producers.{inline_instance}
-use Rattle.mh_inline.proofs.Cycling.{reaches_user, all_sized}
+use Rattle.mh_inline_unfold.proofs.InlineProducers.{inline_instance}
+use Rattle.mh_inline.proofs.IsCyclic.{reaches_user, all_sized}
 use Rattle.mh_inline.proofs.cycles.first_cyclic_by.Goals as goal
 
 pub returns-clause-first : goal.returns-clause-first

@@ -1,13 +1,13 @@
 use Rattle.std.proofs.Common.{◌<◌, length, refl, arith}
 use Rattle.std.proofs.lemmas.Option.{slice_get_read}
-use Rattle.mh_grammar.proofs.Placing.{contains_at}
-use Rattle.mh_inline_unfold.proofs.Producers.{inline_instance}
-use Rattle.mh_inline.proofs.Finding.{IsTable-empty}
-use Rattle.mh_inline.proofs.Cycling.{Searched-start, Searched-step, searched, reaches_used}
+use Rattle.mh_grammar.proofs.NumberingInvariant.{contains_at}
+use Rattle.mh_inline_unfold.proofs.InlineProducers.{inline_instance}
+use Rattle.mh_inline.proofs.AddsFound.{IsFoundTable-empty}
+use Rattle.mh_inline.proofs.IsCyclic.{Searched-start, Searched-step, searched, reaches_used}
 use Rattle.mh_inline.proofs.cycles.is_cyclic.Goals as goal
 
 pub loop-done-init : goal.loop-done-init
-loop-done-init c = Searched-start c.args.expanded.now.instances c.args.number _ c.add_inlined.new.found c.requires (IsTable-empty c.args.expanded.now.instances _ c.len.result c.len.ensures c.in_ok-found.ensures.flags c.in_ok-found.ensures.queue) c.in_ok-found.ensures.queue c.in_ok-add_inlined.ensures
+loop-done-init c = Searched-start c.args.expanded.now.instances c.args.number _ c.add_inlined.new.found c.requires (IsFoundTable-empty c.args.expanded.now.instances _ c.len.result c.len.ensures c.in_ok-found.ensures.flags c.in_ok-found.ensures.queue) c.in_ok-found.ensures.queue c.in_ok-add_inlined.ensures
 
 pub add_inlined-requires-in-loop-done-clause-number : goal.add_inlined-requires-in-loop-done-clause-number
 add_inlined-requires-in-loop-done-clause-number c =

@@ -1,5 +1,5 @@
 use Rattle.std.proofs.Common.{◌+◌, ◌-◌, not, count_by, vec_len}
-use Rattle.mh_inline.proofs.Cycling.{Searched}
+use Rattle.mh_inline.proofs.IsCyclic.{Searched}
 use Rattle.mh_inline.proofs.cycles.is_cyclic.Given as goal
 
 abbrev pub invariant-loop-done : goal.invariant-loop-done

@@ -1,7 +1,7 @@
 use Rattle.std.proofs.Common.{◌<◌, length, refl, sym, ◌∙◌, arith}
 use Rattle.std.proofs.lemmas.Bool.{false≢true}
 use Rattle.std.proofs.lemmas.Option.{slice_get_read}
-use Rattle.mh_inline.proofs.Cycling.{acyclic_kept, acyclic_sized}
+use Rattle.mh_inline.proofs.IsCyclic.{acyclic_kept, acyclic_sized}
 use Rattle.mh_inline.proofs.cycles.reaches_itself.Goals as goal
 use Rattle.mh_inline.proofs.cycles.reaches_itself.Goals.{then-not-is_inline-via-then-not-is_inline, then-not-is_inline-via-else-not-is_inline+then-is_some}
 

@@ -1,5 +1,5 @@
 use Rattle.std.specs.List.{All}
-use Rattle.mh_inline.specs.code.Searching.{IsVisitBelow}
+use Rattle.mh_inline.specs.code.DepthFirst.{IsVisitBelow}
 use Rattle.mh_inline.proofs.depth.visits_to_all.Given as goal
 
 abbrev pub invariant-loop-number : goal.invariant-loop-number

@@ -1,6 +1,6 @@
 use Rattle.std.proofs.Common.{◌∙◌}
 use Rattle.mh_inline.proofs.Limits.{small_grammar}
-use Rattle.mh_inline.proofs.Producing.{starts_same}
+use Rattle.mh_inline.proofs.MadeProductions.{starts_same}
 use Rattle.mh_inline.proofs.inlining.grammar_by.Goals as goal
 
 pub starts_of-requires : goal.starts_of-requires

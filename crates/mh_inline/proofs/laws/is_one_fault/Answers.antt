@@ -1,4 +1,4 @@
-use Rattle.mh_inline.proofs.Only.{one_fault}
+use Rattle.mh_inline.proofs.UniqueGrammar.{one_fault}
 use Rattle.mh_inline.proofs.laws.is_one_fault.Goals as goal
 
 pub returns : goal.returns

@@ -1,4 +1,4 @@
-use Rattle.mh_inline.proofs.Only.{one_grammar}
+use Rattle.mh_inline.proofs.UniqueGrammar.{one_grammar}
 use Rattle.mh_inline.proofs.laws.is_one_grammar.Goals as goal
 
 pub returns : goal.returns

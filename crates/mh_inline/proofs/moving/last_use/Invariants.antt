@@ -1,5 +1,5 @@
 use Rattle.std.specs.Option.{IfSome}
-use Rattle.mh_inline.specs.code.LastUse.{IsLastUse}
+use Rattle.mh_inline.specs.code.MovableProducers.{IsLastUse}
 use Rattle.mh_inline.proofs.moving.last_use.Given as goal
 
 abbrev pub invariant-loop-alternative : goal.invariant-loop-alternative

@@ -2,7 +2,7 @@ use Rattle.std.proofs.Common.{length, refl, sym, ◌∙◌, subst}
 use Rattle.std.specs.Option.{IfSome}
 use Rattle.std.proofs.lemmas.Option.{same_Some, slice_get_read}
 use Rattle.mh_rules.specs.declared.instances.Instance.{Instance}
-use Rattle.mh_inline.specs.code.LastUse.{IsLastUse}
+use Rattle.mh_inline.specs.code.MovableProducers.{IsLastUse}
 use Rattle.mh_inline.proofs.moving.last_use_of.Goals as goal
 
 pub returns : goal.returns

@@ -3,7 +3,7 @@ use Rattle.std.proofs.lemmas.Option.{slice_get_within}
 use Rattle.std.proofs.lemmas.Result.{IfOk-weaker}
 use Rattle.mh_rules.specs.declared.instances.Part.TheVariants.{Instance as Applied}
 use Rattle.mh_inline_unfold.specs.Unfoldings.{choices, Unfolds}
-use Rattle.mh_inline.proofs.Moved.{no_items, known_front, known_behind, side_done, side_ends}
+use Rattle.mh_inline.proofs.MovedUnfoldings.{no_items, known_prefix, known_rest, side_done, side_ends}
 use Rattle.mh_inline.proofs.moving.unfold_around.Goals as goal
 
 pub front_to-front-requires : goal.front_to-front-requires
@@ -13,13 +13,13 @@ pub rest_from-behind-requires : goal.rest_from-behind-requires
 rest_from-behind-requires c = slice_get_within c.args.producers.now c.args.last_use.producer (Applied c.args.last_use.number) c.requires.at
 
 pub unfold_to_last-requires-clause-front : goal.unfold_to_last-requires-clause-front
-unfold_to_last-requires-clause-front c = rw c.front_to-front.ensures (known_front c.args.expanded.now.instances c.args.known.now.items c.args.producers.now c.args.last_use.producer c.requires.known)
+unfold_to_last-requires-clause-front c = rw c.front_to-front.ensures (known_prefix c.args.expanded.now.instances c.args.known.now.items c.args.producers.now c.args.last_use.producer c.requires.known)
 
 pub unfold_to_last-requires-clause-last : goal.unfold_to_last-requires-clause-last
 unfold_to_last-requires-clause-last c = c.requires.known.each c.args.last_use.producer c.args.last_use.number c.requires.at c.requires.inlined
 
 pub unfold_side-requires : goal.unfold_side-requires
-unfold_side-requires c = rw (c.deref.ensures.value, c.rest_from-behind.ensures) (known_behind c.args.expanded.now.instances c.args.known.now.items c.args.producers.now (suc c.args.last_use.producer) c.requires.known)
+unfold_side-requires c = rw (c.deref.ensures.value, c.rest_from-behind.ensures) (known_rest c.args.expanded.now.instances c.args.known.now.items c.args.producers.now (suc c.args.last_use.producer) c.requires.known)
 
 pub returns-then-is_empty-clause-unfolds : goal.returns-then-is_empty-clause-unfolds
 returns-then-is_empty-clause-unfolds c =

@@ -1,15 +1,15 @@
 use Rattle.std.proofs.Common.{◌≡◌, ◌++◌, drop, map, suc, sym, ap, ◌∙◌, subst}
 use Rattle.std.proofs.lemmas.Option.{slice_get_within}
 use Rattle.mh_rules.specs.declared.joined.Prec.TheVariants.{Absent}
-use Rattle.mh_inline_unfold.specs.Unfoldings.{own, UnfoldsEach}
-use Rattle.mh_inline.proofs.Moved.{each_behind, each_done}
+use Rattle.mh_inline_unfold.specs.Unfoldings.{with_own_prec, UnfoldsEach}
+use Rattle.mh_inline.proofs.MovedUnfoldings.{each_rest, each_done}
 use Rattle.mh_inline.proofs.moving.unfold_moved.Goals as goal
 
 pub rest_from-rest-requires : goal.rest_from-rest-requires
 rest_from-rest-requires c = slice_get_within c.args.productions.now c.args.last_use.alternative c.requires.last.production c.requires.last.alternative
 
 pub unfold_alternatives-requires : goal.unfold_alternatives-requires
-unfold_alternatives-requires c = rw (c.deref.ensures.value, c.rest_from-rest.ensures) (each_behind c.args.expanded.now.instances c.args.known.now.items c.args.productions.now (suc c.args.last_use.alternative) c.requires.known)
+unfold_alternatives-requires c = rw (c.deref.ensures.value, c.rest_from-rest.ensures) (each_rest c.args.expanded.now.instances c.args.known.now.items c.args.productions.now (suc c.args.last_use.alternative) c.requires.known)
 
 pub returns-clause-unfolds : goal.returns-clause-unfolds
 returns-clause-unfolds c =

@@ -4,15 +4,15 @@ use Rattle.std.proofs.lemmas.Option.{same_Some, slice_get_within, slice_get_read
 use Rattle.std.proofs.lemmas.Result.{IfOk-weaker}
 use Rattle.mh_rules.specs.declared.instances.Part.TheVariants.{Instance as Applied}
 use Rattle.mh_rules.specs.declared.instances.InstanceProduction.{InstanceProduction}
-use Rattle.mh_inline_unfold.specs.Unfoldings.{own, UnfoldsEach}
-use Rattle.mh_inline.proofs.Moved.{each_front, each_then}
+use Rattle.mh_inline_unfold.specs.Unfoldings.{with_own_prec, UnfoldsEach}
+use Rattle.mh_inline.proofs.MovedUnfoldings.{each_prefix, each_then}
 use Rattle.mh_inline.proofs.moving.unfold_to_alternative.Goals as goal
 
 pub front_to-front-requires : goal.front_to-front-requires
 front_to-front-requires c = slice_get_within c.args.productions.now c.args.last_use.alternative c.requires.last.production c.requires.last.alternative
 
 pub unfold_alternatives-requires : goal.unfold_alternatives-requires
-unfold_alternatives-requires c = rw (c.deref.ensures.value, c.front_to-front.ensures) (each_front c.args.expanded.now.instances c.args.known.now.items c.args.productions.now c.args.last_use.alternative c.requires.known)
+unfold_alternatives-requires c = rw (c.deref.ensures.value, c.front_to-front.ensures) (each_prefix c.args.expanded.now.instances c.args.known.now.items c.args.productions.now c.args.last_use.alternative c.requires.known)
 
 pub unfold_around-requires-clause-known : goal.unfold_around-requires-clause-known
 unfold_around-requires-clause-known c =
@@ -40,5 +40,5 @@ returns-clause-unfolds c =
     let side = c.in_ok-side.side.items in
     let l = slice_get_within ps k c.requires.last.production c.requires.last.alternative in
     let at = slice_get_read ps (length ps) k p refl l c.index-productions-last_use.is in
-    IfOk-weaker c.own_behind.result (λ more. more.items ≡ before ++ map (own p.prec) side) (λ more. UnfoldsEach is (take (k + 1) ps) more.items)
+    IfOk-weaker c.own_behind.result (λ more. more.items ≡ before ++ map (with_own_prec p.prec) side) (λ more. UnfoldsEach is (take (k + 1) ps) more.items)
     (λ more e. subst (UnfoldsEach is (take (k + 1) ps)) (sym e) (each_then is ps k p before side at (rw c.front_to-front.ensures at c.in_ok-before.ensures) (rw c.as_slice.ensures at c.in_ok-side.ensures.unfolds))) c.own_behind.ensures

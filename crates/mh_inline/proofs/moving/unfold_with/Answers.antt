@@ -1,5 +1,5 @@
 use Rattle.std.proofs.lemmas.Result.{on_ok_weaker}
-use Rattle.mh_inline.proofs.Moved.{lacks_one, lacks_same}
+use Rattle.mh_inline.proofs.MovedUnfoldings.{lacks_one, lacks_same}
 use Rattle.mh_inline.proofs.moving.unfold_with.Goals as goal
 
 pub unfold_moved-requires-clause-last : goal.unfold_moved-requires-clause-last

@@ -1,5 +1,5 @@
 use Rattle.std.proofs.Common.{◌≡◌, take, map}
-use Rattle.mh_inline.specs.code.Keeping.{symbol_by}
+use Rattle.mh_inline.specs.code.NumbersAndOrigins.{symbol_by}
 use Rattle.mh_inline.proofs.nonterminals.symbols.Given as goal
 
 abbrev pub invariant-loop-part : goal.invariant-loop-part

@@ -1,4 +1,4 @@
-use Rattle.mh_inline.specs.code.Keeping.{AreOriginsBelow}
+use Rattle.mh_inline.specs.code.NumbersAndOrigins.{AreOriginsBelow}
 use Rattle.mh_inline.proofs.origins.origins_of.Given as goal
 
 abbrev pub invariant-loop-number : goal.invariant-loop-number

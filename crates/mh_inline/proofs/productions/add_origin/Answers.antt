@@ -1,7 +1,7 @@
 use Rattle.std.proofs.Common.{◌++◌, ap, ◌∙◌}
 use Rattle.std.proofs.lemmas.Option.{slice_get_within}
 use Rattle.std.proofs.lemmas.Result.{on_ok_weaker}
-use Rattle.mh_inline.proofs.Producing.{alternative_below, productions_same}
+use Rattle.mh_inline.proofs.MadeProductions.{alternative_below, productions_same}
 use Rattle.mh_inline.proofs.productions.add_origin.Goals as goal
 
 pub add_productions-requires : goal.add_productions-requires

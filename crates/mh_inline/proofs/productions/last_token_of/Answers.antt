@@ -2,8 +2,8 @@ use Rattle.std.proofs.Common.{take, get_or, sym, ap, ◌∙◌}
 use Rattle.std.proofs.lemmas.List.{take_more}
 use Rattle.mh_rules.specs.declared.instances.Part.TheVariants.{Token}
 use Rattle.mh_inline.specs.Inlined.{last_token}
-use Rattle.mh_inline.specs.code.Making.{token_else}
-use Rattle.mh_inline.proofs.Producing.{last_token-push}
+use Rattle.mh_inline.specs.code.ProductionParts.{token_else}
+use Rattle.mh_inline.proofs.MadeProductions.{last_token-push}
 use Rattle.mh_inline.proofs.productions.last_token_of.Goals as goal
 
 pub loop-part-preserved : goal.loop-part-preserved

@@ -1,5 +1,5 @@
 use Rattle.mh_inline.specs.Inlined as inlined
-use Rattle.mh_inline.proofs.Producing.{AreProductions-more, no_origin}
+use Rattle.mh_inline.proofs.MadeProductions.{AreProductions-more, no_origin}
 use Rattle.mh_inline.proofs.productions.productions_of.Goals as goal
 
 pub loop-origin-init : goal.loop-origin-init

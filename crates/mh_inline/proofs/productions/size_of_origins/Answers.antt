@@ -1,5 +1,5 @@
 use Rattle.std.proofs.Common.{refl}
-use Rattle.mh_inline.proofs.Producing.{size_none, size_more, no_origin}
+use Rattle.mh_inline.proofs.MadeProductions.{size_none, size_more, no_origin}
 use Rattle.mh_inline.proofs.productions.size_of_origins.Goals as goal
 
 pub loop-origin-init : goal.loop-origin-init

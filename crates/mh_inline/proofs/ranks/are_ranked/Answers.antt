@@ -1,6 +1,6 @@
 use Rattle.std.proofs.Common.{arith, inl, inr}
 use Rattle.std.proofs.lemmas.Bool.{cases_eq}
-use Rattle.mh_inline.proofs.Ranked.{all_ranked}
+use Rattle.mh_inline.proofs.InstanceRanks.{all_ranked}
 use Rattle.mh_inline.proofs.ranks.are_ranked.Goals as goal
 
 pub loop-number-preserved : goal.loop-number-preserved

@@ -1,4 +1,4 @@
-use Rattle.mh_inline.proofs.Ranked.{above_all}
+use Rattle.mh_inline.proofs.InstanceRanks.{above_all}
 use Rattle.mh_inline.proofs.ranks.is_above.Goals as goal
 
 pub returns : goal.returns

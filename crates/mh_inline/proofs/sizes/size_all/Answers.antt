@@ -1,6 +1,6 @@
 use Rattle.std.proofs.Common.{ap}
 use Rattle.mh_inline_unfold.specs.code.Sizes.{unsized_count}
-use Rattle.mh_inline.proofs.Ordering.{measure_falls}
+use Rattle.mh_inline.proofs.SizeOrder.{measure_falls}
 use Rattle.mh_inline.proofs.sizes.size_all.Goals as goal
 
 pub loop-changed-smaller : goal.loop-changed-smaller

@@ -1,6 +1,6 @@
 use Rattle.std.proofs.Common.{length, refl}
 use Rattle.std.proofs.lemmas.Option.{slice_get_read}
-use Rattle.mh_inline.proofs.Counting.{each_none, each_more, sized_alternatives_none, sized_alternatives_more}
+use Rattle.mh_inline.proofs.UnfoldingSizes.{each_none, each_more, sized_alternatives_none, sized_alternatives_more}
 use Rattle.mh_inline.proofs.sizes.size_of_alternatives.Goals as goal
 
 pub loop-production-init : goal.loop-production-init

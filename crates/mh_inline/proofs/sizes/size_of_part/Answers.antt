@@ -1,6 +1,6 @@
 use Rattle.std.proofs.Common.{refl, sym, ◌∙◌}
-use Rattle.mh_inline_unfold.proofs.Producers.{inline_within}
-use Rattle.mh_inline.proofs.Counting.{kept_size, part_sized, sized_inline, sized_kept}
+use Rattle.mh_inline_unfold.proofs.InlineProducers.{inline_within}
+use Rattle.mh_inline.proofs.UnfoldingSizes.{kept_size, part_sized, sized_inline, sized_kept}
 use Rattle.mh_inline.proofs.sizes.size_of_part.Goals as goal
 
 pub bounds-sizes-number : goal.bounds-sizes-number

@@ -1,6 +1,6 @@
 use Rattle.std.proofs.Common.{refl}
 use Rattle.mh_rules.specs.declared.instances.Part.TheVariants.{Token}
-use Rattle.mh_inline.proofs.Counting.{blocked_at, side_none, side_more, sized_none, sized_more}
+use Rattle.mh_inline.proofs.UnfoldingSizes.{unsized_producer_at, side_none, side_more, sized_none, sized_more}
 use Rattle.mh_inline.proofs.sizes.size_of_side.Goals as goal
 
 pub loop-part-init : goal.loop-part-init
@@ -13,4 +13,4 @@ loop-part-preserved c = record {
 }
 
 pub returns-in_default-clause-size : goal.returns-in_default-clause-size
-returns-in_default-clause-size c = blocked_at c.args.expanded.now.instances c.args.sizes.now c.args.producers.now c.loop-part.part-index (Token 0) c.loop-part-test.true c.in_default.ensures.size
+returns-in_default-clause-size c = unsized_producer_at c.args.expanded.now.instances c.args.sizes.now c.args.producers.now c.loop-part.part-index (Token 0) c.loop-part-test.true c.in_default.ensures.size

@@ -1,8 +1,8 @@
 use Rattle.std.proofs.Common.{◌-◌, sym, ap, ◌∙◌, arith, inl, inr, subst}
 use Rattle.std.proofs.lemmas.Bool.{cases_eq, or_parts}
-use Rattle.mh_inline_unfold.specs.declared.sizes.Sizing.{Sizing}
-use Rattle.mh_inline_unfold.specs.code.Sizes.{IsSettled, unsized_count}
-use Rattle.mh_inline.proofs.Ordering.{more_step}
+use Rattle.mh_inline_unfold.specs.declared.sizes.SizeTable.{SizeTable}
+use Rattle.mh_inline_unfold.specs.code.Sizes.{IsFixedAt, unsized_count}
+use Rattle.mh_inline.proofs.SizeOrder.{more_step}
 use Rattle.mh_inline.proofs.sizes.size_once.Goals as goal
 
 pub loop-done-preserved : goal.loop-done-preserved
@@ -20,7 +20,7 @@ loop-done-preserved c =
       settled = λ e n l.
           let both = or_parts before now e in
           let one = c.in_ok-changed.ensures.same both.1 in
-          subst (λ (s : Sizing). IsSettled is s.sizes.items n) (sym one.0) (elim (cases_eq n (c.len-count.result - 1 - c.loop-done.done)) [
+          subst (λ (s : SizeTable). IsFixedAt is s.sizes.items n) (sym one.0) (elim (cases_eq n (c.len-count.result - 1 - c.loop-done.done)) [
             | inl here ↦ rw here one.1
             | inr other ↦ inv.settled both.0 n (omega arith)
           ]);

@@ -1,13 +1,13 @@
 use Rattle.std.proofs.Common.{◌≡◌, ◌<◌, length, Some, None, refl, sym, ap, ◌∙◌, arith}
 use Rattle.std.proofs.lemmas.Option.{slice_get_read}
-use Rattle.mh_inline.proofs.Ordering.{AreOrdered-push, settled_blocked, none_of}
-use Rattle.mh_inline_unfold.proofs.Same.{some_ready}
+use Rattle.mh_inline.proofs.SizeOrder.{AreOrdered-push, fixed_if_unsized, none_of}
+use Rattle.mh_inline_unfold.proofs.UniqueUnfoldings.{some_ready}
 use Rattle.mh_inline.proofs.sizes.size_one.Goals as goal
 
 pub returns-in_default-clause-same : goal.returns-in_default-clause-same
 returns-in_default-clause-same c = λ e. (
   refl,
-  settled_blocked c.args.expanded.now.instances c.args.sizing.now.sizes.items c.args.number c.index-2.result.now
+  fixed_if_unsized c.args.expanded.now.instances c.args.sizing.now.sizes.items c.args.number c.index-2.result.now
       (slice_get_read c.args.expanded.now.instances (length c.args.expanded.now.instances) c.args.number c.index-2.result.now refl c.requires.number c.index-2.ensures)
       (rw (← c.as_slice-productions.ensures, ← c.as_slice.ensures.value) c.in_default.ensures.size),
 )

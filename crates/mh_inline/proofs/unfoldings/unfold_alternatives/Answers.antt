@@ -2,7 +2,7 @@ use Rattle.std.proofs.Common.{length, refl, subst, arith}
 use Rattle.std.proofs.lemmas.List.{take_all}
 use Rattle.std.proofs.lemmas.Option.{slice_get_read}
 use Rattle.mh_inline_unfold.specs.Unfoldings as unfoldings
-use Rattle.mh_inline.proofs.Knowing.{UnfoldsEach-more}
+use Rattle.mh_inline.proofs.AreKnown.{UnfoldsEach-more}
 use Rattle.mh_inline.proofs.unfoldings.unfold_alternatives.Goals as goal
 
 pub loop-production-init : goal.loop-production-init

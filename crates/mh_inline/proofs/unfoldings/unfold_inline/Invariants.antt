@@ -1,4 +1,4 @@
-use Rattle.mh_inline.specs.code.Uses.{KnowsNeeded}
+use Rattle.mh_inline.specs.code.LastUses.{KnowsNeeded}
 use Rattle.mh_inline.proofs.unfoldings.unfold_inline.Given as goal
 
 abbrev pub invariant-loop-place : goal.invariant-loop-place

@@ -1,10 +1,10 @@
 use Rattle.std.proofs.Common.{◌<◌, length, sym, ◌∙◌, arith, length-set}
 use Rattle.std.proofs.lemmas.Option.{slice_get_within, get_or_from_slice_get}
 use Rattle.std.proofs.lemmas.Result.{on_ok_weaker}
-use Rattle.mh_grammar.proofs.Lists.{has_place}
-use Rattle.mh_inline.proofs.Building.{next_from}
-use Rattle.mh_inline.proofs.Lasting.{ordered_within, KnowsNeeded-more}
-use Rattle.mh_inline.proofs.Moved.{lacks_kept, last_of, last_unneeded}
+use Rattle.mh_grammar.proofs.Lists.{get_within}
+use Rattle.mh_inline.proofs.UnfoldedInstances.{next_from}
+use Rattle.mh_inline.proofs.LastUses.{ordered_within, KnowsNeeded-more}
+use Rattle.mh_inline.proofs.MovedUnfoldings.{lacks_kept, last_of, last_unneeded}
 use Rattle.mh_inline.proofs.unfoldings.unfold_next.Goals as goal
 
 pub last_use_of-moved-requires : goal.last_use_of-moved-requires
@@ -46,7 +46,7 @@ returns c =
     let len = c.requires.known.len in
     let within : n < length known = omega arith in
     let q = c.last_use_of-moved.result in
-    let here = has_place is n w in
+    let here = get_within is n w in
     let unneeded = last_unneeded is last i here.0.productions q (c.last_use_of-moved.ensures here.0 here.1) in
     on_ok_weaker c.forget_inlined.result (λ f. KnowsNeeded-more is order last known new i n all (slice_get_within order i n c.number_at-number.ensures) (sym (get_or_from_slice_get order i n 0 c.number_at-number.ensures)) within c.in_ok-all.ensures.unfoldings
     (lacks_kept last i n all known c.unfold_one.new.known.items new q within unneeded c.in_ok-all.ensures.known f) c.requires.known) c.forget_inlined.ensures

@@ -1,11 +1,11 @@
 use Rattle.std.proofs.Common.{◌≡◌, ◌<◌, Some, length, refl, sym, ◌∙◌, subst}
 use Rattle.std.proofs.lemmas.Bool.{false≢true}
 use Rattle.std.proofs.lemmas.Option.{slice_get_read, get_or_from_slice_get}
-use Rattle.mh_inline_unfold.specs.code.Sizes.{IsWithin}
-use Rattle.mh_inline_unfold.proofs.Same.{part_same, each_same, some_ready}
-use Rattle.mh_inline_unfold.proofs.Producers.{inline_instance}
-use Rattle.mh_inline.proofs.Building.{size_small, each_known, each_of_part}
-use Rattle.mh_inline.proofs.Moved.{lacks_same}
+use Rattle.mh_inline_unfold.specs.code.Sizes.{IsSmallSize}
+use Rattle.mh_inline_unfold.proofs.UniqueUnfoldings.{part_same, each_same, some_ready}
+use Rattle.mh_inline_unfold.proofs.InlineProducers.{inline_instance}
+use Rattle.mh_inline.proofs.UnfoldedInstances.{size_small, each_known, each_of_part}
+use Rattle.mh_inline.proofs.MovedUnfoldings.{lacks_same}
 use Rattle.mh_inline.proofs.unfoldings.unfold_one.Goals as goal
 
 pub index-requires-2 : goal.index-requires-2
@@ -18,7 +18,7 @@ unfold_with-requires-clause-known c =
     let l : c.args.number < length is = (inline_instance is c.args.number next.inlined).within in
     let at = slice_get_read is (length is) c.args.number c.index-2.result.now refl l c.index-2.ensures in
     let sized : c.index.result.now ≡ Some next.size = c.index.ensures ∙ get_or_from_slice_get c.args.sizing.now.sizes.items c.args.number (Some next.size) c.index.result.now next.sized in
-    let within : IsWithin (Some next.size) = subst IsWithin sized (c.if-not-is_small.ensures.0 refl) in
+    let within : IsSmallSize (Some next.size) = subst IsSmallSize sized (c.if-not-is_small.ensures.0 refl) in
     rw c.as_slice-productions.ensures (each_known is (some_ready c.args.expanded.now c.requires.ready) c.args.sizing.now.sizes.items c.args.known.now.items c.args.number c.index-2.result.now at next within.0 within.1)
 
 pub returns-then-not-is_small-clause-unfoldings : goal.returns-then-not-is_small-clause-unfoldings
@@ -27,8 +27,8 @@ returns-then-not-is_small-clause-unfoldings c = λ us u small.
     let is = c.args.expanded.now.instances in
     let sized : c.index.result.now ≡ Some next.size = c.index.ensures ∙ get_or_from_slice_get c.args.sizing.now.sizes.items c.args.number (Some next.size) c.index.result.now next.sized in
     let same = part_same is _ next.right.unfoldings us next.right.unfolds u in
-    let within : IsWithin (Some next.size) = size_small next.right.unfoldings next.size next.right.size (rw same small) in
-    absurd (false≢true (c.if-not-is_small.ensures.1 (subst IsWithin (sym sized) within)))
+    let within : IsSmallSize (Some next.size) = size_small next.right.unfoldings next.size next.right.size (rw same small) in
+    absurd (false≢true (c.if-not-is_small.ensures.1 (subst IsSmallSize (sym sized) within)))
 
 pub returns-clause-unfoldings : goal.returns-clause-unfoldings
 returns-clause-unfoldings c = λ us u small.

@@ -2,7 +2,7 @@ use Rattle.std.proofs.Common.{sym, ap, ◌∙◌}
 use Rattle.std.proofs.lemmas.Option.{slice_get_within}
 use Rattle.std.proofs.lemmas.Result.{on_ok_weaker}
 use Rattle.mh_inline_unfold.specs.Unfoldings.{choices}
-use Rattle.mh_inline.proofs.Knowing.{known_part, extends_known, extends_kept}
+use Rattle.mh_inline.proofs.AreKnown.{known_part, extends_known, extends_kept}
 use Rattle.mh_inline.proofs.unfoldings.unfold_part.Goals as goal
 
 pub bounds-known-number : goal.bounds-known-number

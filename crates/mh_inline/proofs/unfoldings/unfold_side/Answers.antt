@@ -1,6 +1,6 @@
 use Rattle.mh_rules.specs.declared.instances.Part.TheVariants.{Token}
 use Rattle.mh_inline_unfold.specs.Unfoldings as unfoldings
-use Rattle.mh_inline.proofs.Knowing.{known_at, Unfolds-more}
+use Rattle.mh_inline.proofs.AreKnown.{known_at, Unfolds-more}
 use Rattle.mh_inline.proofs.unfoldings.unfold_side.Goals as goal
 
 pub loop-part-init : goal.loop-part-init

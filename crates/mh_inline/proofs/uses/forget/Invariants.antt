@@ -1,5 +1,5 @@
-use Rattle.mh_inline.specs.code.Uses.{Forgets}
+use Rattle.mh_inline.specs.code.LastUses.{DropsUnneeded}
 use Rattle.mh_inline.proofs.uses.forget.Given as goal
 
 abbrev pub invariant-loop-number : goal.invariant-loop-number
-invariant-loop-number l = Forgets l.last l.place l.initial.known.items l.known.items
+invariant-loop-number l = DropsUnneeded l.last l.place l.initial.known.items l.known.items

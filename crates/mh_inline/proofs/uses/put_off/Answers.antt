@@ -1,10 +1,10 @@
 use Rattle.std.proofs.Common.{◌≡◌, ◌<◌, ◌≤◌, length, get_or, refl, ◌∙◌, arith}
 use Rattle.std.proofs.lemmas.List.{get_or_default}
-use Rattle.mh_inline.proofs.Lasting.{PutsOff-none, PutsOff-more}
+use Rattle.mh_inline.proofs.LastUses.{RaisesLastUse-none, RaisesLastUse-more}
 use Rattle.mh_inline.proofs.uses.put_off.Goals as goal
 
 pub loop-number-init : goal.loop-number-init
-loop-number-init c = PutsOff-none c.args.place c.args.last.now.items
+loop-number-init c = RaisesLastUse-none c.args.place c.args.last.now.items
 
 pub loop-number-preserved : goal.loop-number-preserved
 loop-number-preserved c =
@@ -19,4 +19,4 @@ loop-number-preserved c =
     let value = c.max.ensures in
     let grows : get_or last n 0 ≤ c.max.result = omega arith in
     let reaches : c.args.place ≤ c.max.result = omega arith in
-    PutsOff-more numbers i n c.args.place c.max.result c.args.last.now.items last c.loop-number-test.true refl within grows reaches c.loop-number.invariant
+    RaisesLastUse-more numbers i n c.args.place c.max.result c.args.last.now.items last c.loop-number-test.true refl within grows reaches c.loop-number.invariant

@@ -1,7 +1,7 @@
 use Rattle.std.proofs.Common.{◌∙◌, arith}
 use Rattle.std.proofs.lemmas.Result.{on_ok_weaker}
 use Rattle.mh_inline_unfold.specs.Unfoldings.{joined}
-use Rattle.mh_inline_unfold.proofs.Changing.{all_changed, one_first}
+use Rattle.mh_inline_unfold.proofs.ChangedUnfoldings.{all_changed, one_first}
 use Rattle.mh_inline_unfold.proofs.choices.put_in_front.Goals as goal
 
 pub returns-in-len1 : goal.returns-in-len1

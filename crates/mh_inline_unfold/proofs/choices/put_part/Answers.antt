@@ -2,7 +2,7 @@ use Rattle.std.proofs.Common.{◌∷◌, [], sym, ap, ◌∙◌, arith}
 use Rattle.std.proofs.lemmas.Result.{on_ok_weaker}
 use Rattle.mh_inline_unfold.specs.Unfoldings.{choices, joined}
 use Rattle.mh_inline_unfold.proofs.Monoid.{choices-one_right}
-use Rattle.mh_inline_unfold.proofs.Changing.{all_changed}
+use Rattle.mh_inline_unfold.proofs.ChangedUnfoldings.{all_changed}
 use Rattle.mh_inline_unfold.proofs.choices.put_part.Goals as goal
 
 pub returns : goal.returns

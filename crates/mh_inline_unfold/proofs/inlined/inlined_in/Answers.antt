@@ -1,6 +1,6 @@
 use Rattle.std.proofs.Common.{length, refl}
 use Rattle.std.proofs.lemmas.Option.{slice_get_read}
-use Rattle.mh_inline_unfold.proofs.Listed.{all_listed, all_within}
+use Rattle.mh_inline_unfold.proofs.AddsToList.{all_listed, all_within}
 use Rattle.mh_inline_unfold.proofs.inlined.inlined_in.Goals as goal
 
 pub returns-clause-exact : goal.returns-clause-exact

@@ -1,5 +1,5 @@
 use Rattle.std.proofs.Common.{sym, ◌∙◌}
-use Rattle.mh_inline_unfold.proofs.Listed.{part_listed, part_passed}
+use Rattle.mh_inline_unfold.proofs.AddsToList.{part_listed, part_passed}
 use Rattle.mh_inline_unfold.proofs.inlined.list_part.Goals as goal
 
 pub returns-in_ok-push-in-Some : goal.returns-in_ok-push-in-Some

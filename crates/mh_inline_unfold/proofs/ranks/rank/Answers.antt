@@ -1,5 +1,5 @@
 use Rattle.std.proofs.Common.{refl}
-use Rattle.mh_inline_unfold.proofs.FileOrder.{rank_else}
+use Rattle.mh_inline_unfold.proofs.FileRanks.{rank_else}
 use Rattle.mh_inline_unfold.proofs.ranks.rank.Goals as goal
 
 pub returns-then-file-eq0 : goal.returns-then-file-eq0

@@ -1,5 +1,5 @@
 use Rattle.mh_grammar.specs.Plain.{plain_of}
-use Rattle.mh_items.proofs.Listing.{AddedSoFar}
+use Rattle.mh_items.proofs.AreAddedItems.{AddedSoFar}
 use Rattle.mh_items.proofs.added.added_items.Given as goal
 
 abbrev pub invariant-loop-number : goal.invariant-loop-number

@@ -1,5 +1,5 @@
 use Rattle.std.proofs.Common.{length}
-use Rattle.mh_items.proofs.Taking.{TakenSoFar}
+use Rattle.mh_items.proofs.AreMoves.{TakenSoFar}
 use Rattle.mh_items.proofs.all_moves.taken.Given as goal
 
 abbrev pub invariant-loop-place : goal.invariant-loop-place

@@ -2,7 +2,7 @@ use Rattle.std.proofs.Common.{◌≡◌, ◌≤◌, ℕ, List, [], length, ◌�
 use Rattle.std.proofs.lemmas.List.Elements.{All-contains}
 use Rattle.mh_grammar.proofs.Lists.{contains_at}
 use Rattle.mh_grammar.specs.Plain.{plain_of}
-use Rattle.mh_items.proofs.Gathered.{NumbersSoFar-start, NumbersSoFar-all, has_row, numbers_set}
+use Rattle.mh_items.proofs.AreFirsts.{NumbersSoFar-start, NumbersSoFar-all, has_row, numbers_set}
 use Rattle.mh_items.proofs.gathering.all_productions.Goals as goal
 
 pub loop-place-init : goal.loop-place-init

@@ -3,7 +3,7 @@ use Rattle.std.specs.List.{Contains}
 use Rattle.std.proofs.lemmas.List.{take_all, take_more}
 use Rattle.mh_grammar.specs.declared.types.Look.{Look}
 use Rattle.mh_items.specs.code.Links.{IsTokenOf}
-use Rattle.mh_items.proofs.Gathered.{token_step}
+use Rattle.mh_items.proofs.AreFirsts.{token_step}
 use Rattle.mh_items.proofs.gathering.set_of.Goals as goal
 
 pub loop-token-preserved : goal.loop-token-preserved

@@ -1,5 +1,5 @@
 use Rattle.std.proofs.Common.{◌<◌, length}
-use Rattle.mh_items.proofs.Linking.{add_token, add_row, row_of}
+use Rattle.mh_items.proofs.IsStringFirst.{add_token, add_row, row_of}
 use Rattle.mh_items.proofs.links.add_symbol.Goals as goal
 
 pub returns-in-T-clause-first : goal.returns-in-T-clause-first

@@ -5,8 +5,8 @@ use Rattle.std.proofs.lemmas.Option.{slice_get_within}
 use Rattle.mh_grammar.specs.Plain.{IsSymbolBelow}
 use Rattle.mh_grammar.specs.declared.types.Symbol.{Symbol}
 use Rattle.mh_grammar.specs.declared.types.Symbol.TheVariants.{N}
-use Rattle.mh_items_kernels.proofs.Dotted.{drop_from-slice_get}
-use Rattle.mh_items.proofs.Linking.{no_token, not_none}
+use Rattle.mh_items_kernels.proofs.SymbolAtDot.{drop_from-slice_get}
+use Rattle.mh_items.proofs.IsStringFirst.{no_token, not_none}
 use Rattle.mh_items.proofs.links.link_of.Goals as goal
 
 first_of : (symbols : List Symbol) (n : ℕ) (y : List Symbol) → symbols ≡ N n ∷ y → slice_get symbols 0 ≡ Some (N n)

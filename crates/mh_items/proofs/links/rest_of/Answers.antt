@@ -2,7 +2,7 @@ use Rattle.std.proofs.Common.{sym, ◌∙◌}
 use Rattle.std.proofs.lemmas.Bool.{false≢true}
 use Rattle.std.proofs.lemmas.List.{drop_more, drop_all}
 use Rattle.mh_grammar.specs.declared.types.Symbol.TheVariants.{T}
-use Rattle.mh_items.proofs.Linking.{RestSoFar-step, RestSoFar-stop, RestSoFar-all}
+use Rattle.mh_items.proofs.IsStringFirst.{RestSoFar-step, RestSoFar-stop, RestSoFar-all}
 use Rattle.mh_items.proofs.links.rest_of.Goals as goal
 
 pub returns-then-not-add_symbol : goal.returns-then-not-add_symbol

@@ -1,5 +1,5 @@
 use Rattle.std.proofs.Common.{drop}
-use Rattle.mh_items.proofs.Linking.{RestSoFar}
+use Rattle.mh_items.proofs.IsStringFirst.{RestSoFar}
 use Rattle.mh_items.proofs.links.rest_of.Given as goal
 
 abbrev pub invariant-loop-symbol : goal.invariant-loop-symbol

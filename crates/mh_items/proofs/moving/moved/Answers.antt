@@ -2,9 +2,9 @@ use Rattle.std.proofs.Common.{◌≤◌, length, sym, ◌∙◌, arith, rules}
 use Rattle.std.proofs.lemmas.Bool.{false≢true}
 use Rattle.std.proofs.lemmas.Option.{slice_get_within}
 use Rattle.mh_grammar.specs.Plain.{plain_of, rhs_of}
-use Rattle.mh_items_kernels.proofs.Sides.{short_rhs}
-use Rattle.mh_items_kernels.proofs.Advancing.{MovedSoFar-push, MovedSoFar-skip, moved_of}
-use Rattle.mh_items.proofs.Standing.{item_at, item_is}
+use Rattle.mh_items_kernels.proofs.RhsInRange.{short_rhs}
+use Rattle.mh_items_kernels.proofs.IsMove.{MovedSoFar-push, MovedSoFar-skip, moved_of}
+use Rattle.mh_items.proofs.ItemAt.{item_at, item_is}
 use Rattle.mh_items.proofs.moving.moved.Goals as goal
 use Rattle.mh_items.proofs.moving.moved.Goals.{then-is_before+in_ok-push, else-is_before}
 

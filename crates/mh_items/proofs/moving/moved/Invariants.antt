@@ -1,5 +1,5 @@
 use Rattle.mh_grammar.specs.Plain.{plain_of}
-use Rattle.mh_items_kernels.proofs.Advancing.{MovedSoFar}
+use Rattle.mh_items_kernels.proofs.IsMove.{MovedSoFar}
 use Rattle.mh_items.proofs.moving.moved.Given as goal
 
 abbrev pub invariant-loop-item : goal.invariant-loop-item

@@ -1,17 +1,17 @@
-use Rattle.std.proofs.Common.{◌≡◌, ℕ, ◌<◌, [], Some, false, length, get_or, vec_len, refl, sym, ap, ◌∙◌, arith, rules, lit<}
+use Rattle.std.proofs.Common.{◌≡◌, ℕ, ◌<◌, [], Some, length, get_or, vec_len, refl, sym, ap, ◌∙◌, arith, rules, lit<}
 use Rattle.std.specs.List.{slice_get}
 use Rattle.std.proofs.lemmas.List.{get_or_read}
 use Rattle.std.proofs.lemmas.Option.{slice_get_read}
 use Rattle.mh_grammar.specs.Plain.{PlainGrammar, plain_of}
-use Rattle.mh_items.specs.declared.asked.Asked.{Asked}
+use Rattle.mh_items.specs.declared.pending_looks.PendingLooks.{PendingLooks}
 use Rattle.mh_items.specs.declared.first_sets.Firsts.{Firsts}
 use Rattle.mh_items.specs.Firsts.{AreFirsts}
-use Rattle.mh_items.specs.code.Asked.{looks_at}
-use Rattle.mh_items.proofs.Wanting.{SpreadSoFar, SpreadSoFar-start, SpreadSoFar-step, fewer, table_mid, wanted_of, all_asleep, next_known}
+use Rattle.mh_items.specs.code.PendingLooks.{looks_at}
+use Rattle.mh_items.proofs.AreClosureLooks.{SpreadSoFar, SpreadSoFar-start, SpreadSoFar-step, work_decreases, table_mid, are_closure_looks, none_waiting, next_known}
 use Rattle.mh_items.proofs.spreading.spread.Goals as goal
 
--- the nonterminal that is visited, as the code reads it
-pub record Visits {W : ℕ} (g : PlainGrammar) (f : Firsts W) (s : Asked W) (done n : ℕ) : Type 0 where
+-- The code visits the nonterminal n next.
+pub record Visits {W : ℕ} (g : PlainGrammar) (f : Firsts W) (s : PendingLooks W) (done n : ℕ) : Type 0 where
   pub at : slice_get s.queue.items done ≡ Some n
   pub known : n < g.nonterminals
   pub flag : n < length s.waiting.items
@@ -19,7 +19,7 @@ pub record Visits {W : ℕ} (g : PlainGrammar) (f : Firsts W) (s : Asked W) (don
   pub looks : n < vec_len s.looks
   pub links : n < length f.links
 
-visits : {W : ℕ} (g : PlainGrammar) (f : Firsts W) (old s : Asked W) (done n read : ℕ) → AreFirsts g f → SpreadSoFar g f old s done → done < vec_len s.queue → n ≡ read → read ≡ get_or s.queue.items done read → Visits g f s done n
+visits : {W : ℕ} (g : PlainGrammar) (f : Firsts W) (old s : PendingLooks W) (done n read : ℕ) → AreFirsts g f → SpreadSoFar g f old s done → done < vec_len s.queue → n ≡ read → read ≡ get_or s.queue.items done read → Visits g f s done n
 visits g f old s done n read firsts h l e r =
     let at : slice_get s.queue.items done ≡ Some n = slice_get_read s.queue.items (length s.queue.items) done read refl (omega (arith, s.queue.ok.0)) r ∙ ap Some (sym e) in
     let known = next_known g f old s done n h (omega (arith, s.looks.ok.0)) at in
@@ -91,11 +91,11 @@ loop-done-smaller g c =
     let within : n < length s.looks.items = omega (arith, v.looks, s.looks.ok.0) in
     let was : c.copied-looks.result ≡ looks_at s n = c.copied-looks.ensures ∙ get_or_read s.looks.items n c.index-in-loop-done.result.now within c.index-in-loop-done.ensures [] in
     let added = rw (c.as_slice.ensures, was) at c.in_ok-visit.ensures in
-    fewer (plain_of c.args.grammar.now) f c.args.set.now s _ c.visit.new.self c.loop-done.done n c.index-in-loop-done-2.result.now c.requires.firsts c.loop-done.invariant v.at there refl v.flag refl refl refl added
+    work_decreases (plain_of c.args.grammar.now) f c.args.set.now s _ c.visit.new.self c.loop-done.done n c.index-in-loop-done-2.result.now c.requires.firsts c.loop-done.invariant v.at there refl v.flag refl refl refl added
 
 pub returns-clause-wanted : goal.returns-clause-wanted
-returns-clause-wanted g c = λ kernel seeds. wanted_of (plain_of c.args.grammar.now) c.args.firsts.now kernel c.args.set.now c.loop-done.set c.loop-done.done c.requires.firsts c.loop-done.invariant
+returns-clause-wanted g c = λ kernel seeds. are_closure_looks (plain_of c.args.grammar.now) c.args.firsts.now kernel c.args.set.now c.loop-done.set c.loop-done.done c.requires.firsts c.loop-done.invariant
     (omega (arith, c.loop-done-test.false, c.len.ensures, c.loop-done.set.queue.ok.0)) (omega (arith, c.loop-done.set.looks.ok.0)) seeds
 
 pub returns-clause-rest : goal.returns-clause-rest
-returns-clause-rest g c = all_asleep (plain_of c.args.grammar.now) c.args.firsts.now c.args.set.now c.loop-done.set c.loop-done.done c.loop-done.invariant (omega (arith, c.loop-done-test.false, c.len.ensures, c.loop-done.set.queue.ok.0))
+returns-clause-rest g c = none_waiting (plain_of c.args.grammar.now) c.args.firsts.now c.args.set.now c.loop-done.set c.loop-done.done c.loop-done.invariant (omega (arith, c.loop-done-test.false, c.len.ensures, c.loop-done.set.queue.ok.0))

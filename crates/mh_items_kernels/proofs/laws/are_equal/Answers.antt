@@ -1,5 +1,5 @@
 use Rattle.std.proofs.Common.{rules, refl}
-use Rattle.mh_items_kernels.proofs.Exact.{item_Decides, kernel_Decides}
+use Rattle.mh_items_kernels.proofs.KernelEquality.{item_Decides, kernel_Decides}
 use Rattle.mh_items_kernels.proofs.laws.are_equal.Goals as goal
 
 pub returns : goal.returns

@@ -1,5 +1,5 @@
 use Rattle.mh_grammar.specs.Plain.{plain_of}
-use Rattle.mh_items_kernels.proofs.OneList.{kernel_same}
+use Rattle.mh_items_kernels.proofs.UniqueItemList.{kernel_same}
 use Rattle.mh_items_kernels.proofs.laws.one_list.Goals as goal
 
 pub returns : goal.returns

@@ -1,7 +1,7 @@
 use Rattle.std.proofs.Common.{sym, ap, ◌∙◌}
 use Rattle.std.specs.List.{slice_get}
 use Rattle.mh_grammar.specs.Plain.{plain_of}
-use Rattle.mh_items_kernels.proofs.Dotted.{start_rhs, ordinary_rhs}
+use Rattle.mh_items_kernels.proofs.SymbolAtDot.{start_rhs, ordinary_rhs}
 use Rattle.mh_items_kernels.proofs.places.symbol_at.Goals as goal
 
 pub returns-then-production-starts : goal.returns-then-production-starts

@@ -1,7 +1,7 @@
 use Rattle.std.proofs.Common.{◌≡◌, [], subst}
 use Rattle.mh_join_names.specs.Faults.{Meanings, faults_by}
-use Rattle.mh_join_names.proofs.Finding.{IsFirst}
-use Rattle.mh_join.proofs.Able.{can_join, joined_by}
+use Rattle.mh_join_names.proofs.ReportsFirst.{IsFirstOrMemory}
+use Rattle.mh_join.proofs.CanJoin.{can_join, joined_by}
 use Rattle.mh_join.proofs.joining.join_named.Goals as goal
 
 pub joined-requires : goal.joined-requires
@@ -14,4 +14,4 @@ returns-in-Ok-joined c = (
 )
 
 pub returns-in-Err : goal.returns-in-Err
-returns-in-Err c = subst (λ (w : Meanings). IsFirst (faults_by w c.args.modules.now) c.in-Err.fault) c.requires.named.meanings_are c.in-Err.ensures
+returns-in-Err c = subst (λ (w : Meanings). IsFirstOrMemory (faults_by w c.args.modules.now) c.in-Err.fault) c.requires.named.meanings_are c.in-Err.ensures

@@ -1,4 +1,4 @@
-use Rattle.mh_join.proofs.Readying.{joined_or_fault}
+use Rattle.mh_join.proofs.JoinedReady.{joined_or_fault}
 use Rattle.mh_join.proofs.laws.is_joined_or_fault.Goals as goal
 
 pub returns : goal.returns

@@ -1,4 +1,4 @@
-use Rattle.mh_join.proofs.Readying.{one_fault}
+use Rattle.mh_join.proofs.JoinedReady.{one_fault}
 use Rattle.mh_join.proofs.laws.is_one_fault.Goals as goal
 
 pub returns : goal.returns

@@ -1,4 +1,4 @@
-use Rattle.mh_join.proofs.Readying.{one_joined}
+use Rattle.mh_join.proofs.JoinedReady.{one_joined}
 use Rattle.mh_join.proofs.laws.is_one_joined.Goals as goal
 
 pub returns : goal.returns

@@ -1,7 +1,7 @@
 use Rattle.std.proofs.Common.{◌≡◌, drop}
 use Rattle.std.specs.List.{flat_map}
 use Rattle.mh_join_names.specs.Faults.{own_in_file}
-use Rattle.mh_join_names.specs.code.Maps.{meanings_in}
+use Rattle.mh_join_names.specs.code.SymbolTables.{meanings_in}
 use Rattle.mh_join_faults.proofs.duplicates.check_all_own.Given as goal
 
 abbrev pub invariant-loop-file : goal.invariant-loop-file

@@ -1,6 +1,6 @@
 use Rattle.mh_join_names.specs.Faults.{shapes_in_file}
-use Rattle.mh_join_names.specs.code.Maps.{meanings_in}
-use Rattle.mh_join_names.proofs.Finding.{finds_more, finds_err}
+use Rattle.mh_join_names.specs.code.SymbolTables.{meanings_in}
+use Rattle.mh_join_names.proofs.ReportsFirst.{finds_more, finds_err}
 use Rattle.mh_join_faults.proofs.duplicates.check_all_shapes.Goals as goal
 
 pub loop-file-preserved : goal.loop-file-preserved

@@ -1,8 +1,8 @@
 use Rattle.mh_rules.specs.declared.modules.Ref.{Ref}
 use Rattle.mh_join_names.specs.Names.{name_by, level_in}
 use Rattle.mh_join_names.specs.Faults.{other_level}
-use Rattle.mh_join_names.specs.code.Maps.{meanings_in}
-use Rattle.mh_join_names.proofs.Finding.{finds_more, finds_err}
+use Rattle.mh_join_names.specs.code.SymbolTables.{meanings_in}
+use Rattle.mh_join_names.proofs.ReportsFirst.{finds_more, finds_err}
 use Rattle.mh_join_faults.proofs.duplicates.check_declaration.Goals as goal
 
 pub loop-reference-preserved : goal.loop-reference-preserved

@@ -3,7 +3,7 @@ use Rattle.std.specs.List.{flat_map}
 use Rattle.mh_rules.specs.declared.modules.Ref.{Ref}
 use Rattle.mh_join_names.specs.Names.{name_by, level_in}
 use Rattle.mh_join_names.specs.Faults.{other_level}
-use Rattle.mh_join_names.specs.code.Maps.{meanings_in}
+use Rattle.mh_join_names.specs.code.SymbolTables.{meanings_in}
 use Rattle.mh_join_faults.proofs.duplicates.check_declaration.Given as goal
 
 abbrev pub invariant-loop-reference : goal.invariant-loop-reference

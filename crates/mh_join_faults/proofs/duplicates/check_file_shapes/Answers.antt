@@ -1,6 +1,6 @@
 use Rattle.mh_join_names.specs.Faults.{other_shape}
-use Rattle.mh_join_names.specs.code.Maps.{meanings_in, is_public_in}
-use Rattle.mh_join_names.proofs.Finding.{finds_more, finds_err}
+use Rattle.mh_join_names.specs.code.SymbolTables.{meanings_in, is_public_in}
+use Rattle.mh_join_names.proofs.ReportsFirst.{finds_more, finds_err}
 use Rattle.mh_join_faults.proofs.duplicates.check_file_shapes.Goals as goal
 
 pub loop-rule-preserved : goal.loop-rule-preserved

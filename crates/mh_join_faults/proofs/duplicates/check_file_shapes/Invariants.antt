@@ -1,7 +1,7 @@
 use Rattle.std.proofs.Common.{◌≡◌, drop}
 use Rattle.std.specs.List.{flat_map}
 use Rattle.mh_join_names.specs.Faults.{other_shape}
-use Rattle.mh_join_names.specs.code.Maps.{meanings_in, is_public_in}
+use Rattle.mh_join_names.specs.code.SymbolTables.{meanings_in, is_public_in}
 use Rattle.mh_join_faults.proofs.duplicates.check_file_shapes.Given as goal
 
 abbrev pub invariant-loop-rule : goal.invariant-loop-rule

@@ -1,7 +1,7 @@
 use Rattle.std.proofs.Common.{[]}
 use Rattle.mh_rules.specs.declared.modules.Rule.{Rule}
 use Rattle.mh_join_names.specs.Faults.{repeats}
-use Rattle.mh_join_names.proofs.Finding.{finds_more, finds_err}
+use Rattle.mh_join_names.proofs.ReportsFirst.{finds_more, finds_err}
 use Rattle.mh_join_faults.proofs.duplicates.check_formals.Goals as goal
 
 pub loop-rule-preserved : goal.loop-rule-preserved

@@ -1,10 +1,10 @@
 use Rattle.std.specs.List.{flat_map}
 use Rattle.mh_rules.specs.declared.modules.TokenDecl.{TokenDecl}
 use Rattle.mh_rules.specs.declared.modules.Rule.{Rule}
-use Rattle.mh_join_names.specs.declared.kinds.Kind.TheVariants as kinds
+use Rattle.mh_join_names.specs.declared.kinds.NameKind.TheVariants as kinds
 use Rattle.mh_join_names.specs.Faults.{other_kind}
-use Rattle.mh_join_names.specs.code.Maps.{meanings_in}
-use Rattle.mh_join_names.proofs.Finding.{first_then}
+use Rattle.mh_join_names.specs.code.SymbolTables.{meanings_in}
+use Rattle.mh_join_names.proofs.ReportsFirst.{first_then}
 use Rattle.mh_join_faults.proofs.duplicates.check_kinds.Goals as goal
 
 pub returns-in-Err : goal.returns-in-Err

@@ -1,4 +1,4 @@
-use Rattle.mh_join_faults.proofs.Seeing.{name_more, name_err}
+use Rattle.mh_join_faults.proofs.Repeats.{name_more, name_err}
 use Rattle.mh_join_faults.proofs.duplicates.check_names.Goals as goal
 
 pub loop-name-preserved : goal.loop-name-preserved

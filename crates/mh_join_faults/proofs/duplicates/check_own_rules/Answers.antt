@@ -1,5 +1,5 @@
-use Rattle.mh_join_names.specs.code.Maps.{is_public_in}
-use Rattle.mh_join_faults.proofs.Seeing.{own_more, own_err}
+use Rattle.mh_join_names.specs.code.SymbolTables.{is_public_in}
+use Rattle.mh_join_faults.proofs.Repeats.{own_more, own_err}
 use Rattle.mh_join_faults.proofs.duplicates.check_own_rules.Goals as goal
 
 pub loop-rule-preserved : goal.loop-rule-preserved

@@ -1,8 +1,8 @@
 use Rattle.mh_rules.specs.declared.modules.Rule.{Rule}
-use Rattle.mh_join_names.specs.declared.kinds.Kind.TheVariants as kinds
+use Rattle.mh_join_names.specs.declared.kinds.NameKind.TheVariants as kinds
 use Rattle.mh_join_names.specs.Faults.{other_kind}
-use Rattle.mh_join_names.specs.code.Maps.{meanings_in}
-use Rattle.mh_join_names.proofs.Finding.{finds_more, finds_err}
+use Rattle.mh_join_names.specs.code.SymbolTables.{meanings_in}
+use Rattle.mh_join_names.proofs.ReportsFirst.{finds_more, finds_err}
 use Rattle.mh_join_faults.proofs.duplicates.check_rule_kinds.Goals as goal
 
 pub loop-rule-preserved : goal.loop-rule-preserved

@@ -1,5 +1,5 @@
 use Rattle.mh_join_names.specs.Faults.{errors_in_file}
-use Rattle.mh_join_names.proofs.Finding.{finds_more, finds_err}
+use Rattle.mh_join_names.proofs.ReportsFirst.{finds_more, finds_err}
 use Rattle.mh_join_faults.proofs.errors.check_errors.Goals as goal
 
 pub loop-file-preserved : goal.loop-file-preserved

@@ -1,6 +1,6 @@
 use Rattle.mh_join_names.specs.Faults.{unlevelled_in_rule}
-use Rattle.mh_join_names.specs.code.Maps.{meanings_in}
-use Rattle.mh_join_names.proofs.Finding.{finds_more, finds_err}
+use Rattle.mh_join_names.specs.code.SymbolTables.{meanings_in}
+use Rattle.mh_join_names.proofs.ReportsFirst.{finds_more, finds_err}
 use Rattle.mh_join_faults.proofs.errors.check_file_precs.Goals as goal
 
 pub loop-rule-preserved : goal.loop-rule-preserved

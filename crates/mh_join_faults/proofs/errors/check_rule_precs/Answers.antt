@@ -1,7 +1,7 @@
 use Rattle.mh_rules.specs.declared.modules.Alternative.{Alternative}
 use Rattle.mh_join_names.specs.Faults.{unlevelled}
-use Rattle.mh_join_names.specs.code.Maps.{meanings_in}
-use Rattle.mh_join_names.proofs.Finding.{finds_more, finds_err}
+use Rattle.mh_join_names.specs.code.SymbolTables.{meanings_in}
+use Rattle.mh_join_names.proofs.ReportsFirst.{finds_more, finds_err}
 use Rattle.mh_join_faults.proofs.errors.check_rule_precs.Goals as goal
 
 pub loop-alternative-preserved : goal.loop-alternative-preserved

@@ -2,7 +2,7 @@ use Rattle.std.proofs.Common.{◌≡◌, drop}
 use Rattle.std.specs.List.{flat_map}
 use Rattle.mh_rules.specs.declared.modules.Alternative.{Alternative}
 use Rattle.mh_join_names.specs.Faults.{unlevelled}
-use Rattle.mh_join_names.specs.code.Maps.{meanings_in}
+use Rattle.mh_join_names.specs.code.SymbolTables.{meanings_in}
 use Rattle.mh_join_faults.proofs.errors.check_rule_precs.Given as goal
 
 abbrev pub invariant-loop-alternative : goal.invariant-loop-alternative

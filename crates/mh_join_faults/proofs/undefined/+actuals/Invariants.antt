@@ -1,7 +1,7 @@
 use Rattle.std.proofs.Common.{◌≡◌, drop}
 use Rattle.std.specs.List.{flat_map}
 use Rattle.mh_join_names.specs.Faults.{meant_by, undefined_in_actual}
-use Rattle.mh_join_names.specs.code.Maps.{meanings_in, formals_in}
+use Rattle.mh_join_names.specs.code.SymbolTables.{meanings_in, formals_in}
 use Rattle.mh_join_faults.proofs.undefined.+actuals.Given as goal
 
 abbrev pub invariant-check_actuals-loop-actual : goal.invariant-check_actuals-loop-actual

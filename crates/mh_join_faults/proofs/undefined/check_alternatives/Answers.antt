@@ -1,6 +1,6 @@
 use Rattle.mh_join_names.specs.Faults.{meant_by, undefined_in_alternative}
-use Rattle.mh_join_names.specs.code.Maps.{meanings_in, formals_in}
-use Rattle.mh_join_names.proofs.Finding.{finds_more, finds_err}
+use Rattle.mh_join_names.specs.code.SymbolTables.{meanings_in, formals_in}
+use Rattle.mh_join_names.proofs.ReportsFirst.{finds_more, finds_err}
 use Rattle.mh_join_faults.proofs.undefined.check_alternatives.Goals as goal
 
 pub loop-alternative-preserved : goal.loop-alternative-preserved

@@ -1,13 +1,13 @@
 use Rattle.std.proofs.Common.{ℕ, Option, subst}
 use Rattle.std.specs.List.{flat_map}
 use Rattle.mh_grammar.specs.Text.{Text}
-use Rattle.mh_join_names.specs.Faults.{Finds, meant_by, undefined_in_alternative}
-use Rattle.mh_join_names.specs.code.Maps.{meanings_in}
+use Rattle.mh_join_names.specs.Faults.{ReportsFirst, meant_by, undefined_in_alternative}
+use Rattle.mh_join_names.specs.code.SymbolTables.{meanings_in}
 use Rattle.mh_join_names.proofs.Lists.{fun_ext}
 use Rattle.mh_join_faults.proofs.undefined.check_rule.Goals as goal
 
 pub returns-in-Ok : goal.returns-in-Ok
 returns-in-Ok c =
     let w = meanings_in c.args.names.now in
-    subst (λ (g : Text → Option ℕ). Finds (flat_map (undefined_in_alternative w.aliased (meant_by w c.args.file g)) c.args.rule.now.alternatives) c.check_alternatives.result)
+    subst (λ (g : Text → Option ℕ). ReportsFirst (flat_map (undefined_in_alternative w.aliased (meant_by w c.args.file g)) c.args.rule.now.alternatives) c.check_alternatives.result)
     (fun_ext (rw c.as_slice.ensures at c.in-Ok.ensures)) (rw c.as_slice-in-Ok.ensures at c.check_alternatives.ensures)

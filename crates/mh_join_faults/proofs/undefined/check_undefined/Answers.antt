@@ -1,7 +1,7 @@
 use Rattle.std.proofs.Common.{◌+◌, arith}
 use Rattle.mh_join_names.specs.Faults.{undefined_in_file}
-use Rattle.mh_join_names.specs.code.Maps.{meanings_in}
-use Rattle.mh_join_names.proofs.Finding.{finds_more_at, finds_err_at}
+use Rattle.mh_join_names.specs.code.SymbolTables.{meanings_in}
+use Rattle.mh_join_names.proofs.ReportsFirst.{finds_more_at, finds_err_at}
 use Rattle.mh_join_faults.proofs.undefined.check_undefined.Goals as goal
 
 pub loop-at-preserved : goal.loop-at-preserved

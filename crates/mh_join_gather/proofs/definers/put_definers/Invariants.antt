@@ -4,7 +4,7 @@ use Rattle.std.specs.List.{list_any, enumerate_from}
 use Rattle.std.specs.HashMap.{get}
 use Rattle.mh_grammar.specs.Text.{Text}
 use Rattle.mh_join_names.specs.Names.{same, defines}
-use Rattle.mh_join_names.specs.code.Definers.{elsewhere_by}
+use Rattle.mh_join_names.specs.code.DefiningFiles.{elsewhere_by}
 use Rattle.mh_join_gather.proofs.definers.put_definers.Given as goal
 
 abbrev pub invariant-loop-at : goal.invariant-loop-at

@@ -1,6 +1,6 @@
 use Rattle.std.proofs.Common.{ap, ◌∙◌}
 use Rattle.mh_join_names.specs.code.Numbering.{outlines_of}
-use Rattle.mh_join_gather.proofs.Meaning.{has_meanings}
+use Rattle.mh_join_gather.proofs.HasMeanings.{has_meanings}
 use Rattle.mh_join_gather.proofs.gathering.fill.Goals as goal
 
 pub put_tokens-requires : goal.put_tokens-requires

@@ -4,7 +4,7 @@ use Rattle.std.proofs.lemmas.List.{take_all}
 use Rattle.mh_join_names.specs.declared.numbering.Numbering.{Numbering}
 use Rattle.mh_join_names.specs.Names.{files, same_rule, insert_all}
 use Rattle.mh_join_names.specs.code.Numbering.{outline_by, outlines_in}
-use Rattle.mh_join_gather.proofs.Numbers.{Numbered-empty, Numbers-none, Numbers-enum_more, insert_all-append}
+use Rattle.mh_join_gather.proofs.InsertsRules.{IsNumbered-empty, InsertsRules-none, InsertsRules-enum_more, insert_all-append}
 use Rattle.mh_join_gather.proofs.numbering.put_rules.Goals as goal
 
 pub put_maps-requires : goal.put_maps-requires
@@ -13,12 +13,12 @@ put_maps-requires c = c.requires.own
 pub loop-at-init : goal.loop-at-init
 loop-at-init c =
     let none : Numbering = record { public = c.args.numbering.now.public; own = c.put_maps.new.maps; rules = c.args.numbering.now.rules } in
-    Numbers-none none (Numbered-empty none c.requires.public c.in_ok-put_maps.ensures.empty c.requires.rules)
+    InsertsRules-none none (IsNumbered-empty none c.requires.public c.in_ok-put_maps.ensures.empty c.requires.rules)
 
 pub loop-at-preserved : goal.loop-at-preserved
 loop-at-preserved c =
     let none : Numbering = record { public = c.args.numbering.now.public; own = c.put_maps.new.maps; rules = c.args.numbering.now.rules } in
-    Numbers-enum_more (outlines_in c.args.starts.now.keys) none c.loop-at.numbering c.add_rules.new.numbering 1 c.args.files.now c.loop-at.at (c.loop-at.at + 1) c.index-files-at.result c.loop-at-test.true c.index-files-at.is (omega arith) c.loop-at.invariant (rw c.as_slice.ensures at c.in_ok-add_rules.ensures)
+    InsertsRules-enum_more (outlines_in c.args.starts.now.keys) none c.loop-at.numbering c.add_rules.new.numbering 1 c.args.files.now c.loop-at.at (c.loop-at.at + 1) c.index-files-at.result c.loop-at-test.true c.index-files-at.is (omega arith) c.loop-at.invariant (rw c.as_slice.ensures at c.in_ok-add_rules.ensures)
 
 pub returns-clause-rules : goal.returns-clause-rules
 returns-clause-rules c =

@@ -1,4 +1,4 @@
-use Rattle.mh_join_names.proofs.Listing.{placed_more}
+use Rattle.mh_join_names.proofs.IsPositionMap.{placed_more}
 use Rattle.mh_join_names.proofs.name_list.put_new.Goals as goal
 
 pub returns-clause-placed : goal.returns-clause-placed

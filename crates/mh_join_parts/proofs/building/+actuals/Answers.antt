@@ -2,17 +2,17 @@ use Rattle.std.proofs.Common.{length, arith, false, [], ap, ◌≡◌, sym, ◌�
 use Rattle.std.specs.List.{flat_map}
 use Rattle.mh_join_names.specs.Faults.{refs, meant_by, undefined_in_actual}
 use Rattle.mh_join_names.specs.Joining.{resolved}
-use Rattle.mh_join_names.specs.code.Maps.{meanings_in, formals_in}
-use Rattle.mh_join_names.proofs.Actuals.{size_out, size_item}
-use Rattle.mh_join_names.proofs.Resolving.{stands_head, stands_args, resolved_with, nil_at, somes_more}
+use Rattle.mh_join_names.specs.code.SymbolTables.{meanings_in, formals_in}
+use Rattle.mh_join_names.proofs.Refs.{size_out, size_item}
+use Rattle.mh_join_names.proofs.Resolved.{head_resolved, args_resolved, resolved_with, nil_at, somes_more}
 use Rattle.mh_join_parts.proofs.building.+actuals.Goals as goal
 
 pub joined_actual-unwrap-head-requires : goal.joined_actual-unwrap-head-requires
-joined_actual-unwrap-head-requires t c = rw c.head_of.ensures (stands_head (meant_by (meanings_in c.args.scope.now.names.now) c.args.scope.now.file (formals_in c.args.scope.now.formals.now)) c.args.actual.now c.requires.stand)
+joined_actual-unwrap-head-requires t c = rw c.head_of.ensures (head_resolved (meant_by (meanings_in c.args.scope.now.names.now) c.args.scope.now.file (formals_in c.args.scope.now.formals.now)) c.args.actual.now c.requires.stand)
 
 pub joined_actual-joined_actuals-requires : goal.joined_actual-joined_actuals-requires
 joined_actual-joined_actuals-requires t c =
-    let stands : flat_map (undefined_in_actual false (meant_by (meanings_in c.args.scope.now.names.now) c.args.scope.now.file (formals_in c.args.scope.now.formals.now))) c.as_slice.result.now ≡ [] = rw c.as_slice.ensures (stands_args (meant_by (meanings_in c.args.scope.now.names.now) c.args.scope.now.file (formals_in c.args.scope.now.formals.now)) c.args.actual.now c.requires.stand) in
+    let stands : flat_map (undefined_in_actual false (meant_by (meanings_in c.args.scope.now.names.now) c.args.scope.now.file (formals_in c.args.scope.now.formals.now))) c.as_slice.result.now ≡ [] = rw c.as_slice.ensures (args_resolved (meant_by (meanings_in c.args.scope.now.names.now) c.args.scope.now.file (formals_in c.args.scope.now.formals.now)) c.args.actual.now c.requires.stand) in
     (omega (arith, size_out c.args.actual.now, ap (λ k. length (flat_map refs k)) c.as_slice.ensures, c.decreases), (c.requires.few, stands))
 
 pub joined_actual-returns : goal.joined_actual-returns

@@ -2,7 +2,7 @@ use Rattle.std.proofs.Common.{◌≡◌, [], ◌++◌, ◌+◌, ◌*◌, Some, l
 use Rattle.std.specs.List.{flat_map}
 use Rattle.mh_join_names.specs.Faults.{meant_by, refs}
 use Rattle.mh_join_names.specs.Joining.{resolved}
-use Rattle.mh_join_names.specs.code.Maps.{meanings_in, formals_in}
+use Rattle.mh_join_names.specs.code.SymbolTables.{meanings_in, formals_in}
 use Rattle.mh_join_parts.proofs.building.+actuals.Given as goal
 
 abbrev pub invariant-joined_actuals-loop-actual : goal.invariant-joined_actuals-loop-actual

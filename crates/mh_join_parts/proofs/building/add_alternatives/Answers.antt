@@ -1,9 +1,9 @@
 use Rattle.std.proofs.Common.{refl, Some, map, ◌+◌}
 use Rattle.mh_join_names.specs.Faults.{meant_by}
 use Rattle.mh_join_names.specs.Joining.{alternative_by}
-use Rattle.mh_join_parts.specs.code.Standing.{unresolved}
-use Rattle.mh_join_names.specs.code.Maps.{meanings_in, formals_in}
-use Rattle.mh_join_names.proofs.Resolving.{nil_at, somes_enum_more}
+use Rattle.mh_join_parts.specs.code.CanJoin.{unresolved}
+use Rattle.mh_join_names.specs.code.SymbolTables.{meanings_in, formals_in}
+use Rattle.mh_join_names.proofs.Resolved.{nil_at, somes_enum_more}
 use Rattle.mh_join_parts.proofs.building.add_alternatives.Goals as goal
 
 pub loop-at-preserved : goal.loop-at-preserved

@@ -2,7 +2,7 @@ use Rattle.std.proofs.Common.{◌≡◌, ◌++◌, Some, map, take}
 use Rattle.std.specs.List.{enumerate_from}
 use Rattle.mh_join_names.specs.Faults.{meant_by}
 use Rattle.mh_join_names.specs.Joining.{alternative_by}
-use Rattle.mh_join_names.specs.code.Maps.{meanings_in, formals_in}
+use Rattle.mh_join_names.specs.code.SymbolTables.{meanings_in, formals_in}
 use Rattle.mh_join_parts.proofs.building.add_alternatives.Given as goal
 
 abbrev pub invariant-loop-at : goal.invariant-loop-at

@@ -4,8 +4,8 @@ use Rattle.std.specs.List.{flat_map, enumerate_from}
 use Rattle.mh_grammar.specs.Text.{Text}
 use Rattle.mh_join_names.specs.Faults.{meant_by}
 use Rattle.mh_join_names.specs.Joining.{alternative_by}
-use Rattle.mh_join_parts.specs.code.Standing.{unresolved}
-use Rattle.mh_join_names.specs.code.Maps.{meanings_in}
+use Rattle.mh_join_parts.specs.code.CanJoin.{unresolved}
+use Rattle.mh_join_names.specs.code.SymbolTables.{meanings_in}
 use Rattle.mh_join_names.proofs.Lists.{fun_ext}
 use Rattle.mh_join_parts.proofs.building.add_definition.Goals as goal
 

@@ -1,8 +1,8 @@
 use Rattle.std.proofs.Common.{Some, map, sym, ap, ◌∙◌}
 use Rattle.mh_join_names.specs.Faults.{meant_by, undefined_in_on_error}
 use Rattle.mh_join_names.specs.Joining.{all_of, all_resolved}
-use Rattle.mh_join_names.specs.code.Maps.{meanings_in, formals_in}
-use Rattle.mh_join_names.proofs.Resolving.{nil_at, somes_more, all_somes}
+use Rattle.mh_join_names.specs.code.SymbolTables.{meanings_in, formals_in}
+use Rattle.mh_join_names.proofs.Resolved.{nil_at, somes_more, all_somes}
 use Rattle.mh_join_parts.proofs.building.add_on_error.Goals as goal
 
 pub loop-actuals-preserved : goal.loop-actuals-preserved

@@ -1,9 +1,9 @@
 use Rattle.std.proofs.Common.{Some}
 use Rattle.std.proofs.lemmas.List.{take_all}
-use Rattle.mh_join_parts.specs.code.Standing.{unresolved_in_rule}
-use Rattle.mh_join_names.specs.code.Maps.{meanings_in}
-use Rattle.mh_join_names.proofs.Resolving.{nil_at}
-use Rattle.mh_join_parts.proofs.Adding.{AddsRules-none, AddsRules-more}
+use Rattle.mh_join_parts.specs.code.CanJoin.{unresolved_in_rule}
+use Rattle.mh_join_names.specs.code.SymbolTables.{meanings_in}
+use Rattle.mh_join_names.proofs.Resolved.{nil_at}
+use Rattle.mh_join_parts.proofs.AddsAlternatives.{AddsRules-none, AddsRules-more}
 use Rattle.mh_join_parts.proofs.building.add_prelude.Goals as goal
 
 pub loop-rule-init : goal.loop-rule-init

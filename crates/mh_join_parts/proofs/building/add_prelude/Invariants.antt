@@ -1,6 +1,6 @@
 use Rattle.std.proofs.Common.{Some, take}
-use Rattle.mh_join_names.specs.code.Maps.{meanings_in}
-use Rattle.mh_join_parts.proofs.Adding.{AddsRules}
+use Rattle.mh_join_names.specs.code.SymbolTables.{meanings_in}
+use Rattle.mh_join_parts.proofs.AddsAlternatives.{AddsRules}
 use Rattle.mh_join_parts.proofs.building.add_prelude.Given as goal
 
 abbrev pub invariant-loop-rule : goal.invariant-loop-rule

@@ -1,7 +1,7 @@
 use Rattle.std.proofs.Common.{take}
 use Rattle.mh_join_names.specs.Names.{owner_in}
-use Rattle.mh_join_names.specs.code.Maps.{meanings_in}
-use Rattle.mh_join_parts.proofs.Adding.{AddsRules}
+use Rattle.mh_join_names.specs.code.SymbolTables.{meanings_in}
+use Rattle.mh_join_parts.proofs.AddsAlternatives.{AddsRules}
 use Rattle.mh_join_parts.proofs.building.add_rules.Given as goal
 
 abbrev pub invariant-loop-rule : goal.invariant-loop-rule

@@ -1,8 +1,8 @@
 use Rattle.std.proofs.Common.{Some, sym, ap, ◌∙◌}
 use Rattle.std.specs.Prelude.{option_map}
 use Rattle.mh_join_names.specs.Joining.{all_of, prec_by, alternative_with}
-use Rattle.mh_join_names.specs.code.Maps.{meanings_in}
-use Rattle.mh_join_names.proofs.Resolving.{all_somes}
+use Rattle.mh_join_names.specs.code.SymbolTables.{meanings_in}
+use Rattle.mh_join_names.proofs.Resolved.{all_somes}
 use Rattle.mh_join_parts.proofs.building.joined_alternative.Goals as goal
 
 pub returns : goal.returns

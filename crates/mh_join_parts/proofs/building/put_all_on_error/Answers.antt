@@ -3,10 +3,10 @@ use Rattle.std.specs.List.{flat_map}
 use Rattle.mh_grammar.specs.Text.{Text}
 use Rattle.mh_join_names.specs.Faults.{meant_by, undefined_in_on_error}
 use Rattle.mh_join_names.specs.Joining.{all_resolved, on_error_in}
-use Rattle.mh_join_parts.specs.code.Standing.{unresolved_on_error}
-use Rattle.mh_join_names.specs.code.Maps.{meanings_in}
+use Rattle.mh_join_parts.specs.code.CanJoin.{unresolved_on_error}
+use Rattle.mh_join_names.specs.code.SymbolTables.{meanings_in}
 use Rattle.mh_join_names.proofs.Lists.{fun_ext}
-use Rattle.mh_join_names.proofs.Resolving.{nil_enum_at, flat_somes_more}
+use Rattle.mh_join_names.proofs.Resolved.{nil_enum_at, flat_somes_more}
 use Rattle.mh_join_parts.proofs.building.put_all_on_error.Goals as goal
 
 pub loop-at-preserved : goal.loop-at-preserved

@@ -1,6 +1,6 @@
 use Rattle.std.proofs.Common.{◌≡◌, map, take}
 use Rattle.mh_join_names.specs.Joining.{rule_without}
-use Rattle.mh_join_names.specs.code.Maps.{elsewhere_in}
+use Rattle.mh_join_names.specs.code.SymbolTables.{elsewhere_in}
 use Rattle.mh_join_parts.proofs.building.put_outlines.Given as goal
 
 abbrev pub invariant-loop-outline : goal.invariant-loop-outline

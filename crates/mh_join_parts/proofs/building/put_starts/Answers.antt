@@ -1,7 +1,7 @@
 use Rattle.std.proofs.Common.{None, []}
 use Rattle.mh_join_names.specs.Faults.{undefined_start}
-use Rattle.mh_join_names.specs.code.Maps.{meanings_in}
-use Rattle.mh_join_names.proofs.Resolving.{nil_at, somes_more}
+use Rattle.mh_join_names.specs.code.SymbolTables.{meanings_in}
+use Rattle.mh_join_names.proofs.Resolved.{nil_at, somes_more}
 use Rattle.mh_join_parts.proofs.building.put_starts.Goals as goal
 
 pub loop-name-preserved : goal.loop-name-preserved

@@ -1,6 +1,6 @@
 use Rattle.std.proofs.Common.{◌≡◌, map, take}
 use Rattle.mh_join_names.specs.Joining.{token_info}
-use Rattle.mh_join_names.specs.code.Maps.{meanings_in}
+use Rattle.mh_join_names.specs.code.SymbolTables.{meanings_in}
 use Rattle.mh_join_parts.proofs.building.put_tokens.Given as goal
 
 abbrev pub invariant-loop-name : goal.invariant-loop-name

@@ -1,7 +1,7 @@
 use Rattle.std.proofs.Common.{◌≡◌, ◌+◌, arith, drop, subst}
-use Rattle.mh_lex.specs.declared.code.Step.TheVariants.{Closes, Passes, Nests, Remark, Stuck}
-use Rattle.mh_lex.specs.Steps.{step}
-use Rattle.mh_lex.proofs.Levels as levels
+use Rattle.mh_lex.specs.declared.code.CodeStep.TheVariants.{Closes, Passes, Nests, Remark, Stuck}
+use Rattle.mh_lex.specs.CodeSteps.{step}
+use Rattle.mh_lex.proofs.CodeLevels as levels
 use Rattle.mh_lex.proofs.code.code_length.Goals as goal
 
 pub loop-length-init : goal.loop-length-init

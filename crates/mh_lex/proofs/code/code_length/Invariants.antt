@@ -1,5 +1,5 @@
 use Rattle.std.proofs.Common.{◌+◌, ◌≤◌, ◌-◌, length, drop}
-use Rattle.mh_lex.proofs.Levels.{Inside, levels}
+use Rattle.mh_lex.proofs.CodeLevels.{Inside, levels}
 use Rattle.mh_lex.proofs.code.code_length.Given as goal
 
 abbrev pub invariant-loop-length : goal.invariant-loop-length

@@ -1,5 +1,5 @@
 use Rattle.std.proofs.Common.{arith}
-use Rattle.mh_lex.proofs.Levels.{innermost_code, innermost_comment}
+use Rattle.mh_lex.proofs.CodeLevels.{innermost_code, innermost_comment}
 use Rattle.mh_lex.proofs.code.innermost.Goals as goal
 
 pub returns-then-remarks-eq0 : goal.returns-then-remarks-eq0

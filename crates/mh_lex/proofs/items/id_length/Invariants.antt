@@ -1,5 +1,5 @@
 use Rattle.std.proofs.Common.{◌≡◌, ◌+◌, drop}
-use Rattle.mh_lex.specs.Spellings.{id_rest}
+use Rattle.mh_lex.specs.LexemeLengths.{id_rest}
 use Rattle.mh_lex.proofs.items.id_length.Given as goal
 
 abbrev pub invariant-loop-byte : goal.invariant-loop-byte

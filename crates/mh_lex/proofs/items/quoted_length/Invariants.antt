@@ -1,6 +1,6 @@
 use Rattle.std.proofs.Common.{◌≡◌, drop}
-use Rattle.mh_lex.specs.Spellings.{quoted_rest}
-use Rattle.mh_lex.proofs.Sums.{plus}
+use Rattle.mh_lex.specs.LexemeLengths.{quoted_rest}
+use Rattle.mh_lex.proofs.OptionalLength.{plus}
 use Rattle.mh_lex.proofs.items.quoted_length.Given as goal
 
 abbrev pub invariant-loop-place : goal.invariant-loop-place

@@ -1,6 +1,6 @@
 use Rattle.std.proofs.Common.{◌≡◌, drop, false}
-use Rattle.mh_lex.specs.Spellings.{string_rest}
-use Rattle.mh_lex.proofs.Sums.{plus}
+use Rattle.mh_lex.specs.LexemeLengths.{string_rest}
+use Rattle.mh_lex.proofs.OptionalLength.{plus}
 use Rattle.mh_lex.proofs.items.string_length.Given as goal
 
 abbrev pub invariant-loop-place : goal.invariant-loop-place

@@ -1,4 +1,4 @@
-use Rattle.mh_lex.proofs.Always.{lexes_always}
+use Rattle.mh_lex.proofs.LexesTotal.{lexes_always}
 use Rattle.mh_lex.proofs.laws.lexed_always.Goals as goal
 
 pub returns : goal.returns

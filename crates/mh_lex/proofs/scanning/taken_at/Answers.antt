@@ -1,5 +1,5 @@
 use Rattle.std.proofs.Common.{arith}
-use Rattle.mh_lex.proofs.Takes as takes
+use Rattle.mh_lex.proofs.LexesUnique as takes
 use Rattle.mh_lex.proofs.scanning.taken_at.Goals as goal
 
 pub returns-in-Short : goal.returns-in-Short

@@ -1,4 +1,4 @@
-use Rattle.mh_lex_bytes.proofs.Rows.{one_word}
+use Rattle.mh_lex_bytes.proofs.KeywordRows.{one_word}
 use Rattle.mh_lex_bytes.proofs.laws.keywords_differ.Goals as goal
 
 pub returns : goal.returns

@@ -1,4 +1,4 @@
-use Rattle.mh_msgfile.proofs.Canonical.{canonical_line}
+use Rattle.mh_msgfile.proofs.CanonicalLine.{canonical_line}
 use Rattle.mh_msgfile.proofs.laws.canonical_is_read.Goals as goal
 
 pub returns : goal.returns

@@ -1,4 +1,4 @@
-use Rattle.mh_msgfile.proofs.Again.{printed_again}
+use Rattle.mh_msgfile.proofs.PrintedAgain.{printed_again}
 use Rattle.mh_msgfile.proofs.laws.printed_again.Goals as goal
 
 pub returns : goal.returns

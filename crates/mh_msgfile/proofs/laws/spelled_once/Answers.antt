@@ -1,4 +1,4 @@
-use Rattle.mh_msgfile.proofs.Spelled.{spelled_once, fault_once, spelled_right, spelled_or_not}
+use Rattle.mh_msgfile.proofs.MsgSpells.{spelled_once, fault_once, spelled_has_no_fault, spelled_or_not}
 use Rattle.mh_msgfile.proofs.laws.spelled_once.Goals as goal
 
 pub returns-clause-file : goal.returns-clause-file
@@ -11,4 +11,4 @@ pub returns-clause-either : goal.returns-clause-either
 returns-clause-either c = spelled_or_not c.args.grammar.now
 
 pub returns-clause-apart : goal.returns-clause-apart
-returns-clause-apart c = spelled_right c.args.grammar.now
+returns-clause-apart c = spelled_has_no_fault c.args.grammar.now

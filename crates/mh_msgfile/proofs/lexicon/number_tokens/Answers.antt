@@ -1,6 +1,6 @@
 use Rattle.std.proofs.Common.{rules, arith}
 use Rattle.mh_grammar.specs.declared.types.TokenInfo.{TokenInfo}
-use Rattle.mh_msgfile.proofs.Lexicons.{item_put, none_put, all_put}
+use Rattle.mh_msgfile.proofs.AreNumbers.{item_put, none_put, all_put}
 use Rattle.mh_msgfile.proofs.lexicon.number_tokens.Goals as goal
 
 pub loop-number-preserved : goal.loop-number-preserved

@@ -1,5 +1,5 @@
 use Rattle.std.proofs.Common.{◌∙◌, sym}
-use Rattle.mh_msgfile.proofs.Lexicons.{name_put, copied_none}
+use Rattle.mh_msgfile.proofs.AreNumbers.{name_put, copied_none}
 use Rattle.mh_msgfile.proofs.lexicon.put_name.Goals as goal
 
 pub returns : goal.returns

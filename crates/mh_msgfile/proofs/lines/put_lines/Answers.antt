@@ -1,6 +1,6 @@
 use Rattle.std.proofs.Common.{arith, rules}
 use Rattle.std.proofs.lemmas.Grind.{common_steps}
-use Rattle.mh_msgfile.proofs.Splitting.{split_are}
+use Rattle.mh_msgfile.proofs.AreLines.{split_are}
 use Rattle.mh_msgfile.proofs.lines.put_lines.Goals as goal
 
 pub returns-clause-lines : goal.returns-clause-lines

@@ -1,5 +1,5 @@
 use Rattle.mh_msgfile.specs.Sentences.{vocabulary_in}
-use Rattle.mh_msgfile.proofs.Turns.{last_other}
+use Rattle.mh_msgfile.proofs.ReadsEntries.{last_other}
 use Rattle.mh_msgfile.proofs.messages.fault_of_last.Goals as goal
 
 pub returns-in-Err : goal.returns-in-Err

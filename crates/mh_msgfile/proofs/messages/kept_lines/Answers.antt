@@ -1,5 +1,5 @@
 use Rattle.std.proofs.Common.{◌+◌, refl, arith, rules}
-use Rattle.mh_msgfile.proofs.Kept.{kept_step, kept_all}
+use Rattle.mh_msgfile.proofs.KeptLines.{kept_step, kept_all}
 use Rattle.mh_msgfile.proofs.messages.kept_lines.Goals as goal
 
 pub loop-place-preserved : goal.loop-place-preserved

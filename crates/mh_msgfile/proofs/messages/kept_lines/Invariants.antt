@@ -1,4 +1,4 @@
-use Rattle.mh_msgfile.proofs.Kept.{KeptSoFar}
+use Rattle.mh_msgfile.proofs.KeptLines.{KeptSoFar}
 use Rattle.mh_msgfile.proofs.messages.kept_lines.Given as goal
 
 abbrev pub invariant-loop-place : goal.invariant-loop-place

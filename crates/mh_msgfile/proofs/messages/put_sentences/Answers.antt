@@ -1,7 +1,7 @@
 use Rattle.std.proofs.Common.{Err, subst, arith}
 use Rattle.mh_grammar.specs.Text.{Text}
 use Rattle.mh_msgfile.specs.Sentences.{vocabulary_in, sentence_in, ReadsSentence}
-use Rattle.mh_msgfile.proofs.Turns.{block_fault}
+use Rattle.mh_msgfile.proofs.ReadsEntries.{block_fault}
 use Rattle.mh_msgfile.proofs.messages.put_sentences.Goals as goal
 
 pub returns-in-Err : goal.returns-in-Err

@@ -1,5 +1,5 @@
 use Rattle.mh_msgfile.specs.Sentences.{vocabulary_in}
-use Rattle.mh_msgfile.proofs.Turns.{spelled_by, fault_by}
+use Rattle.mh_msgfile.proofs.ReadsEntries.{spelled_by, fault_by}
 use Rattle.mh_msgfile.proofs.messages.read_file.Goals as goal
 
 pub returns-in-Ok-put_entries : goal.returns-in-Ok-put_entries

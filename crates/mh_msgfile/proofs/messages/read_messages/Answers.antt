@@ -1,5 +1,5 @@
 use Rattle.std.proofs.Common.{arith}
-use Rattle.mh_msgfile.proofs.Fitting.{reads_fit}
+use Rattle.mh_msgfile.proofs.AreSentencesOf.{reads_fit}
 use Rattle.mh_msgfile.proofs.messages.read_messages.Goals as goal
 
 pub returns-clause-file : goal.returns-clause-file

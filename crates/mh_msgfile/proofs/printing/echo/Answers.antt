@@ -1,16 +1,16 @@
 use Rattle.std.proofs.Common.{◌++◌, List, ap, ◌∙◌}
-use Rattle.mh_grammar.proofs.Lists.{left_at}
-use Rattle.mh_msgfile.specs.Printed.{sentence_lines}
+use Rattle.mh_grammar.proofs.Lists.{drop_step}
+use Rattle.mh_msgfile.specs.FileTexts.{sentence_lines}
 use Rattle.mh_msgfile.specs.declared.messages.MsgSentence.{MsgSentence}
 use Rattle.mh_msgfile.specs.declared.messages.Entry.{Entry}
-use Rattle.mh_msgfile.proofs.Writing.{written_next, written_all}
+use Rattle.mh_msgfile.proofs.LoopSteps.{written_next, written_all}
 use Rattle.mh_msgfile.proofs.printing.echo.Goals as goal
 
 pub loop-entry-preserved : goal.loop-entry-preserved
 loop-entry-preserved c =
     let lt = rw c.as_slice-entry-items.ensures at c.loop-entry-test.true in
     let is = rw c.as_slice-entry-items.ensures at c.entry-item.is in
-    written_next (λ (e : Entry). sentence_lines c.args.grammar.now e.sentences) c.args.file.now.entries c.loop-entry.entry-index _ _ c.loop-entry.invariant c.entry-item.result _ (left_at _ _ _ lt is)
+    written_next (λ (e : Entry). sentence_lines c.args.grammar.now e.sentences) c.args.file.now.entries c.loop-entry.entry-index _ _ c.loop-entry.invariant c.entry-item.result _ (drop_step _ _ _ lt is)
     (c.in_ok-write_lines.ensures ∙ ap (λ (xs : List MsgSentence). c.loop-entry.text.items ++ sentence_lines c.args.grammar.now xs) c.as_slice.ensures)
 
 pub returns : goal.returns

@@ -1,5 +1,5 @@
 use Rattle.std.proofs.Common.{◌≡◌, ◌++◌, drop, flat_map}
-use Rattle.mh_msgfile.specs.Printed.{sentence_lines, echo_text}
+use Rattle.mh_msgfile.specs.FileTexts.{sentence_lines, echo_text}
 use Rattle.mh_msgfile.proofs.printing.echo.Given as goal
 
 abbrev pub invariant-loop-entry : goal.invariant-loop-entry

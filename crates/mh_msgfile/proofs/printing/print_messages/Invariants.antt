@@ -1,5 +1,5 @@
 use Rattle.std.proofs.Common.{◌≡◌, ◌++◌, drop, flat_map}
-use Rattle.mh_msgfile.specs.Printed.{entry_text, file_text}
+use Rattle.mh_msgfile.specs.FileTexts.{entry_text, file_text}
 use Rattle.mh_msgfile.proofs.printing.print_messages.Given as goal
 
 abbrev pub invariant-loop-entry : goal.invariant-loop-entry

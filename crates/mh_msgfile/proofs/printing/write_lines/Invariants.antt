@@ -1,5 +1,5 @@
 use Rattle.std.proofs.Common.{◌≡◌, ◌++◌, drop}
-use Rattle.mh_msgfile.specs.Printed.{sentence_lines}
+use Rattle.mh_msgfile.specs.FileTexts.{sentence_lines}
 use Rattle.mh_msgfile.proofs.printing.write_lines.Given as goal
 
 abbrev pub invariant-loop-sentence : goal.invariant-loop-sentence

@@ -2,7 +2,7 @@ use Rattle.std.proofs.Common.{◌++◌, ◌∷◌, [], ℕ, get_or, ap, ◌∙�
 use Rattle.std.proofs.lemmas.List.{drop_more}
 use Rattle.mh_grammar.specs.Names.{token_name}
 use Rattle.mh_grammar.specs.Text.{Text}
-use Rattle.mh_msgfile.proofs.Writing.{written_next, written_all}
+use Rattle.mh_msgfile.proofs.LoopSteps.{written_next, written_all}
 use Rattle.mh_msgfile.proofs.printing.write_names.Goals as goal
 
 pub loop-token-preserved : goal.loop-token-preserved

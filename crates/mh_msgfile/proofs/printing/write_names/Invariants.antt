@@ -1,5 +1,5 @@
 use Rattle.std.proofs.Common.{◌≡◌, ◌++◌, drop}
-use Rattle.mh_msgfile.specs.Printed.{names_after}
+use Rattle.mh_msgfile.specs.FileTexts.{names_after}
 use Rattle.mh_msgfile.proofs.printing.write_names.Given as goal
 
 abbrev pub invariant-loop-token : goal.invariant-loop-token

@@ -1,6 +1,6 @@
 use Rattle.mh_msgfile.specs.code.LineSteps.{name_of}
 use Rattle.mh_msgfile.specs.Sentences.{vocabulary_in}
-use Rattle.mh_msgfile.proofs.Below.{sentence_found, start_refused, token_refused}
+use Rattle.mh_msgfile.proofs.SentenceBounds.{sentence_found, start_refused, token_refused}
 use Rattle.mh_msgfile.proofs.sentence.put_sentence.Goals as goal
 
 pub returns-in-Some-clause-sentence : goal.returns-in-Some-clause-sentence

@@ -1,6 +1,6 @@
 use Rattle.std.proofs.Common.{rules}
 use Rattle.mh_msgfile.specs.Sentences.{vocabulary_in}
-use Rattle.mh_msgfile.proofs.Below.{tokens_by}
+use Rattle.mh_msgfile.proofs.SentenceBounds.{tokens_by}
 use Rattle.mh_msgfile.proofs.sentence.put_tokens.Goals as goal
 
 pub returns-clause-pieces : goal.returns-clause-pieces

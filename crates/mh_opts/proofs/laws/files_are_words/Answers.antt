@@ -1,5 +1,5 @@
 use Rattle.std.proofs.Common.{map, string_bytes}
-use Rattle.mh_opts.proofs.Told.{order_files}
+use Rattle.mh_opts.proofs.OrderFiles.{order_files}
 use Rattle.mh_opts.proofs.laws.files_are_words.Goals as goal
 
 pub returns : goal.returns

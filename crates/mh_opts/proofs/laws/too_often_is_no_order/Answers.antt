@@ -1,5 +1,5 @@
 use Rattle.std.proofs.Common.{map, string_bytes}
-use Rattle.mh_opts.proofs.Told.{order_twice}
+use Rattle.mh_opts.proofs.OrderFiles.{order_twice}
 use Rattle.mh_opts.proofs.laws.too_often_is_no_order.Goals as goal
 
 pub returns : goal.returns

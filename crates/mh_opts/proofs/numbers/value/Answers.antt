@@ -3,11 +3,11 @@ use Rattle.std.specs.Prelude.{Some}
 use Rattle.std.specs.Char.{is_ascii_digit}
 use Rattle.std.specs.List.{list_all}
 use Rattle.std.proofs.lemmas.Str.Parse.{IsNumeralModel, numerals_by_fold, parse_gives, digits_value_short}
-use Rattle.mh_opts.specs.Numbers.{value_behind}
+use Rattle.mh_opts.specs.Numbers.{value_after}
 use Rattle.mh_opts.proofs.numbers.value.Goals as goal
 
-own : IsNumeralModel (λ ds. list_all is_ascii_digit ds ≡ true) (value_behind 0)
-own = numerals_by_fold _ (search rules) value_behind (search rules)
+own : IsNumeralModel (λ ds. list_all is_ascii_digit ds ≡ true) (value_after 0)
+own = numerals_by_fold _ (search rules) value_after (search rules)
 
 pub returns-in-Ok : goal.returns-in-Ok
 returns-in-Ok c =

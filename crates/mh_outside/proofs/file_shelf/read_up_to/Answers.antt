@@ -1,5 +1,5 @@
 use Rattle.std.proofs.Common.{arith}
-use Rattle.mh_outside.proofs.Passes.{passes_limit}
+use Rattle.mh_outside.proofs.PassesOn.{passes_limit}
 use Rattle.mh_outside.proofs.file_shelf.read_up_to.Goals as goal
 
 pub returns-then-count-limit : goal.returns-then-count-limit

@@ -1,4 +1,4 @@
-use Rattle.mh_outside.proofs.LinesFound.{finds_line}
+use Rattle.mh_outside.proofs.FindsLine.{finds_line}
 use Rattle.mh_outside.proofs.lines.read_line.Goals as goal
 
 pub returns-clause-found : goal.returns-clause-found

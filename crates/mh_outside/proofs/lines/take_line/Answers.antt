@@ -1,5 +1,5 @@
 use Rattle.std.proofs.Common.{◌∙◌, arith}
-use Rattle.mh_outside.proofs.LinesRead.{Consumes-push, HasNoEnd-more, length-push, reads_last, reads_fault, counts_fault}
+use Rattle.mh_outside.proofs.ReadsLine.{Consumes-push, HasNoLF-more, length-push, reads_last, reads_fault, counts_fault}
 use Rattle.mh_outside.proofs.lines.take_line.Goals as goal
 
 pub loop-line-preserved : goal.loop-line-preserved
@@ -8,7 +8,7 @@ loop-line-preserved g c =
     let added = c.in-Ok.ensures in
     record {
       taken = Consumes-push _ _ _ c.loop-line.line.items _ c.in-Some.byte so_far.taken (rw c.in-Some.is at c.in_ok-read_byte.ensures.bytes) added.0;
-      no_end = HasNoEnd-more _ _ c.in-Some.byte so_far.no_end c.in-Some.byte-test.1 added.0;
+      no_end = HasNoLF-more _ _ c.in-Some.byte so_far.no_end c.in-Some.byte-test.1 added.0;
       fits = omega (arith, added.1, length-push _ _ _ added.0);
       calm = c.in_ok-read_byte.ensures.counts ∙ so_far.calm;
     }

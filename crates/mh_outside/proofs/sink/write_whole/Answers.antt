@@ -1,5 +1,5 @@
 use Rattle.std.proofs.Common.{arith, rules, ◌∙◌}
-use Rattle.mh_outside.proofs.Pieces.{appends_more}
+use Rattle.mh_outside.proofs.Consumes.{appends_more}
 use Rattle.mh_outside.proofs.sink.write_whole.Goals as goal
 
 pub loop-rest-preserved : goal.loop-rest-preserved

@@ -1,4 +1,4 @@
-use Rattle.mh_outside.proofs.Passes.{prefix_written}
+use Rattle.mh_outside.proofs.PassesOn.{prefix_written}
 use Rattle.mh_outside.proofs.std_sink.write_flushed.Goals as goal
 
 pub returns-then-is_err-clause-passed : goal.returns-then-is_err-clause-passed

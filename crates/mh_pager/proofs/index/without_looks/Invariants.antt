@@ -1,6 +1,6 @@
 use Rattle.std.proofs.Common.{◌≡◌, map, take}
-use Rattle.mh_pager_steps.specs.code.Cores.{bare}
+use Rattle.mh_pager_steps.specs.code.Cores.{core_item}
 use Rattle.mh_pager.proofs.index.without_looks.Given as goal
 
 abbrev pub invariant-loop-item : goal.invariant-loop-item
-invariant-loop-item g l = l.places.items ≡ map bare (take l.item-index l.items)
+invariant-loop-item g l = l.places.items ≡ map core_item (take l.item-index l.items)

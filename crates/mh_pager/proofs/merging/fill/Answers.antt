@@ -2,38 +2,38 @@ use Rattle.std.proofs.Common.{arith, rules}
 use Rattle.std.proofs.lemmas.Result.{on_ok_weaker}
 use Rattle.mh_grammar.specs.Plain.{plain_of}
 use Rattle.mh_canon_states.specs.declared.limits.TheConstants.{MAX_STATES}
-use Rattle.mh_pager.specs.code.Worklist.{work_of}
-use Rattle.mh_pager_steps.proofs.Finishing.{starts_within, AreClosed-list, IsMerged-list, few_list}
-use Rattle.mh_pager.proofs.Worklists.{of_list}
+use Rattle.mh_pager.specs.code.Worklist.{merge_state_of}
+use Rattle.mh_pager_steps.proofs.IsMerged.{starts_within, AreTargetsInRange-list, IsMerged-list, few_list}
+use Rattle.mh_pager.proofs.IsReachedByMerging.{is_well_formed}
 use Rattle.mh_pager.proofs.merging.fill.Goals as goal
 
 pub kept_first-requires : goal.kept_first-requires
 kept_first-requires g c =
-    let ready = of_list (plain_of c.args.grammar.now) (work_of c.args.worklist.now) c.requires.list in
-    let within = starts_within (plain_of c.args.grammar.now) (work_of c.args.worklist.now) c.requires.list c.requires.done in
+    let ready = is_well_formed (plain_of c.args.grammar.now) (merge_state_of c.args.worklist.now) c.requires.list in
+    let within = starts_within (plain_of c.args.grammar.now) (merge_state_of c.args.worklist.now) c.requires.list c.requires.done in
     rw c.len-starts.ensures (omega (arith, within, ready.len, c.requires.few))
 
 pub reach-requires-clause-starts : goal.reach-requires-clause-starts
-reach-requires-clause-starts g c = rw (c.as_slice-rows.ensures.value, c.len-starts.ensures) (starts_within (plain_of c.args.grammar.now) (work_of c.args.worklist.now) c.requires.list c.requires.done)
+reach-requires-clause-starts g c = rw (c.as_slice-rows.ensures.value, c.len-starts.ensures) (starts_within (plain_of c.args.grammar.now) (merge_state_of c.args.worklist.now) c.requires.list c.requires.done)
 
 pub reach-requires-clause-few : goal.reach-requires-clause-few
 reach-requires-clause-few g c =
-    let ready = of_list (plain_of c.args.grammar.now) (work_of c.args.worklist.now) c.requires.list in
+    let ready = is_well_formed (plain_of c.args.grammar.now) (merge_state_of c.args.worklist.now) c.requires.list in
     rw c.as_slice-rows.ensures.value (omega (arith, ready.len, c.requires.few))
 
 pub reach-requires-clause-closed : goal.reach-requires-clause-closed
-reach-requires-clause-closed g c = rw c.as_slice-rows.ensures.value (AreClosed-list (plain_of c.args.grammar.now) (work_of c.args.worklist.now) c.requires.list c.requires.done)
+reach-requires-clause-closed g c = rw c.as_slice-rows.ensures.value (AreTargetsInRange-list (plain_of c.args.grammar.now) (merge_state_of c.args.worklist.now) c.requires.list c.requires.done)
 
 pub pick-requires : goal.pick-requires
 pick-requires g c =
-    let ready = of_list (plain_of c.args.grammar.now) (work_of c.args.worklist.now) c.requires.list in
+    let ready = is_well_formed (plain_of c.args.grammar.now) (merge_state_of c.args.worklist.now) c.requires.list in
     let r = rw (c.as_slice-rows.ensures.value, c.len-starts.ensures) at c.in_ok-reach.ensures in
-    (search rules, (c.requires.small, (rw (c.as_slice.ensures.keys, c.as_slice-kernels.ensures.value, ← ready.len) r.below, c.requires.no_kernels)))
+    (search rules, (c.requires.fits.few, (rw (c.as_slice.ensures.keys, c.as_slice-kernels.ensures.value, ← ready.len) r.below, c.requires.no_kernels)))
 
 pub returns-clause-ok : goal.returns-clause-ok
 returns-clause-ok g c =
     let g = plain_of c.args.grammar.now in
-    let w = work_of c.args.worklist.now in
+    let w = merge_state_of c.args.worklist.now in
     let r = rw (c.as_slice-rows.ensures.value, c.len-starts.ensures) at c.in_ok-reach.ensures in
     let picked = rw (c.as_slice-kernels.ensures.value, c.as_slice.ensures.keys) at c.pick.ensures in
     on_ok_weaker c.pick.result (IsMerged-list g w c.requires.list c.requires.done (record { kernels = c.pick.new.all; edges = c.reach.new.edges }) c.reach.new.states.keys r) picked
@@ -41,7 +41,7 @@ returns-clause-ok g c =
 pub returns-clause-few : goal.returns-clause-few
 returns-clause-few g c =
     let g = plain_of c.args.grammar.now in
-    let w = work_of c.args.worklist.now in
+    let w = merge_state_of c.args.worklist.now in
     let r = rw (c.as_slice-rows.ensures.value, c.len-starts.ensures) at c.in_ok-reach.ensures in
     let picked = rw (c.as_slice-kernels.ensures.value, c.as_slice.ensures.keys) at c.pick.ensures in
     on_ok_weaker c.pick.result (λ z. few_list g w c.requires.list c.requires.done (record { kernels = c.pick.new.all; edges = c.reach.new.edges }) c.reach.new.states.keys r z MAX_STATES c.requires.few) picked

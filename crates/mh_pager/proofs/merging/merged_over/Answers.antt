@@ -2,8 +2,8 @@ use Rattle.std.proofs.Common.{◌≡◌, Err, ap}
 use Rattle.mh_grammar.specs.Plain.{plain_of}
 use Rattle.mh_items_kernels.specs.declared.kernels.StatesFault.TheVariants.{TooManyStates}
 use Rattle.mh_canon_states.specs.declared.limits.TheConstants.{MAX_STATES}
-use Rattle.mh_pager.specs.code.Worklist.{work_of}
-use Rattle.mh_pager_steps.proofs.Finishing.{not_over}
+use Rattle.mh_pager.specs.code.Worklist.{merge_state_of}
+use Rattle.mh_pager_steps.proofs.IsMerged.{not_exceeded}
 use Rattle.mh_pager.proofs.merging.merged_over.Goals as goal
 
 pub returns-in_ok-numbered-in-Ok-clause-ok : goal.returns-in_ok-numbered-in-Ok-clause-ok
@@ -13,7 +13,7 @@ pub returns-in_ok-numbered-in-Ok-clause-few : goal.returns-in_ok-numbered-in-Ok-
 returns-in_ok-numbered-in-Ok-clause-few g c = c.in_ok-numbered-in-Ok.ensures.few
 
 pub returns-in_ok-numbered-in-Ok-clause-exact : goal.returns-in_ok-numbered-in-Ok-clause-exact
-returns-in_ok-numbered-in-Ok-clause-exact g c = not_over (plain_of c.args.grammar.now) (work_of c.list_all.new.worklist) c.in-Ok.ensures.ok c.in-Ok.ensures.done MAX_STATES c.in-Ok.ensures.few
+returns-in_ok-numbered-in-Ok-clause-exact g c = not_exceeded (plain_of c.args.grammar.now) (merge_state_of c.list_all.new.worklist) c.in-Ok.ensures.ok c.in-Ok.ensures.done MAX_STATES c.in-Ok.ensures.few
 
 pub returns-in_ok-numbered-in-Ok-clause-over : goal.returns-in_ok-numbered-in-Ok-clause-over
 returns-in_ok-numbered-in-Ok-clause-over g c same = cc

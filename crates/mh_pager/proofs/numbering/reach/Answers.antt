@@ -1,10 +1,10 @@
 use Rattle.std.proofs.Common.{◌≡◌, ◌<◌, length, get_or, ap, ◌∙◌, arith}
 use Rattle.std.proofs.lemmas.List.{length_push}
-use Rattle.mh_pager_steps.proofs.Reaching.{Reaching-start, Reaching-step, AreReached-done, next_state, next_row, below_few}
+use Rattle.mh_pager_steps.proofs.RenumberingInvariant.{RenumberingInvariant-start, RenumberingInvariant-step, AreReachedStates-done, next_state, next_row, below_few}
 use Rattle.mh_pager.proofs.numbering.reach.Goals as goal
 
 pub states-init : goal.states-init
-states-init c = rw (c.requires.first, c.requires.none) (Reaching-start c.args.starts c.args.rows.now c.requires.starts)
+states-init c = rw (c.requires.first, c.requires.none) (RenumberingInvariant-start c.args.starts c.args.rows.now c.requires.starts)
 
 pub renamed-requires : goal.renamed-requires
 renamed-requires c =
@@ -38,7 +38,7 @@ states-preserved c =
     let at = next_state keys c.as_slice.result.now c.states.edges i c.as_slice.ensures.keys e l in
     let row = c.index-rows-state.result in
     let here = next_row c.args.starts c.args.rows.now keys c.states.edges c.states.invariant n row at c.index-rows-state.is in
-    rw c.in_ok-push.ensures.ok (Reaching-step c.args.starts c.args.rows.now keys c.states.edges c.states.invariant c.renamed.new.states.keys n row c.in_ok-row.row at here (c.requires.closed.targets n row here) (rw c.as_slice-in-states.ensures at c.in_ok-row.ensures))
+    rw c.in_ok-push.ensures.ok (RenumberingInvariant-step c.args.starts c.args.rows.now keys c.states.edges c.states.invariant c.renamed.new.states.keys n row c.in_ok-row.row at here (c.requires.closed.targets n row here) (rw c.as_slice-in-states.ensures at c.in_ok-row.ensures))
 
 pub returns : goal.returns
-returns c = AreReached-done c.args.starts c.args.rows.now c.states.states.keys c.states.edges c.states.invariant (omega (arith, c.states-test.false, c.len.ensures, c.len-in-states.ensures.len))
+returns c = AreReachedStates-done c.args.starts c.args.rows.now c.states.states.keys c.states.edges c.states.invariant (omega (arith, c.states-test.false, c.len.ensures, c.len-in-states.ensures.len))

@@ -1,10 +1,10 @@
 use Rattle.std.proofs.Common.{◌-◌, length}
 use Rattle.mh_canon_states.specs.declared.limits.TheConstants.{MAX_STATES}
-use Rattle.mh_pager_steps.proofs.Reaching.{Reaching}
+use Rattle.mh_pager_steps.proofs.RenumberingInvariant.{RenumberingInvariant}
 use Rattle.mh_pager.proofs.numbering.reach.Given as goal
 
 abbrev pub invariant-states : goal.invariant-states
-invariant-states l = Reaching l.starts l.rows l.states.keys l.edges
+invariant-states l = RenumberingInvariant l.starts l.rows l.states.keys l.edges
 
 abbrev pub decreases-states : goal.decreases-states
 decreases-states l = MAX_STATES - length l.edges

@@ -2,12 +2,12 @@ use Rattle.std.proofs.Common.{◌<◌, ◌∷◌, [], take, get_or, arith}
 use Rattle.std.proofs.lemmas.List.{take_more}
 use Rattle.mh_grammar.specs.declared.types.Symbol.TheVariants.{T}
 use Rattle.mh_grammar.specs.declared.edges.Edge.{Edge}
-use Rattle.mh_pager_steps.proofs.Reaching.{target_below, placed_below, placed_small, one_placed, one_below, IsRenamed-none, IsRenamed-push}
+use Rattle.mh_pager_steps.proofs.RenumberingInvariant.{target_below, placed_below, placed_small, one_placed, one_below, IsRenumbered-none, IsRenumbered-push}
 use Rattle.mh_pager.proofs.numbering.renamed.Goals as goal
 
 pub loop-edge-init : goal.loop-edge-init
 loop-edge-init c = record {
-  renamed = rw c.new-new.ensures (IsRenamed-none c.args.states.now.keys);
+  renamed = rw c.new-new.ensures (IsRenumbered-none c.args.states.now.keys);
   few = c.requires;
 }
 
@@ -26,7 +26,7 @@ loop-edge-preserved c =
     let e : Edge = get_or c.args.row.now i (record { symbol = T 0; target = 0 }) in
     let l : e.target < few.count = target_below few.count c.args.row.now i (record { symbol = T 0; target = 0 }) c.loop-edge-test.true few.targets in
     record {
-      renamed = rw (take_more c.args.row.now i (record { symbol = T 0; target = 0 }) c.loop-edge-test.true, c.in_ok-push.ensures.ok) (IsRenamed-push (take i c.args.row.now) c.loop-edge.new c.args.states.now.keys c.loop-edge.states.keys c.place_state.new.states.keys e c.in_ok-at.at c.loop-edge.invariant.renamed c.in_ok-at.ensures);
+      renamed = rw (take_more c.args.row.now i (record { symbol = T 0; target = 0 }) c.loop-edge-test.true, c.in_ok-push.ensures.ok) (IsRenumbered-push (take i c.args.row.now) c.loop-edge.new c.args.states.now.keys c.loop-edge.states.keys c.place_state.new.states.keys e c.in_ok-at.at c.loop-edge.invariant.renamed c.in_ok-at.ensures);
       few = record {
         count = few.count;
         few = few.few;

@@ -1,5 +1,5 @@
 use Rattle.std.proofs.Common.{◌≡◌, arith}
-use Rattle.mh_pager.proofs.Beginning.{placed_next}
+use Rattle.mh_pager.proofs.KeptFirst.{placed_next}
 use Rattle.mh_pager.proofs.starts.kept_first.Goals as goal
 
 pub loop-start-preserved : goal.loop-start-preserved

@@ -1,5 +1,5 @@
 use Rattle.std.proofs.lemmas.Bool.Decides.{Decides-eqb}
-use Rattle.mh_grammar.proofs.Placing.{Placed-insert}
+use Rattle.mh_grammar.proofs.NumberingInvariant.{Placed-insert}
 use Rattle.mh_pager.proofs.starts.place_state.Goals as goal
 
 pub returns : goal.returns

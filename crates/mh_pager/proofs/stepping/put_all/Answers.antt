@@ -4,14 +4,14 @@ use Rattle.std.proofs.lemmas.Iterator.Adapters.{YieldsList-from_vec}
 use Rattle.mh_grammar.specs.Plain.{plain_of}
 use Rattle.mh_items_kernels.specs.declared.kernels.StatesFault.TheVariants.{TooManyStates}
 use Rattle.mh_canon_states.specs.declared.limits.TheConstants.{MAX_STATES}
-use Rattle.mh_pager.specs.code.Worklist.{work_of}
-use Rattle.mh_pager.proofs.Readying.{put_ready}
-use Rattle.mh_pager.proofs.Turning.{put-start, put-more, put-over, found-valid}
+use Rattle.mh_pager.specs.code.Worklist.{merge_state_of}
+use Rattle.mh_pager.proofs.IsWellFormed.{put_well_formed}
+use Rattle.mh_pager.proofs.PlacesAllMoves.{PutSoFar-start, PutSoFar-more, put-exceeds, found-valid}
 use Rattle.mh_pager.proofs.stepping.put_all.Goals as goal
 
 pub loop-found-init : goal.loop-found-init
 loop-found-init g c = record {
-  row = rw c.in_ok-row.ensures.items (put-start (plain_of c.args.grammar.now) c.args.moves.items (work_of c.args.worklist.now));
+  row = rw c.in_ok-row.ensures.items (PutSoFar-start (plain_of c.args.grammar.now) c.args.moves.items (merge_state_of c.args.worklist.now));
   ready = c.requires.ready;
   few = c.requires.few;
   kept = c.requires.kept;
@@ -22,15 +22,15 @@ put-requires g c =
     let turn = YieldsList-turn (YieldsList-from_vec {s = c.into_iter-found-iterator.result} c.args.moves.items (search rules) (search rules))
     c.loop-found.yielded c.loop-found.found-iterator c.loop-found.yielded_by c.next.result c.next.new.self c.in-Some.found c.in-Some.is c.next.ensures.steps in
     let valid = found-valid (plain_of c.args.grammar.now) c.args.moves.items (length c.loop-found.yielded) c.in-Some.found turn c.requires.moves in
-    (search rules, (search rules, (c.requires.small, (c.requires.range, (valid, (c.loop-found.invariant.ready, (c.loop-found.invariant.few, c.loop-found.invariant.kept)))))))
+    (search rules, (search rules, (c.requires.fits, (valid, (c.loop-found.invariant.ready, (c.loop-found.invariant.few, c.loop-found.invariant.kept))))))
 
 pub loop-found-preserved : goal.loop-found-preserved
 loop-found-preserved g c =
     let turn = YieldsList-turn (YieldsList-from_vec {s = c.into_iter-found-iterator.result} c.args.moves.items (search rules) (search rules))
     c.loop-found.yielded c.loop-found.found-iterator c.loop-found.yielded_by c.next.result c.next.new.self c.in-Some.found c.in-Some.is c.next.ensures.steps in
     record {
-      row = rw c.in_ok-push-in-Ok.ensures.items (put-more (plain_of c.args.grammar.now) c.args.moves.items c.loop-found.yielded (work_of c.args.worklist.now) (work_of c.loop-found.worklist) (work_of c.put.new.self) c.loop-found.row.items c.in-Some.found c.in-Ok.target c.loop-found.invariant.row turn c.in-Ok.ensures.ok);
-      ready = put_ready (plain_of c.args.grammar.now) c.in-Some.found.kernel (work_of c.loop-found.worklist) (work_of c.put.new.self) c.in-Ok.target (found-valid (plain_of c.args.grammar.now) c.args.moves.items (length c.loop-found.yielded) c.in-Some.found turn c.requires.moves) c.loop-found.invariant.ready c.in-Ok.ensures.ok;
+      row = rw c.in_ok-push-in-Ok.ensures.items (PutSoFar-more (plain_of c.args.grammar.now) c.args.moves.items c.loop-found.yielded (merge_state_of c.args.worklist.now) (merge_state_of c.loop-found.worklist) (merge_state_of c.put.new.self) c.loop-found.row.items c.in-Some.found c.in-Ok.target c.loop-found.invariant.row turn c.in-Ok.ensures.ok);
+      ready = put_well_formed (plain_of c.args.grammar.now) c.in-Some.found.kernel (merge_state_of c.loop-found.worklist) (merge_state_of c.put.new.self) c.in-Ok.target (found-valid (plain_of c.args.grammar.now) c.args.moves.items (length c.loop-found.yielded) c.in-Some.found turn c.requires.moves) c.loop-found.invariant.ready c.in-Ok.ensures.ok;
       few = c.in-Ok.ensures.few;
       kept = c.in-Ok.ensures.kept;
     }
@@ -42,7 +42,7 @@ returns-in-Err-clause-over g c same closed is are =
     let begins : c.loop-found.yielded ≡ take (length c.loop-found.yielded) c.args.moves.items = rw map-id at (YieldsList-so_far list c.loop-found.yielded c.loop-found.found-iterator c.loop-found.yielded_by) in
     let fault : c.in-Err.fault ≡ TooManyStates = cc in
     let o = c.in-Err.ensures.over (ap Err fault) in
-    put-over (plain_of c.args.grammar.now) c.args.moves.items c.loop-found.yielded (work_of c.args.worklist.now) (work_of c.loop-found.worklist) o.1 c.loop-found.row.items c.in-Some.found o.0 c.loop-found.invariant.row turn o.2 begins MAX_STATES o.3 closed is are
+    put-exceeds (plain_of c.args.grammar.now) c.args.moves.items c.loop-found.yielded (merge_state_of c.args.worklist.now) (merge_state_of c.loop-found.worklist) o.1 c.loop-found.row.items c.in-Some.found o.0 c.loop-found.invariant.row turn o.2 begins MAX_STATES o.3 closed is are
 
 pub returns-clause-ok : goal.returns-clause-ok
 returns-clause-ok g c =

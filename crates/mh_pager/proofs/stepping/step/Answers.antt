@@ -6,12 +6,12 @@ use Rattle.mh_grammar.proofs.Lists.{contains_here}
 use Rattle.mh_items_kernels.specs.Collection.{targets_of}
 use Rattle.mh_items_kernels.specs.declared.kernels.StatesFault.TheVariants.{TooManyStates}
 use Rattle.mh_canon_states.specs.declared.limits.TheConstants.{MAX_STATES}
-use Rattle.mh_pager.specs.code.Stepping.{with_first}
-use Rattle.mh_pager.specs.code.Worklist.{work_of}
-use Rattle.mh_pager_steps.proofs.Only.{all_put_longer}
-use Rattle.mh_pager.proofs.Readying.{taken_ready}
-use Rattle.mh_pager.proofs.Rowing.{step_made, step_over, row_ready}
-use Rattle.mh_pager.proofs.Turning.{symbols_in}
+use Rattle.mh_pager.specs.code.MergeStep.{with_oldest}
+use Rattle.mh_pager.specs.code.Worklist.{merge_state_of}
+use Rattle.mh_pager_steps.proofs.StepsAreUnique.{all_put_longer}
+use Rattle.mh_pager.proofs.IsWellFormed.{rest_well_formed}
+use Rattle.mh_pager.proofs.IsPlacedRow.{merge_step_of_row, step_exceeds, row_ready}
+use Rattle.mh_pager.proofs.PlacesAllMoves.{symbols_in}
 use Rattle.mh_pager.proofs.stepping.step.Goals as goal
 
 pub index-requires : goal.index-requires
@@ -25,21 +25,21 @@ moves-requires g c =
     let kernels = c.args.worklist.now.kernels.items in
     let l = c.requires.ready.queued c.args.state (contains_here c.args.state c.args.worklist.now.queue.states.items) in
     let at : slice_get kernels c.args.state ≡ Some k = slice_get_read kernels (length kernels) c.args.state k refl l c.index.ensures in
-    (search rules, (search rules, (c.requires.small, (c.requires.width, (c.requires.range, (c.requires.mover, c.requires.ready.valid c.args.state k at))))))
+    (search rules, (search rules, (c.requires.fits, (c.requires.mover, c.requires.ready.valid c.args.state k at))))
 
 pub put_all-requires : goal.put_all-requires
 put_all-requires g c =
     let of = c.in_ok-moves.ensures.moves in
-    let ready = taken_ready (plain_of c.args.grammar.now) c.args.worklist.now.kernels.items c.args.worklist.now.rows.items c.args.state c.args.worklist.now.queue.states.items c.requires.ready in
-    (search rules, (search rules, (c.requires.small, (c.requires.range, ((of.closed, of.valid, of.are), (ready, (c.requires.few, c.requires.kept)))))))
+    let ready = rest_well_formed (plain_of c.args.grammar.now) c.args.worklist.now.kernels.items c.args.worklist.now.rows.items c.args.state c.args.worklist.now.queue.states.items c.requires.ready in
+    (search rules, (search rules, (c.requires.fits, ((of.closed, of.valid, of.are), (ready, (c.requires.few, c.requires.kept))))))
 
 pub index_mut-requires : goal.index_mut-requires
 index_mut-requires g c =
     let of = c.in_ok-moves.ensures.moves in
-    let old = work_of c.args.worklist.now in
-    let new = work_of c.put_all.new.worklist in
+    let old = merge_state_of c.args.worklist.now in
+    let new = merge_state_of c.put_all.new.worklist in
     let l = c.requires.ready.queued c.args.state (contains_here c.args.state c.args.worklist.now.queue.states.items) in
-    let ready = taken_ready (plain_of c.args.grammar.now) c.args.worklist.now.kernels.items c.args.worklist.now.rows.items c.args.state c.args.worklist.now.queue.states.items c.requires.ready in
+    let ready = rest_well_formed (plain_of c.args.grammar.now) c.args.worklist.now.kernels.items c.args.worklist.now.rows.items c.args.state c.args.worklist.now.queue.states.items c.requires.ready in
     let r = c.in-Ok.ensures.ok of.closed of.valid of.are in
     let symbols = symbols_in c.in_ok-moves.moves.items in
     let longer = all_put_longer (plain_of c.args.grammar.now) c.index.result.now symbols (targets_of c.in-Ok.row) old new (r.put c.index.result.now of.same) in
@@ -53,7 +53,7 @@ returns-in-Ok-clause-ok g c =
     let l = c.requires.ready.queued c.args.state (contains_here c.args.state c.args.worklist.now.queue.states.items) in
     let at : slice_get kernels c.args.state ≡ Some k = slice_get_read kernels (length kernels) c.args.state k refl l c.index.ensures in
     let of = c.in_ok-moves.ensures.moves in
-    step_made (plain_of c.args.grammar.now) k of.closed of.valid of.same (symbols_in c.in_ok-moves.moves.items) of.are.rising of.are.exact (with_first c.args.worklist.now c.args.state) c.args.state c.args.worklist.now.queue.states.items refl at c.in-Ok.row (work_of c.put_all.new.worklist) (c.in-Ok.ensures.ok of.closed of.valid of.are)
+    merge_step_of_row (plain_of c.args.grammar.now) k of.closed of.valid of.same (symbols_in c.in_ok-moves.moves.items) of.are.rising of.are.exact (with_oldest c.args.worklist.now c.args.state) c.args.state c.args.worklist.now.queue.states.items refl at c.in-Ok.row (merge_state_of c.put_all.new.worklist) (c.in-Ok.ensures.ok of.closed of.valid of.are)
 
 pub returns-in-Err-clause-over : goal.returns-in-Err-clause-over
 returns-in-Err-clause-over g c same =
@@ -63,7 +63,7 @@ returns-in-Err-clause-over g c same =
     let at : slice_get kernels c.args.state ≡ Some k = slice_get_read kernels (length kernels) c.args.state k refl l c.index.ensures in
     let of = c.in_ok-moves.ensures.moves in
     let fault : c.in-Err.fault ≡ TooManyStates = cc in
-    step_over (plain_of c.args.grammar.now) k of.closed of.valid of.same (symbols_in c.in_ok-moves.moves.items) of.are.rising of.are.exact (with_first c.args.worklist.now c.args.state) c.args.state c.args.worklist.now.queue.states.items refl at MAX_STATES (c.in-Err.ensures.over (ap Err fault) of.closed of.valid of.are)
+    step_exceeds (plain_of c.args.grammar.now) k of.closed of.valid of.same (symbols_in c.in_ok-moves.moves.items) of.are.rising of.are.exact (with_oldest c.args.worklist.now c.args.state) c.args.state c.args.worklist.now.queue.states.items refl at MAX_STATES (c.in-Err.ensures.over (ap Err fault) of.closed of.valid of.are)
 
 pub returns-in-Ok-clause-kept : goal.returns-in-Ok-clause-kept
 returns-in-Ok-clause-kept g c =

@@ -2,9 +2,9 @@ use Rattle.std.proofs.Common.{◌≡◌, ◌<◌, Some, length, refl, arith}
 use Rattle.std.specs.List.{slice_get}
 use Rattle.std.proofs.lemmas.Option.{slice_get_read}
 use Rattle.mh_grammar.specs.Plain.{plain_of}
-use Rattle.mh_items_kernels.specs.Shapes.{Kernel}
-use Rattle.mh_pager_steps.proofs.Paired.{core_paired}
-use Rattle.mh_pager.proofs.Uniting.{JoinedSoFar, joined-more, joined_kernel, joined_exact}
+use Rattle.mh_items_kernels.specs.KernelTypes.{Kernel}
+use Rattle.mh_pager_steps.proofs.HaveSameCoreList.{core_paired}
+use Rattle.mh_pager.proofs.IsJoin.{JoinedSoFar, JoinedSoFar-more, joined_kernel, joined_exact}
 use Rattle.mh_pager.proofs.unions.joined.Goals as goal
 
 pub offset_bounds-theirs-i : goal.offset_bounds-theirs-i
@@ -26,7 +26,7 @@ loop-i-preserved g c =
     let within : i < length theirs = rw c.as_slice-theirs.ensures (omega (arith, paired.0, rw c.as_slice-ours.ensures at c.loop-i-test.true)) in
     let at : slice_get ours i ≡ Some c.index-ours-i.result = slice_get_read ours (length ours) i c.index-ours-i.result refl c.loop-i-test.true c.index-ours-i.is in
     let to : slice_get theirs i ≡ Some c.index-theirs-i.result = slice_get_read theirs (length theirs) i c.index-theirs-i.result refl within c.index-theirs-i.is in
-    rw c.in_ok-push.ensures.items (joined-more ours theirs c.loop-i.items.items i c.index-ours-i.result c.index-theirs-i.result c.joined_item.result at to c.joined_item.ensures c.loop-i.invariant)
+    rw c.in_ok-push.ensures.items (JoinedSoFar-more ours theirs c.loop-i.items.items i c.index-ours-i.result c.index-theirs-i.result c.joined_item.result at to c.joined_item.ensures c.loop-i.invariant)
 
 pub returns-clause-kernel : goal.returns-clause-kernel
 returns-clause-kernel g c =

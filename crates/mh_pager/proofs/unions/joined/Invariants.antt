@@ -1,4 +1,4 @@
-use Rattle.mh_pager.proofs.Uniting.{JoinedSoFar}
+use Rattle.mh_pager.proofs.IsJoin.{JoinedSoFar}
 use Rattle.mh_pager.proofs.unions.joined.Given as goal
 
 abbrev pub invariant-loop-i : goal.invariant-loop-i

@@ -1,10 +1,11 @@
 use Rattle.std.proofs.Common.{◌≡◌, ◌↔◌, Bool, List, true, false, not, IsTrue, refl, inl, inr}
 use Rattle.mh_grammar.specs.declared.types.Look.{Look}
-use Rattle.mh_pager_steps.specs.code.Kernels.{Common, Fit}
+use Rattle.mh_pager_steps.specs.code.ItemLists.{ShareLook, MeetsCondition}
 use Rattle.mh_pager_steps.proofs.compatible.fit.Goals as goal
 
--- neither kernel has a look at both places, and the first one's look at the one place is not the other's at the other
-last : (a b c d : List Look) (ac bd ad cb : Bool) → (IsTrue ac ↔ Common a c) → (IsTrue bd ↔ Common b d) → (IsTrue ad ↔ Common a d) → (IsTrue cb ↔ Common c b) → ac ≡ false → bd ≡ false → ad ≡ false → IsTrue (not cb) ↔ Fit a b c d
+-- The last test decides Pager's condition if neither kernel has a look in common between its two items and the looks a
+-- and d are disjoint.
+last : (a b c d : List Look) (ac bd ad cb : Bool) → (IsTrue ac ↔ ShareLook a c) → (IsTrue bd ↔ ShareLook b d) → (IsTrue ad ↔ ShareLook a d) → (IsTrue cb ↔ ShareLook c b) → ac ≡ false → bd ≡ false → ad ≡ false → IsTrue (not cb) ↔ MeetsCondition a b c d
 last a b c d ac bd ad true p q r s n m k = (
   (λ t. cc),
   (λ f. elim f [

@@ -1,8 +1,8 @@
 use Rattle.std.proofs.Common.{◌≡◌, ℕ, List, Some, length, refl, sym, ◌∙◌}
 use Rattle.std.specs.List.{slice_get}
 use Rattle.std.proofs.lemmas.Option.{slice_get_read}
-use Rattle.mh_items_kernels.specs.Shapes.{KernelItem}
-use Rattle.mh_pager_steps.specs.code.Kernels.{Fit, FitAt}
+use Rattle.mh_items_kernels.specs.KernelTypes.{KernelItem}
+use Rattle.mh_pager_steps.specs.code.ItemLists.{MeetsCondition, MeetsConditionAt}
 use Rattle.mh_pager_steps.proofs.compatible.fit_at.Goals as goal
 
 pub returns : goal.returns
@@ -22,7 +22,7 @@ returns g c =
     let is = c.fit.ensures in
     ((λ t. fits left right i j a b d e at at' to to' (is.0 t)), (λ h. is.1 (h a b d e at at' to to')))
   where
-    fits : (left right : List KernelItem) (i j : ℕ) (a b d e : KernelItem) → slice_get left i ≡ Some a → slice_get right i ≡ Some b → slice_get left j ≡ Some d → slice_get right j ≡ Some e → Fit a.looks b.looks d.looks e.looks → FitAt left right i j
+    fits : (left right : List KernelItem) (i j : ℕ) (a b d e : KernelItem) → slice_get left i ≡ Some a → slice_get right i ≡ Some b → slice_get left j ≡ Some d → slice_get right j ≡ Some e → MeetsCondition a.looks b.looks d.looks e.looks → MeetsConditionAt left right i j
     fits left right i j a b d e at at' to to' fit a2 b2 d2 e2 p q r s =
         let one : Some a ≡ Some a2 = sym at ∙ p in
         let two : Some b ≡ Some b2 = sym at' ∙ q in

@@ -1,7 +1,7 @@
 use Rattle.std.proofs.Common.{sym, rules}
 use Rattle.mh_grammar.specs.Plain.{plain_of}
-use Rattle.mh_pager_steps.specs.code.Kernels.{ArePaired}
-use Rattle.mh_pager_steps.proofs.Paired.{core_paired, within_covers, covers_within}
+use Rattle.mh_pager_steps.specs.code.ItemLists.{HaveSameCoreList}
+use Rattle.mh_pager_steps.proofs.HaveSameCoreList.{core_paired, within_covers, covers_within}
 use Rattle.mh_pager_steps.proofs.finding.covers.Goals as goal
 
 pub are_within-requires : goal.are_within-requires
@@ -14,6 +14,6 @@ returns g c =
     let g = plain_of c.args.grammar.now in
     let k = c.args.state.now in
     let m = c.args.kernel.now in
-    let paired : ArePaired k.items m.items = core_paired g k m c.requires.state c.requires.kernel c.requires.core in
+    let paired : HaveSameCoreList k.items m.items = core_paired g k m c.requires.state c.requires.kernel c.requires.core in
     let is = rw (c.as_slice.ensures, c.as_slice-2.ensures) at c.are_within.ensures in
     ((λ t. within_covers g k m c.requires.state c.requires.kernel paired (is.0 t)), (λ h. is.1 (covers_within g k m c.requires.state c.requires.kernel paired h)))

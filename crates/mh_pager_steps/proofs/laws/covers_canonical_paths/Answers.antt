@@ -1,5 +1,5 @@
 use Rattle.mh_grammar.specs.Plain.{plain_of}
-use Rattle.mh_pager_steps.proofs.Covering.{covers_paths}
+use Rattle.mh_pager_steps.proofs.CoversPaths.{covers_paths}
 use Rattle.mh_pager_steps.proofs.laws.covers_canonical_paths.Goals as goal
 
 pub returns : goal.returns

@@ -1,13 +1,13 @@
 use Rattle.std.proofs.Common.{◌≡◌, ◌++◌, Some}
 use Rattle.std.specs.Prelude.{reverse}
-use Rattle.mh_facts.specs.code.Least.{Label}
-use Rattle.mh_facts.specs.code.Tales.{Tale}
-use Rattle.mh_reach_found.specs.code.Spots.{Journey, heights_of}
-use Rattle.mh_reach_found.proofs.Walking.{LeadsTo}
+use Rattle.mh_facts.specs.code.BestFirst.{Label}
+use Rattle.mh_facts.specs.code.WordAssignment.{WordAssignment}
+use Rattle.mh_reach_found.specs.code.Arrivals.{LabelAssignment, heights_of}
+use Rattle.mh_reach_found.proofs.LabelTrace.{LeadsTo}
 use Rattle.mh_reach.proofs.sentences.walk.Given as goal
 
 abbrev pub invariant-spots : goal.invariant-spots
-invariant-spots l = (tale : Tale l.table l.store) (j : Journey l.table tale.words l.arrivals.spots) (k : Label) → j.labels l.fn.spot ≡ Some k → LeadsTo j.labels l.spot l.backwards.items k.start (k.word ++ reverse l.fn.backwards.items)
+invariant-spots l = (tale : WordAssignment l.table l.store) (j : LabelAssignment l.table tale.words l.arrivals.spots) (k : Label) → j.labels l.fn.spot ≡ Some k → LeadsTo j.labels l.spot l.backwards.items k.start (k.word ++ reverse l.fn.backwards.items)
 
 abbrev pub decreases-spots : goal.decreases-spots
 decreases-spots l = heights_of l.arrivals.spots l.spot

@@ -1,11 +1,11 @@
 use Rattle.std.proofs.Common.{◌≡◌, ℕ, List, ◌++◌, Some}
 use Rattle.std.specs.Prelude.{reverse}
-use Rattle.mh_facts.specs.code.Tales.{Tale, sizes_of}
-use Rattle.mh_reach.proofs.Spelled.{Tells, size_of_all}
+use Rattle.mh_facts.specs.code.WordAssignment.{WordAssignment, sizes_of}
+use Rattle.mh_reach.proofs.WritesWord.{StackSpells, size_of_all}
 use Rattle.mh_reach.proofs.spell.spell.Given as goal
 
 abbrev pub invariant-facts : goal.invariant-facts
-invariant-facts l = (tale : Tale l.table l.store) (w : List ℕ) → tale.words l.fn.key ≡ Some w → Tells tale.words l.stack.items l.backwards.items (w ++ reverse l.fn.backwards.items)
+invariant-facts l = (tale : WordAssignment l.table l.store) (w : List ℕ) → tale.words l.fn.key ≡ Some w → StackSpells tale.words l.stack.items l.backwards.items (w ++ reverse l.fn.backwards.items)
 
 abbrev pub decreases-facts : goal.decreases-facts
 decreases-facts l = size_of_all (sizes_of l.store) l.stack.items

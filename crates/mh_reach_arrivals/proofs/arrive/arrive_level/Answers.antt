@@ -1,9 +1,9 @@
-use Rattle.mh_reach_arrivals.proofs.Levels.{taken_told, taken_known, taken_ready}
+use Rattle.mh_reach_arrivals.proofs.ArrivalLevels.{taken_assignments, taken_known, taken_ready}
 use Rattle.mh_reach_arrivals.proofs.arrive.arrive_level.Goals as goal
 
 pub ordered-requires-clause-told : goal.ordered-requires-clause-told
 ordered-requires-clause-told c =
-    taken_told c.args.table.now c.facts.ensures c.args.classes.now c.requires.classes c.args.found.now c.args.second.now.arrivals.spots c.args.second.now.queue.buckets.items c.take_all.new.queue.buckets.items c.args.cost c.in_ok-all.all.items c.requires.good c.in_ok-all.ensures
+    taken_assignments c.args.table.now c.facts.ensures c.args.classes.now c.requires.classes c.args.found.now c.args.second.now.arrivals.spots c.args.second.now.queue.buckets.items c.take_all.new.queue.buckets.items c.args.cost c.in_ok-all.all.items c.requires.good c.in_ok-all.ensures
 
 pub ordered-requires-clause-known : goal.ordered-requires-clause-known
 ordered-requires-clause-known c =

@@ -1,16 +1,16 @@
 use Rattle.std.proofs.Common.{◌<◌, ◌++◌, ◌∷◌, [], arith, drop, inl, sym}
-use Rattle.mh_facts.specs.code.Rows.{Gains}
-use Rattle.mh_reach_arrivals.specs.code.Arriving.{ComesNext, GoesOn, ReadyAt}
-use Rattle.mh_reach_arrivals.proofs.Arriving.{arrival_for, arrive_settles}
-use Rattle.mh_reach_arrivals.proofs.Levels.{level_drained, level_pushed}
-use Rattle.mh_reach_arrivals.proofs.Spotting.{unreached, unreached_less}
+use Rattle.mh_facts.specs.code.Queues.{QueueGains}
+use Rattle.mh_reach_arrivals.specs.code.ArrivalSearch.{TakesUnreached, FollowsArrival, ArrivalsReady}
+use Rattle.mh_reach_arrivals.proofs.ArrivalInvariant.{arrival_for, settling_in_order}
+use Rattle.mh_reach_arrivals.proofs.ArrivalLevels.{level_drained, level_pushed}
+use Rattle.mh_reach_arrivals.proofs.Unreached.{unreached, unreached_less}
 use Rattle.mh_reach_arrivals.proofs.arrive.arrive_one.Goals as goal
 
 pub turns-init : goal.turns-init
 turns-init c =
     let g = c.requires.ready in
     let rest = drop 1 c.args.level.now.comings.now in
-    let ready : ReadyAt c.args.table.now c.args.classes.now g.found_is.tale.words c.args.found.now.work c.args.second.now.arrivals.spots c.args.second.now.queue.buckets.items c.args.level.now.cost (c.first_of.result ∷ rest) = rw (sym c.first_of.ensures) g.ready in
+    let ready : ArrivalsReady c.args.table.now c.args.classes.now g.found_is.tale.words c.args.found.now.work c.args.second.now.arrivals.spots c.args.second.now.queue.buckets.items c.args.level.now.cost (c.first_of.result ∷ rest) = rw (sym c.first_of.ensures) g.ready in
     record {
       found_is = g.found_is;
       order = level_pushed c.args.table.now c.facts.ensures c.args.classes.now c.requires.classes g.found_is.tale.words c.args.found.now.work g.found_is.wholes c.args.second.now.arrivals.spots c.args.second.now.queue.buckets.items c.args.level.now.cost c.push.new.queue.buckets.items c.first_of.result rest ready c.in_ok-push.ensures;
@@ -26,7 +26,7 @@ returns-in-None c =
 
 pub arrive_at-requires : goal.arrive_at-requires
 arrive_at-requires c =
-    let next : ComesNext c.turns.second.arrivals.spots c.turns.second.queue.buckets.items c.next_coming.new.queue.buckets.items c.args.level.now.cost c.in-Some.coming = rw c.in-Some.is at c.next_coming.ensures in
+    let next : TakesUnreached c.turns.second.arrivals.spots c.turns.second.queue.buckets.items c.next_coming.new.queue.buckets.items c.args.level.now.cost c.in-Some.coming = rw c.in-Some.is at c.next_coming.ensures in
     next.fresh
 
 pub go_on-requires-clause-rows : goal.go_on-requires-clause-rows
@@ -37,30 +37,30 @@ go_on-requires-clause-few c n w h = (c.turns.invariant.found_is.wholes n w (rw c
 
 pub go_on-requires-clause-state : goal.go_on-requires-clause-state
 go_on-requires-clause-state c =
-    let next : ComesNext c.turns.second.arrivals.spots c.turns.second.queue.buckets.items c.next_coming.new.queue.buckets.items c.args.level.now.cost c.in-Some.coming = rw c.in-Some.is at c.next_coming.ensures in
+    let next : TakesUnreached c.turns.second.arrivals.spots c.turns.second.queue.buckets.items c.next_coming.new.queue.buckets.items c.args.level.now.cost c.in-Some.coming = rw c.in-Some.is at c.next_coming.ensures in
     (c.turns.invariant.order.good.items c.args.level.now.cost c.in-Some.coming (inl next.was)).state
 
 pub go_on-requires-clause-next : goal.go_on-requires-clause-next
 go_on-requires-clause-next c =
-    let next : ComesNext c.turns.second.arrivals.spots c.turns.second.queue.buckets.items c.next_coming.new.queue.buckets.items c.args.level.now.cost c.in-Some.coming = rw c.in-Some.is at c.next_coming.ensures in
+    let next : TakesUnreached c.turns.second.arrivals.spots c.turns.second.queue.buckets.items c.next_coming.new.queue.buckets.items c.args.level.now.cost c.in-Some.coming = rw c.in-Some.is at c.next_coming.ensures in
     (c.turns.invariant.order.good.items c.args.level.now.cost c.in-Some.coming (inl next.was)).token
 
 pub turns-preserved : goal.turns-preserved
 turns-preserved c =
     let g = c.turns.invariant in
     let i = c.in-Some.coming in
-    let next : ComesNext c.turns.second.arrivals.spots c.turns.second.queue.buckets.items c.next_coming.new.queue.buckets.items c.args.level.now.cost i = rw c.in-Some.is at c.next_coming.ensures in
-    let more : Gains (GoesOn c.args.table.now c.args.classes.now c.args.found.now.work i.spot c.args.level.now.cost) c.next_coming.new.queue.buckets.items c.go_on.new.queue.buckets.items = rw c.as_slice-wholes.ensures.value at c.in_ok-go_on-in-Some.ensures in
+    let next : TakesUnreached c.turns.second.arrivals.spots c.turns.second.queue.buckets.items c.next_coming.new.queue.buckets.items c.args.level.now.cost i = rw c.in-Some.is at c.next_coming.ensures in
+    let more : QueueGains (FollowsArrival c.args.table.now c.args.classes.now c.args.found.now.work i.spot c.args.level.now.cost) c.next_coming.new.queue.buckets.items c.go_on.new.queue.buckets.items = rw c.as_slice-wholes.ensures.value at c.in_ok-go_on-in-Some.ensures in
     record {
       found_is = g.found_is;
-      order = rw c.in_ok-arrive_at-in-Some.ensures (arrive_settles c.args.table.now c.facts.ensures c.args.classes.now c.requires.classes g.found_is.tale.words c.args.found.now.work g.found_is.wholes c.turns.second.arrivals.spots c.turns.second.queue.buckets.items c.args.level.now.cost (drop 1 c.args.level.now.comings.now) g.order.good g.order.flat g.order.rising
+      order = rw c.in_ok-arrive_at-in-Some.ensures (settling_in_order c.args.table.now c.facts.ensures c.args.classes.now c.requires.classes g.found_is.tale.words c.args.found.now.work g.found_is.wholes c.turns.second.arrivals.spots c.turns.second.queue.buckets.items c.args.level.now.cost (drop 1 c.args.level.now.comings.now) g.order.good g.order.flat g.order.rising
           c.next_coming.new.queue.buckets.items c.go_on.new.queue.buckets.items i next more c.requires.cost);
     }
 
 pub turns-smaller : goal.turns-smaller
 turns-smaller c =
     let i = c.in-Some.coming in
-    let next : ComesNext c.turns.second.arrivals.spots c.turns.second.queue.buckets.items c.next_coming.new.queue.buckets.items c.args.level.now.cost i = rw c.in-Some.is at c.next_coming.ensures in
+    let next : TakesUnreached c.turns.second.arrivals.spots c.turns.second.queue.buckets.items c.next_coming.new.queue.buckets.items c.args.level.now.cost i = rw c.in-Some.is at c.next_coming.ensures in
     let ok = c.turns.invariant.order.good.items c.args.level.now.cost i (inl next.was) in
     let few = c.facts.ensures.ranges.few_states in
     let tokens = c.facts.ensures.ranges.grammar.tokens in

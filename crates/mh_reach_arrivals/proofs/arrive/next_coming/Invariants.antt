@@ -1,11 +1,11 @@
 use Rattle.std.proofs.Common.{length}
-use Rattle.mh_facts.specs.code.Rows.{row_of}
-use Rattle.mh_reach_found.proofs.Queueing.{Thinned}
-use Rattle.mh_reach_arrivals.specs.code.Arriving.{IsDone}
+use Rattle.mh_facts.specs.code.Queues.{row_of}
+use Rattle.mh_reach_found.proofs.QueueDraws.{Thinned}
+use Rattle.mh_reach_arrivals.specs.code.ArrivalSearch.{IsReachedAlready}
 use Rattle.mh_reach_arrivals.proofs.arrive.next_coming.Given as goal
 
 abbrev pub invariant-items : goal.invariant-items
-invariant-items l = Thinned (IsDone l.arrivals.spots) l.fn.queue.buckets.items l.queue.buckets.items
+invariant-items l = Thinned (IsReachedAlready l.arrivals.spots) l.fn.queue.buckets.items l.queue.buckets.items
 
 abbrev pub decreases-items : goal.decreases-items
 decreases-items l = length (row_of l.queue.buckets.items l.cost)

@@ -1,6 +1,6 @@
 use Rattle.std.proofs.Common.{arith}
-use Rattle.mh_reach_arrivals.specs.code.Arriving.{StepsOn}
-use Rattle.mh_facts.proofs.Gaining.{first_next, first_all}
+use Rattle.mh_reach_arrivals.specs.code.ArrivalSearch.{StepsOn}
+use Rattle.mh_facts.proofs.QueueGains.{first_next, first_all}
 use Rattle.mh_reach_arrivals.proofs.arrive.push_each.Goals as goal
 
 pub loop-next-preserved : goal.loop-next-preserved

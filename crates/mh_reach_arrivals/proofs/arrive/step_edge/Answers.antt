@@ -1,9 +1,9 @@
 use Rattle.std.proofs.Common.{ℕ, ◌≡◌, sym, ◌∙◌}
 use Rattle.std.proofs.lemmas.Result.{on_ok_weaker}
 use Rattle.mh_grammar.specs.declared.types.Symbol.TheVariants.{T, N}
-use Rattle.mh_reach_arrivals.specs.code.Arriving.{StepsAlong, StepsEdge}
-use Rattle.mh_facts.proofs.Gaining.{gains_by, gains_none}
-use Rattle.mh_facts.proofs.Edging.{known_token}
+use Rattle.mh_reach_arrivals.specs.code.ArrivalSearch.{StepsAlong, StepsEdge}
+use Rattle.mh_facts.proofs.QueueGains.{gains_by, gains_none}
+use Rattle.mh_facts.proofs.Edges.{known_token}
 use Rattle.mh_reach_arrivals.proofs.arrive.step_edge.Goals as goal
 
 one_token : (a b : ℕ) → T a ≡ T b → a ≡ b

@@ -4,10 +4,10 @@ use Rattle.std.proofs.lemmas.List.Elements.{Contains-get_or}
 use Rattle.mh_grammar.specs.declared.types.Symbol.TheVariants.{T}
 use Rattle.mh_grammar.specs.declared.edges.Edge.{Edge}
 use Rattle.mh_tables_core.specs.Table.{state_at}
-use Rattle.mh_reach_arrivals.specs.code.Arriving.{StepsEdge}
-use Rattle.mh_facts.proofs.Gaining.{first_next, first_all}
-use Rattle.mh_facts.proofs.Edging.{edge_leads}
-use Rattle.mh_reach_arrivals.proofs.Stepping.{step_gains}
+use Rattle.mh_reach_arrivals.specs.code.ArrivalSearch.{StepsEdge}
+use Rattle.mh_facts.proofs.QueueGains.{first_next, first_all}
+use Rattle.mh_facts.proofs.Edges.{edge_leads}
+use Rattle.mh_reach_arrivals.proofs.StepsShift.{step_gains}
 use Rattle.mh_reach_arrivals.proofs.arrive.step_shifts.Goals as goal
 
 pub step_edge-requires-clause-edge : goal.step_edge-requires-clause-edge

@@ -1,10 +1,10 @@
 use Rattle.std.proofs.Common.{length}
-use Rattle.mh_facts.specs.code.Rows.{row_of}
-use Rattle.mh_reach_arrivals.specs.code.Arriving.{TakesComings}
+use Rattle.mh_facts.specs.code.Queues.{row_of}
+use Rattle.mh_reach_arrivals.specs.code.ArrivalSearch.{TakesSomeUnreached}
 use Rattle.mh_reach_arrivals.proofs.arrive.take_all.Given as goal
 
 abbrev pub invariant-items : goal.invariant-items
-invariant-items l = TakesComings l.arrivals.spots l.fn.queue.buckets.items l.queue.buckets.items l.cost l.all.items
+invariant-items l = TakesSomeUnreached l.arrivals.spots l.fn.queue.buckets.items l.queue.buckets.items l.cost l.all.items
 
 abbrev pub decreases-items : goal.decreases-items
 decreases-items l = length (row_of l.queue.buckets.items l.cost)

@@ -1,5 +1,5 @@
 use Rattle.std.proofs.lemmas.Result.{IfOk-weaker}
-use Rattle.mh_reach_found.proofs.Tracing.{known_sentence, steps_comparable, steps_later}
+use Rattle.mh_reach_found.proofs.SentenceParts.{known_sentence, steps_comparable, steps_later}
 use Rattle.mh_reach_found.proofs.comparing.comes_later.Goals as goal
 
 pub put_parts-requires-clause-known : goal.put_parts-requires-clause-known

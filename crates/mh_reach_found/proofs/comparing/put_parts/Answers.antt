@@ -1,5 +1,5 @@
 use Rattle.std.proofs.Common.{◌≡◌, ◌∙◌, sym, None, Some}
-use Rattle.mh_reach_found.proofs.Tracing.{rest_begins, rest_ends, rest_goes, from_there, falls}
+use Rattle.mh_reach_found.proofs.SentenceParts.{rest_begins, rest_ends, rest_step, source_arrival, height_falls}
 use Rattle.mh_reach_found.proofs.comparing.put_parts.Goals as goal
 
 pub steps-init : goal.steps-init
@@ -9,7 +9,7 @@ pub unreachable-requires : goal.unreachable-requires
 unreachable-requires c =
     let h = c.requires.known in
     let rest = c.steps.invariant h.t h.words h.journey h.label h.by in
-    let there = from_there h.t h.words c.args.arrivals.now.spots h.journey c.steps.step rest.label c.in-Some.from rest.by (sym c.from_of.ensures ∙ c.in-Some.is) in
+    let there = source_arrival h.t h.words c.args.arrivals.now.spots h.journey c.steps.step rest.label c.in-Some.from rest.by (sym c.from_of.ensures ∙ c.in-Some.is) in
     let y : None ≡ Some there.0 = sym c.in-None-arrival_of.is ∙ c.arrival_of.ensures ∙ there.1 in
     cc
 
@@ -19,9 +19,9 @@ returns-in-None c t words journey whole by =
 
 pub steps-preserved : goal.steps-preserved
 steps-preserved c t words journey whole by =
-    rw (c.in_ok-push.ensures.items, c.part_of.ensures) (rest_goes t words c.args.arrivals.now.spots journey c.steps.step c.steps.parts.items whole c.in-Some.from c.in-Some-arrival_of.arrival (sym c.from_of.ensures ∙ c.in-Some.is) (sym c.arrival_of.ensures ∙ c.in-Some-arrival_of.is) (c.steps.invariant t words journey whole by))
+    rw (c.in_ok-push.ensures.items, c.part_of.ensures) (rest_step t words c.args.arrivals.now.spots journey c.steps.step c.steps.parts.items whole c.in-Some.from c.in-Some-arrival_of.arrival (sym c.from_of.ensures ∙ c.in-Some.is) (sym c.arrival_of.ensures ∙ c.in-Some-arrival_of.is) (c.steps.invariant t words journey whole by))
 
 pub steps-smaller : goal.steps-smaller
 steps-smaller c =
     let h = c.requires.known in
-    falls h.t h.words c.args.arrivals.now.spots h.journey c.steps.step c.in-Some.from c.in-Some-arrival_of.arrival (sym c.from_of.ensures ∙ c.in-Some.is) (sym c.arrival_of.ensures ∙ c.in-Some-arrival_of.is)
+    height_falls h.t h.words c.args.arrivals.now.spots h.journey c.steps.step c.in-Some.from c.in-Some-arrival_of.arrival (sym c.from_of.ensures ∙ c.in-Some.is) (sym c.arrival_of.ensures ∙ c.in-Some-arrival_of.is)

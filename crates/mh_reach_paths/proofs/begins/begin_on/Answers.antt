@@ -1,6 +1,6 @@
 use Rattle.std.proofs.Common.{arith}
-use Rattle.mh_reach_paths.specs.code.Begins.{BeginsOn}
-use Rattle.mh_facts.proofs.Gaining.{first_next, first_all}
+use Rattle.mh_reach_paths.specs.code.EmptyPaths.{BeginsOn}
+use Rattle.mh_facts.proofs.QueueGains.{first_next, first_all}
 use Rattle.mh_reach_paths.proofs.begins.begin_on.Goals as goal
 
 pub loop-production-preserved : goal.loop-production-preserved

@@ -1,6 +1,6 @@
 use Rattle.std.proofs.Common.{arith}
-use Rattle.mh_reach_paths.specs.code.Begins.{EmptyOn}
-use Rattle.mh_facts.proofs.Gaining.{first_next, first_all}
+use Rattle.mh_reach_paths.specs.code.EmptyPaths.{EmptyOn}
+use Rattle.mh_facts.proofs.QueueGains.{first_next, first_all}
 use Rattle.mh_reach_paths.proofs.begins.begin_one.Goals as goal
 
 pub loop-token-preserved : goal.loop-token-preserved

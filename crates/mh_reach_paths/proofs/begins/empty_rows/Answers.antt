@@ -1,7 +1,7 @@
 use Rattle.std.proofs.Common.{◌≡◌, ℕ, ◌+◌, ◌∷◌, [], List, length, length-append, ap, ◌∙◌, arith}
 use Rattle.std.specs.Global.{Vec}
-use Rattle.mh_facts.specs.code.Rows.{row_of}
-use Rattle.mh_facts.proofs.Rowing.{row_more}
+use Rattle.mh_facts.specs.code.Queues.{row_of}
+use Rattle.mh_facts.proofs.QueueRows.{row_more}
 use Rattle.mh_reach_paths.proofs.begins.empty_rows.Goals as goal
 
 pub loop-init : goal.loop-init

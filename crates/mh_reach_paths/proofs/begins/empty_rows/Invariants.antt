@@ -1,5 +1,5 @@
 use Rattle.std.proofs.Common.{◌≡◌, ℕ, length, []}
-use Rattle.mh_facts.specs.code.Rows.{row_of}
+use Rattle.mh_facts.specs.code.Queues.{row_of}
 use Rattle.mh_reach_paths.proofs.begins.empty_rows.Given as goal
 
 abbrev pub invariant-loop : goal.invariant-loop

@@ -1,6 +1,6 @@
 use Rattle.std.proofs.Common.{arith}
-use Rattle.mh_reach_paths.specs.code.Adding.{WithNext}
-use Rattle.mh_facts.proofs.Gaining.{first_next, first_all}
+use Rattle.mh_reach_paths.specs.code.GotoFacts.{WithNext}
+use Rattle.mh_facts.proofs.QueueGains.{first_next, first_all}
 use Rattle.mh_reach_paths.proofs.joins.push_each.Goals as goal
 
 pub loop-next-preserved : goal.loop-next-preserved

@@ -1,6 +1,6 @@
 use Rattle.std.proofs.Common.{◌≡◌, length, arith}
 use Rattle.std.proofs.lemmas.Option.{slice_get-get_or}
-use Rattle.mh_reach_paths.proofs.Numbers.{none_made, made_more}
+use Rattle.mh_reach_paths.proofs.WordNumbers.{none_made, made_more}
 use Rattle.mh_reach_paths.proofs.numbering.all_made.Goals as goal
 
 pub loop-item-init : goal.loop-item-init

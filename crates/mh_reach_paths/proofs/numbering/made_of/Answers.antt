@@ -1,4 +1,4 @@
-use Rattle.mh_reach_paths.proofs.Numbers.{made_shifted, made_reduced}
+use Rattle.mh_reach_paths.proofs.WordNumbers.{made_shifted, made_reduced}
 use Rattle.mh_reach_paths.proofs.numbering.made_of.Goals as goal
 
 pub returns-in-Shifted : goal.returns-in-Shifted

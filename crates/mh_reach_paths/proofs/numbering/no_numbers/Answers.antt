@@ -1,5 +1,5 @@
 use Rattle.std.proofs.Common.{length}
-use Rattle.mh_reach_paths.proofs.Numbers.{all_empty}
+use Rattle.mh_reach_paths.proofs.WordNumbers.{all_empty}
 use Rattle.mh_reach_paths.proofs.numbering.no_numbers.Goals as goal
 
 pub returns : goal.returns

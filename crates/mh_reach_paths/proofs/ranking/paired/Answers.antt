@@ -1,6 +1,6 @@
 use Rattle.std.proofs.Common.{◌≡◌, ◌<◌, length, arith}
 use Rattle.std.proofs.lemmas.Option.{slice_get-get_or}
-use Rattle.mh_reach_paths.proofs.Ranks.{none_paired, paired_more}
+use Rattle.mh_reach_paths.proofs.RankedLevels.{none_paired, paired_more}
 use Rattle.mh_reach_paths.proofs.ranking.paired.Goals as goal
 
 pub loop-place-init : goal.loop-place-init

@@ -1,4 +1,4 @@
-use Rattle.mh_reach_paths.specs.code.Ranking.{ArePaired}
+use Rattle.mh_reach_paths.specs.code.Levels.{ArePaired}
 use Rattle.mh_reach_paths.proofs.ranking.paired.Given as goal
 
 abbrev pub invariant-loop-place : goal.invariant-loop-place

@@ -1,10 +1,10 @@
 use Rattle.std.proofs.Common.{length}
-use Rattle.mh_facts.specs.code.Rows.{row_of}
-use Rattle.mh_reach_paths.specs.code.Good.{AllNew}
+use Rattle.mh_facts.specs.code.Queues.{row_of}
+use Rattle.mh_reach_paths.specs.code.LevelInvariant.{TakesSomeUnsettled}
 use Rattle.mh_reach_paths.proofs.settling.all_new.Given as goal
 
 abbrev pub invariant-items : goal.invariant-items
-invariant-items l = AllNew l.store l.fn.queue.buckets.items l.queue.buckets.items l.cost l.all.items
+invariant-items l = TakesSomeUnsettled l.store l.fn.queue.buckets.items l.queue.buckets.items l.cost l.all.items
 
 abbrev pub decreases-items : goal.decreases-items
 decreases-items l = length (row_of l.queue.buckets.items l.cost)

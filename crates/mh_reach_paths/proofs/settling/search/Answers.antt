@@ -1,7 +1,7 @@
 use Rattle.std.proofs.Common.{◌≡◌, ◌≤◌, ◌+◌, refl, arith}
 use Rattle.mh_facts.specs.Costs.{cap}
-use Rattle.mh_reach_paths.proofs.Turns.{search_done, search_ends}
-use Rattle.mh_reach_paths.proofs.Ranks.{before_all}
+use Rattle.mh_reach_paths.proofs.SearchSteps.{search_done, search_ends}
+use Rattle.mh_reach_paths.proofs.RankedLevels.{before_all}
 use Rattle.mh_reach_paths.proofs.settling.search.Goals as goal
 
 pub loop-cost-init : goal.loop-cost-init

@@ -1,4 +1,4 @@
-use Rattle.mh_reach_paths.specs.code.Ranking.{BeforeLevel}
+use Rattle.mh_reach_paths.specs.code.Levels.{BeforeLevel}
 use Rattle.mh_reach_paths.proofs.settling.search.Given as goal
 
 abbrev pub invariant-loop-cost : goal.invariant-loop-cost

@@ -1,6 +1,6 @@
 use Rattle.std.proofs.Common.{◌≤◌, arith, length}
 use Rattle.std.proofs.Math.ListN.{drop_of_length-le}
-use Rattle.mh_reach_paths.proofs.Ranks.{ranked_done}
+use Rattle.mh_reach_paths.proofs.RankedLevels.{ranked_done}
 use Rattle.mh_reach_paths.proofs.settling.settle_each.Goals as goal
 
 pub returns : goal.returns

@@ -1,5 +1,5 @@
 use Rattle.std.proofs.Common.{drop}
-use Rattle.mh_reach_paths.specs.code.Ranking.{InLevel}
+use Rattle.mh_reach_paths.specs.code.Levels.{InLevel}
 use Rattle.mh_reach_paths.proofs.settling.settle_each.Given as goal
 
 abbrev pub invariant-loop-place : goal.invariant-loop-place

@@ -1,4 +1,4 @@
-use Rattle.mh_reach_words.proofs.Growing.{entry_found}
+use Rattle.mh_reach_words.proofs.LongerBook.{entry_found}
 use Rattle.mh_reach_words.proofs.comparing.entry_at.Goals as goal
 
 pub returns : goal.returns

@@ -1,5 +1,5 @@
 use Rattle.std.proofs.Common.{sym}
-use Rattle.mh_reach_words.proofs.Growing.{empty_group, entry_group}
+use Rattle.mh_reach_words.proofs.LongerBook.{empty_group, entry_group}
 use Rattle.mh_reach_words.proofs.comparing.group_at.Goals as goal
 
 pub returns-in-None : goal.returns-in-None

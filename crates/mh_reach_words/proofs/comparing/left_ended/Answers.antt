@@ -1,5 +1,5 @@
 use Rattle.mh_reach_words.specs.code.Words.{words_of}
-use Rattle.mh_reach_words.proofs.Turning.{left_ends}
+use Rattle.mh_reach_words.proofs.IsComparisonStep.{left_ends}
 use Rattle.mh_reach_words.proofs.comparing.left_ended.Goals as goal
 
 pub returns-in-Token : goal.returns-in-Token

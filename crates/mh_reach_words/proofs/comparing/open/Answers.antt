@@ -1,6 +1,6 @@
 use Rattle.std.proofs.Common.{refl}
 use Rattle.std.proofs.lemmas.Result.{on_ok_weaker}
-use Rattle.mh_reach_words.proofs.Parts.{opens_empty, opens_entry}
+use Rattle.mh_reach_words.proofs.PartStacks.{opens_empty, opens_entry}
 use Rattle.mh_reach_words.proofs.comparing.open.Goals as goal
 
 pub returns-in-None : goal.returns-in-None

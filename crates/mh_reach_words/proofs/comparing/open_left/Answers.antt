@@ -1,5 +1,5 @@
 use Rattle.std.proofs.lemmas.Result.{on_ok_weaker}
-use Rattle.mh_reach_words.proofs.Turning.{left_word_known, left_opened}
+use Rattle.mh_reach_words.proofs.IsComparisonStep.{left_word_known, left_opened}
 use Rattle.mh_reach_words.specs.code.Words.{words_of}
 use Rattle.mh_reach_words.proofs.comparing.open_left.Goals as goal
 

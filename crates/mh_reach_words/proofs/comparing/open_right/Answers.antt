@@ -1,5 +1,5 @@
 use Rattle.std.proofs.lemmas.Result.{on_ok_weaker}
-use Rattle.mh_reach_words.proofs.Turning.{right_word_known, right_opened}
+use Rattle.mh_reach_words.proofs.IsComparisonStep.{right_word_known, right_opened}
 use Rattle.mh_reach_words.specs.code.Words.{words_of}
 use Rattle.mh_reach_words.proofs.comparing.open_right.Goals as goal
 

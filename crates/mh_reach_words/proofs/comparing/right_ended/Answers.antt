@@ -1,5 +1,5 @@
 use Rattle.mh_reach_words.specs.code.Words.{words_of}
-use Rattle.mh_reach_words.proofs.Turning.{right_ends}
+use Rattle.mh_reach_words.proofs.IsComparisonStep.{right_ends}
 use Rattle.mh_reach_words.proofs.comparing.right_ended.Goals as goal
 
 pub returns-in-Token : goal.returns-in-Token

@@ -1,7 +1,7 @@
 use Rattle.std.proofs.Common.{ap, ◌≡◌, arith}
-use Rattle.mh_reach_words.specs.declared.made.Last.TheVariants as lasts
+use Rattle.mh_reach_words.specs.declared.word_parts.LastPart.TheVariants as lasts
 use Rattle.mh_reach_words.specs.code.Words.{words_of, group_of}
-use Rattle.mh_reach_words.proofs.Turning.{same_parts, left_word_known, right_word_known, left_first, right_first}
+use Rattle.mh_reach_words.proofs.IsComparisonStep.{same_parts, left_word_known, right_word_known, left_first, right_first}
 use Rattle.mh_reach_words.proofs.comparing.turn_words.Goals as goal
 
 pub returns-then-left-right : goal.returns-then-left-right

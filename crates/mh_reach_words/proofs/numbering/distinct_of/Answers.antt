@@ -1,6 +1,6 @@
 use Rattle.std.proofs.Common.{arith}
 use Rattle.std.proofs.lemmas.Option.{slice_get-get_or}
-use Rattle.mh_reach_words.proofs.Giving.{once_next, once_ends}
+use Rattle.mh_reach_words.proofs.IsNumberedUpTo.{once_next, once_ends}
 use Rattle.mh_reach_words.proofs.numbering.distinct_of.Goals as goal
 
 pub loop-one-preserved : goal.loop-one-preserved

@@ -1,4 +1,4 @@
-use Rattle.mh_reach_words.proofs.Giving.{OnceSoFar}
+use Rattle.mh_reach_words.proofs.IsNumberedUpTo.{OnceSoFar}
 use Rattle.mh_reach_words.proofs.numbering.distinct_of.Given as goal
 
 abbrev pub invariant-loop-one : goal.invariant-loop-one

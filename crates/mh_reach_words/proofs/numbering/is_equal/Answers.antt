@@ -1,5 +1,5 @@
 use Rattle.mh_reach_words.specs.code.Words.{words_of, spelled}
-use Rattle.mh_reach_words.proofs.Ordered.{compared_differs}
+use Rattle.mh_reach_words.proofs.ComparisonOrder.{compared_differs}
 use Rattle.mh_reach_words.proofs.numbering.is_equal.Goals as goal
 
 pub returns-in-Equal : goal.returns-in-Equal

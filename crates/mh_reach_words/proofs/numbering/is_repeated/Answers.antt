@@ -2,7 +2,7 @@ use Rattle.std.proofs.Common.{◌-◌, arith}
 use Rattle.std.proofs.lemmas.Result.{IfOk-weaker}
 use Rattle.mh_grammar.proofs.Lists.{contains_at}
 use Rattle.mh_reach_words.specs.code.Words.{words_of}
-use Rattle.mh_reach_words.proofs.Giving.{repeated_by}
+use Rattle.mh_reach_words.proofs.IsNumberedUpTo.{repeated_by}
 use Rattle.mh_reach_words.proofs.numbering.is_repeated.Goals as goal
 
 pub returns : goal.returns

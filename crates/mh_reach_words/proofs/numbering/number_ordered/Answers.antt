@@ -1,4 +1,4 @@
-use Rattle.mh_reach_words.proofs.Extending.{ordered_known, ordered_even, number_of, is_numbered}
+use Rattle.mh_reach_words.proofs.NumberAll.{ordered_known, ordered_prefix_free, number_of, is_numbered}
 use Rattle.mh_reach_words.proofs.numbering.number_ordered.Goals as goal
 
 pub give-requires-clause-known : goal.give-requires-clause-known
@@ -9,7 +9,7 @@ give-requires-clause-known c =
 pub give-requires-clause-even : goal.give-requires-clause-even
 give-requires-clause-even c =
     let o = c.requires.orders in
-    ordered_even c.args.entries.now c.args.ordered.now.group c.args.made.now o.distinct c.args.ordered.now.made.now o.same o.sorts c.requires.even
+    ordered_prefix_free c.args.entries.now c.args.ordered.now.group c.args.made.now o.distinct c.args.ordered.now.made.now o.same o.sorts c.requires.even
 
 pub give-requires-clause-rises : goal.give-requires-clause-rises
 give-requires-clause-rises c = c.requires.orders.sorts.rises

@@ -1,7 +1,7 @@
 use Rattle.std.proofs.Common.{arith, sym}
 use Rattle.std.proofs.lemmas.Option.{slice_get-get_or}
 use Rattle.mh_grammar.proofs.Lists.{contains_at}
-use Rattle.mh_reach_words.proofs.Giving.{numbers_begin, number_next, numbers_end}
+use Rattle.mh_reach_words.proofs.IsNumberedUpTo.{numbers_begin, number_next, numbers_end}
 use Rattle.mh_reach_words.proofs.numbering.numbers_of.Goals as goal
 
 pub loop-one-init : goal.loop-one-init

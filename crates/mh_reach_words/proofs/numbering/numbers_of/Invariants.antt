@@ -1,4 +1,4 @@
-use Rattle.mh_reach_words.proofs.Giving.{NumberedSoFar}
+use Rattle.mh_reach_words.proofs.IsNumberedUpTo.{NumberedSoFar}
 use Rattle.mh_reach_words.proofs.numbering.numbers_of.Given as goal
 
 abbrev pub invariant-loop-one : goal.invariant-loop-one

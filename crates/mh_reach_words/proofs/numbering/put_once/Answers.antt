@@ -1,4 +1,4 @@
-use Rattle.mh_reach_words.proofs.Giving.{puts_once}
+use Rattle.mh_reach_words.proofs.IsNumberedUpTo.{puts_once}
 use Rattle.mh_reach_words.proofs.numbering.put_once.Goals as goal
 
 pub returns : goal.returns

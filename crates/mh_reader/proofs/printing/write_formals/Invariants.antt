@@ -1,7 +1,7 @@
 use Rattle.std.proofs.Common.{◌≡◌, ◌∷◌, [], ◌++◌, map, drop}
-use Rattle.mh_lex.specs.Texts.{laid}
+use Rattle.mh_lex.specs.LexemeTexts.{laid_out}
 use Rattle.mh_reader_parser.specs.code.Pieces.{bracket_end, word}
 use Rattle.mh_reader.proofs.printing.write_formals.Given as goal
 
 abbrev pub invariant-loop-other : goal.invariant-loop-other
-invariant-loop-other l = l.text.items ++ laid (bracket_end (map (λ n. word n ∷ []) (drop l.other-index l.others))) ≡ l.initial.text.items ++ laid (bracket_end (map (λ n. word n ∷ []) l.others))
+invariant-loop-other l = l.text.items ++ laid_out (bracket_end (map (λ n. word n ∷ []) (drop l.other-index l.others))) ≡ l.initial.text.items ++ laid_out (bracket_end (map (λ n. word n ∷ []) l.others))

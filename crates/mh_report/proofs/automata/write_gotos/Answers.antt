@@ -1,5 +1,5 @@
 use Rattle.std.proofs.lemmas.Result.{on_ok_weaker}
-use Rattle.mh_report.proofs.Parts.{goto_text_is}
+use Rattle.mh_report.proofs.AutomatonParts.{goto_text_is}
 use Rattle.mh_report.proofs.automata.write_gotos.Goals as goal
 
 pub returns : goal.returns

@@ -1,7 +1,7 @@
 use Rattle.std.proofs.Common.{rules}
 use Rattle.std.proofs.lemmas.Result.{on_ok_weaker}
-use Rattle.mh_report_notation.proofs.Kernels.{kernel_items}
-use Rattle.mh_report.proofs.Parts.{kernel_text_is}
+use Rattle.mh_report_notation.proofs.KernelItems.{kernel_items}
+use Rattle.mh_report.proofs.AutomatonParts.{kernel_text_is}
 use Rattle.mh_report.proofs.automata.write_kernel.Goals as goal
 
 pub write_item_lines-requires : goal.write_item_lines-requires

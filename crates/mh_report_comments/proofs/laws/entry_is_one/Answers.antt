@@ -1,4 +1,4 @@
-use Rattle.mh_report_comments.proofs.OneText.{comments_once, entry_once}
+use Rattle.mh_report_comments.proofs.OneCommentText.{comments_once, entry_once}
 use Rattle.mh_report_comments.proofs.laws.entry_is_one.Goals as goal
 
 pub returns-clause-comments : goal.returns-clause-comments

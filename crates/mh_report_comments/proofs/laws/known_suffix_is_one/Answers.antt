@@ -1,4 +1,4 @@
-use Rattle.mh_report_comments.proofs.Suffix.{suffix_agrees}
+use Rattle.mh_report_comments.proofs.KnownSuffix.{suffix_agrees}
 use Rattle.mh_report_comments.proofs.laws.known_suffix_is_one.Goals as goal
 
 pub returns : goal.returns

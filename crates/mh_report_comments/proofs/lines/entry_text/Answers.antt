@@ -1,5 +1,5 @@
-use Rattle.mh_msgfile.specs.Printed.{sentence_text}
-use Rattle.mh_report_comments.proofs.Writing.{entry_is}
+use Rattle.mh_msgfile.specs.FileTexts.{sentence_text}
+use Rattle.mh_report_comments.proofs.CommentParts.{entry_is}
 use Rattle.mh_report_comments.proofs.lines.entry_text.Goals as goal
 
 pub returns : goal.returns

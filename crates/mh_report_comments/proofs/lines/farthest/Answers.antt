@@ -1,5 +1,5 @@
 use Rattle.std.proofs.Common.{inl, inr, ap, rules}
-use Rattle.mh_report_comments.proofs.Farthest.{so_far_more, so_far_all}
+use Rattle.mh_report_comments.proofs.HasFarthestDot.{so_far_more, so_far_all}
 use Rattle.mh_report_comments.proofs.lines.farthest.Goals as goal
 use Rattle.mh_report_comments.proofs.lines.farthest.Goals.{then-best-item, else-best-item}
 

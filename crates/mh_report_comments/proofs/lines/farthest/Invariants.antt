@@ -1,5 +1,5 @@
-use Rattle.mh_report_comments.proofs.Farthest.{SoFar}
+use Rattle.mh_report_comments.proofs.HasFarthestDot.{FarthestSoFar}
 use Rattle.mh_report_comments.proofs.lines.farthest.Given as goal
 
 abbrev pub invariant-loop-item : goal.invariant-loop-item
-invariant-loop-item _ l = SoFar l.items l.item-index l.best
+invariant-loop-item _ l = FarthestSoFar l.items l.item-index l.best

@@ -1,7 +1,7 @@
 use Rattle.mh_grammar.specs.Plain.{plain_of}
 use Rattle.mh_items_kernels.specs.Kernels.{IsKernelItem}
-use Rattle.mh_report_comments.proofs.Farthest.{farthest_among}
-use Rattle.mh_report_comments.proofs.Writing.{pieces}
+use Rattle.mh_report_comments.proofs.HasFarthestDot.{farthest_among}
+use Rattle.mh_report_comments.proofs.CommentParts.{pieces}
 use Rattle.mh_report_comments.proofs.lines.write_comments.Goals as goal
 
 pub write_suffix-requires : goal.write_suffix-requires

@@ -1,5 +1,5 @@
 use Rattle.std.proofs.Common.{◌≡◌, ◌++◌, drop}
-use Rattle.mh_report_notation.specs.Items.{item_lines}
+use Rattle.mh_report_notation.specs.ItemTexts.{item_lines}
 use Rattle.mh_report_notation.proofs.items.write_item_lines.Given as goal
 
 abbrev pub invariant-loop-item : goal.invariant-loop-item

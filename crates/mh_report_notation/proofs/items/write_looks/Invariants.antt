@@ -1,5 +1,5 @@
 use Rattle.std.proofs.Common.{◌≡◌, ◌++◌}
-use Rattle.mh_report_notation.specs.Items.{looks_after}
+use Rattle.mh_report_notation.specs.ItemTexts.{looks_after}
 use Rattle.mh_report_notation.proofs.items.write_looks.Given as goal
 
 abbrev pub invariant-loop-look : goal.invariant-loop-look

@@ -1,5 +1,5 @@
 use Rattle.std.proofs.Common.{◌≡◌, ◌++◌, drop}
-use Rattle.mh_resolve_cells.specs.code.Listing.{token_conflicts}
+use Rattle.mh_resolve_cells.specs.code.ConflictList.{token_conflicts}
 use Rattle.mh_resolve.proofs.found.add_conflicts.Given as goal
 
 abbrev pub invariant-loop-token : goal.invariant-loop-token

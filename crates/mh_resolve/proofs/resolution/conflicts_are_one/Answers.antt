@@ -1,4 +1,4 @@
-use Rattle.mh_resolve_cells.proofs.Once.{conflicts_once}
+use Rattle.mh_resolve_cells.proofs.OneResolution.{conflicts_once}
 use Rattle.mh_resolve.proofs.resolution.conflicts_are_one.Goals as goal
 
 pub returns : goal.returns

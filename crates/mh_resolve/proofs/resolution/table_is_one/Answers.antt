@@ -1,4 +1,4 @@
-use Rattle.mh_resolve_cells.proofs.Once.{one_table}
+use Rattle.mh_resolve_cells.proofs.OneResolution.{one_table}
 use Rattle.mh_resolve.proofs.resolution.table_is_one.Goals as goal
 
 pub returns : goal.returns

@@ -1,6 +1,6 @@
 use Rattle.std.proofs.Common.{ap, ◌∙◌}
 use Rattle.std.specs.Prelude.{map}
-use Rattle.mh_resolve.proofs.Assembling.{parts_is}
+use Rattle.mh_resolve.proofs.IsResolved.{parts_is}
 use Rattle.mh_resolve.proofs.states.parts_of.Goals as goal
 
 pub returns : goal.returns

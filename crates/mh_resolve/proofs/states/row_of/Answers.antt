@@ -1,5 +1,5 @@
-use Rattle.mh_resolve.proofs.Assembling.{row_is, known_is}
-use Rattle.mh_resolve_settle.proofs.Rowing.{cells_are, last_is}
+use Rattle.mh_resolve.proofs.IsResolved.{row_is, known_is}
+use Rattle.mh_resolve_settle.proofs.AreCells.{cells_are, last_is}
 use Rattle.mh_resolve.proofs.states.row_of.Goals as goal
 
 pub returns : goal.returns

@@ -1,4 +1,4 @@
-use Rattle.mh_resolve_settle.proofs.Counted.{counted_none, counted_more, counted_known, counted_all}
+use Rattle.mh_resolve_settle.proofs.AreTallied.{counted_none, counted_more, counted_known, counted_all}
 use Rattle.mh_resolve_settle.proofs.counting.add_item.Goals as goal
 
 pub looks-init : goal.looks-init

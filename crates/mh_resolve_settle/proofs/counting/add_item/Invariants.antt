@@ -1,5 +1,5 @@
 use Rattle.std.proofs.Common.{length}
-use Rattle.mh_resolve_settle.proofs.Counted.{AreCounted}
+use Rattle.mh_resolve_settle.proofs.AreTallied.{AreCounted}
 use Rattle.mh_resolve_settle.proofs.counting.add_item.Given as goal
 
 abbrev pub invariant-looks : goal.invariant-looks

@@ -2,7 +2,7 @@ use Rattle.std.proofs.Common.{◌<◌, ap, sym, ◌∙◌, arith}
 use Rattle.std.proofs.lemmas.Option.{slice_get-get_or}
 use Rattle.std.proofs.lemmas.List.{drop_more}
 use Rattle.mh_grammar.specs.declared.types.Symbol.TheVariants.{T}
-use Rattle.mh_resolve_settle.proofs.Shifting.{shifted, skipped, token_known}
+use Rattle.mh_resolve_settle.proofs.AreShifts.{shifted, skipped, token_known}
 use Rattle.mh_resolve_settle.proofs.counting.shifts_of.Goals as goal
 use Rattle.mh_resolve_settle.proofs.counting.shifts_of.Goals.{in-T, in_default}
 

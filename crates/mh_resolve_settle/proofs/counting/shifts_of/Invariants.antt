@@ -1,4 +1,4 @@
-use Rattle.mh_resolve_settle.proofs.Shifting.{AreShiftsSoFar}
+use Rattle.mh_resolve_settle.proofs.AreShifts.{AreShiftsSoFar}
 use Rattle.mh_resolve_settle.proofs.counting.shifts_of.Given as goal
 
 abbrev pub invariant-loop-edge : goal.invariant-loop-edge

@@ -1,5 +1,5 @@
 use Rattle.std.proofs.Common.{sym, ◌∙◌}
-use Rattle.mh_resolve_settle.proofs.Counted.{looks_end, item_passed}
+use Rattle.mh_resolve_settle.proofs.AreTallied.{looks_end, item_passed}
 use Rattle.mh_resolve_settle.proofs.counting.tallies_of.Goals as goal
 use Rattle.mh_resolve_settle.proofs.counting.tallies_of.Goals.{then-item-length_of, else-item-length_of}
 

@@ -1,5 +1,5 @@
-use Rattle.mh_resolve_cells.specs.code.Counting.{AreTallied}
-use Rattle.mh_resolve_settle.proofs.Counted.{Front}
+use Rattle.mh_resolve_cells.specs.code.LookTallies.{AreTallied}
+use Rattle.mh_resolve_settle.proofs.AreTallied.{Front}
 use Rattle.mh_resolve_settle.proofs.counting.tallies_of.Given as goal
 
 abbrev pub invariant-loop-item : goal.invariant-loop-item

@@ -1,7 +1,7 @@
 use Rattle.std.proofs.Common.{◌≡◌, ◌<◌, length, sym, arith}
-use Rattle.mh_resolve_cells.specs.code.Counting.{AreShifts}
-use Rattle.mh_resolve_settle.proofs.Refusing.{AreMarked, holes_are}
-use Rattle.mh_resolve_cells.proofs.Resolving.{edges_are, edges_known, edges_rise}
+use Rattle.mh_resolve_cells.specs.code.LookTallies.{AreShifts}
+use Rattle.mh_resolve_settle.proofs.AreHoles.{AreMarked, holes_are}
+use Rattle.mh_resolve_cells.proofs.AreResolved.{edges_are, edges_known, edges_rise}
 use Rattle.mh_resolve_settle.proofs.holes.holes_of.Goals as goal
 
 pub shifts_of-requires-clause-rising : goal.shifts_of-requires-clause-rising

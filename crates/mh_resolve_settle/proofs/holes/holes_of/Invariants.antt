@@ -1,4 +1,4 @@
-use Rattle.mh_resolve_settle.proofs.Refusing.{AreMarked}
+use Rattle.mh_resolve_settle.proofs.AreHoles.{AreMarked}
 use Rattle.mh_resolve_settle.proofs.holes.holes_of.Given as goal
 
 abbrev pub invariant-loop-token : goal.invariant-loop-token

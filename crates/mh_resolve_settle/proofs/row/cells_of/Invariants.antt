@@ -1,4 +1,4 @@
-use Rattle.mh_resolve_settle.proofs.Rowing.{AreSettledSoFar}
+use Rattle.mh_resolve_settle.proofs.AreCells.{AreSettledSoFar}
 use Rattle.mh_resolve_settle.proofs.row.cells_of.Given as goal
 
 abbrev pub invariant-loop-token : goal.invariant-loop-token

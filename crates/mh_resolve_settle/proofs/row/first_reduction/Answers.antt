@@ -1,5 +1,5 @@
 use Rattle.std.proofs.lemmas.List.{take_all}
-use Rattle.mh_resolve_settle.proofs.Rowing.{no_more}
+use Rattle.mh_resolve_settle.proofs.AreCells.{no_more}
 use Rattle.mh_resolve_settle.proofs.row.first_reduction.Goals as goal
 
 pub loop-cell-preserved : goal.loop-cell-preserved

@@ -1,4 +1,4 @@
-use Rattle.mh_resolve_settle.proofs.Rowing.{choice_of}
+use Rattle.mh_resolve_settle.proofs.AreCells.{choice_of}
 use Rattle.mh_resolve_settle.proofs.row.only_choice.Goals as goal
 
 pub returns-in-Refuse-Merged : goal.returns-in-Refuse-Merged

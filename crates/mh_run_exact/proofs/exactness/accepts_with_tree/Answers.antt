@@ -1,4 +1,4 @@
-use Rattle.mh_tables_core.proofs.Accepted.{accepted_tree}
+use Rattle.mh_tables_core.proofs.IsTreeOfRead.{accepted_tree}
 use Rattle.mh_run_exact.proofs.AcceptedSentence.{accepted_sentence}
 use Rattle.mh_run_exact.proofs.exactness.accepts_with_tree.Goals as goal
 

@@ -1,4 +1,4 @@
-use Rattle.mh_run_exact.proofs.Telling.{overshoots}
+use Rattle.mh_run_exact.proofs.ExactnessLaws.{overshoots}
 use Rattle.mh_run_exact.proofs.exactness.overshoots_in_sentences.Goals as goal
 
 pub returns : goal.returns

@@ -1,4 +1,4 @@
-use Rattle.mh_run_exact.proofs.Telling.{tells_whole, tells_prefix, tells_one, tells_refused}
+use Rattle.mh_run_exact.proofs.ExactnessLaws.{tells_whole, tells_prefix, tells_one, tells_refused}
 use Rattle.mh_run_exact.proofs.exactness.verdicts_are_exact.Goals as goal
 
 pub returns-clause-whole : goal.returns-clause-whole

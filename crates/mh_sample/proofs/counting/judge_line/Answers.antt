@@ -1,6 +1,6 @@
 use Rattle.std.proofs.Common.{◌≡◌, refl, subst}
 use Rattle.mh_msgfile.specs.Sentences.{Vocabulary, IsSentence, sentence_in}
-use Rattle.mh_msgfile.proofs.Below.{sentence_below, start_known}
+use Rattle.mh_msgfile.proofs.SentenceBounds.{sentence_below, start_known}
 use Rattle.mh_sample.proofs.counting.judge_line.Goals as goal
 
 pub put_verdict-requires-clause-start : goal.put_verdict-requires-clause-start

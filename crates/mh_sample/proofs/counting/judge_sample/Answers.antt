@@ -2,7 +2,7 @@ use Rattle.std.proofs.Common.{map, refl}
 use Rattle.std.proofs.lemmas.Result.{IfOk-weaker}
 use Rattle.mh_run.specs.Verdicts.{ending_for}
 use Rattle.mh_msgfile.specs.Sentences.{vocabulary_in}
-use Rattle.mh_sample.proofs.Judged.{endings_all}
+use Rattle.mh_sample.proofs.Verdicts.{endings_all}
 use Rattle.mh_sample.proofs.counting.judge_sample.Goals as goal
 
 pub returns : goal.returns

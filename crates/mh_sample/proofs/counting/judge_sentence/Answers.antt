@@ -1,6 +1,6 @@
 use Rattle.std.proofs.Common.{◌≡◌, ◌++◌, ℕ, List, length, ap, arith, ◌∙◌}
 use Rattle.mh_sample.specs.Texts.{sentence_text}
-use Rattle.mh_sample.proofs.Fronts.{sentence_short}
+use Rattle.mh_sample.proofs.TextsInParts.{sentence_short}
 use Rattle.mh_sample.proofs.counting.judge_sentence.Goals as goal
 
 pub judge_line-requires-clause-short : goal.judge_line-requires-clause-short

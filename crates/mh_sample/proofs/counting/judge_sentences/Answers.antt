@@ -1,6 +1,6 @@
 use Rattle.mh_msgfile.specs.Sentences.{vocabulary_in}
 use Rattle.mh_sample.specs.Counts.{sentences_at}
-use Rattle.mh_sample.proofs.Judged.{endings_none, endings_push}
+use Rattle.mh_sample.proofs.Verdicts.{endings_none, endings_push}
 use Rattle.mh_sample.proofs.counting.judge_sentences.Goals as goal
 
 pub loop-sentence-init : goal.loop-sentence-init

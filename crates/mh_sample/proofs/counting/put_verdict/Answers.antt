@@ -1,4 +1,4 @@
-use Rattle.mh_sample.proofs.Judged.{endings_more}
+use Rattle.mh_sample.proofs.Verdicts.{endings_more}
 use Rattle.mh_sample.proofs.counting.put_verdict.Goals as goal
 
 pub returns : goal.returns

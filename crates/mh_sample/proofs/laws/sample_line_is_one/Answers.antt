@@ -1,4 +1,4 @@
-use Rattle.mh_sample.proofs.Once.{line_once, some_line}
+use Rattle.mh_sample.proofs.SampleLineUnique.{line_once, some_line}
 use Rattle.mh_sample.proofs.laws.sample_line_is_one.Goals as goal
 
 pub returns-clause-some : goal.returns-clause-some

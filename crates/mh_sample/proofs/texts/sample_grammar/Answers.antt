@@ -1,7 +1,7 @@
 use Rattle.std.proofs.Common.{◌-◌, rules}
 use Rattle.std.specs.Prelude.{codes}
 use Rattle.mh_sample.specs.Texts.{each_from, token_line, level_line, last_level_line}
-use Rattle.mh_sample.proofs.Fronts.{six_parts, grammar_by}
+use Rattle.mh_sample.proofs.TextsInParts.{six_parts, grammar_by}
 use Rattle.mh_sample.proofs.texts.sample_grammar.Goals as goal
 
 pub returns : goal.returns

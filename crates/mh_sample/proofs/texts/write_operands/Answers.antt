@@ -1,6 +1,6 @@
 use Rattle.std.proofs.Common.{ℕ, arith, refl}
 use Rattle.mh_sample.specs.Texts.{operand_text, operator_at}
-use Rattle.mh_sample.proofs.Fronts.{each_none, each_push_as}
+use Rattle.mh_sample.proofs.TextsInParts.{each_none, each_push_as}
 use Rattle.mh_sample.proofs.texts.write_operands.Goals as goal
 
 pub loop-place-init : goal.loop-place-init

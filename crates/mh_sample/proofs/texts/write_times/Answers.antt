@@ -1,5 +1,5 @@
 use Rattle.std.proofs.Common.{arith}
-use Rattle.mh_sample.proofs.Fronts.{times_none, times_push}
+use Rattle.mh_sample.proofs.TextsInParts.{times_none, times_push}
 use Rattle.mh_sample.proofs.texts.write_times.Goals as goal
 
 pub loop-init : goal.loop-init

@@ -1,6 +1,6 @@
 use Rattle.std.proofs.Common.{arith}
 use Rattle.mh_sample.specs.Texts.{token_line}
-use Rattle.mh_sample.proofs.Fronts.{each_none, each_push}
+use Rattle.mh_sample.proofs.TextsInParts.{each_none, each_push}
 use Rattle.mh_sample.proofs.texts.write_tokens.Goals as goal
 
 pub loop-place-init : goal.loop-place-init

@@ -1,8 +1,8 @@
 use Rattle.std.proofs.Common.{Err}
 use Rattle.mh_msgfile.specs.Sentences.{vocabulary_in}
-use Rattle.mh_session_branches.specs.Lines.{Asks}
-use Rattle.mh_session.proofs.Known.{command_known}
-use Rattle.mh_session.proofs.LinesAnswered.{line_told, refusal_told, reads_of, says_of}
+use Rattle.mh_session_branches.specs.LineForms.{Asks}
+use Rattle.mh_session.proofs.IsCommandOf.{command_known}
+use Rattle.mh_session.proofs.IsLineAnswered.{line_answered, refusal_answered, reads_of, says_of}
 use Rattle.mh_session.proofs.answering.answer_line.Goals as goal
 
 pub serve-requires : goal.serve-requires
@@ -12,10 +12,10 @@ serve-requires c =
 
 pub returns-in-Ok-clause-told : goal.returns-in-Ok-clause-told
 returns-in-Ok-clause-told c =
-    line_told c.args.grammar.now c.args.line.now c.args.session.now c.serve.new.session (Asks c.in-Ok.command) c.serve.result
+    line_answered c.args.grammar.now c.args.line.now c.args.session.now c.serve.new.session (Asks c.in-Ok.command) c.serve.result
     (says_of c.args.grammar.now (vocabulary_in c.args.lexicon.now) c.args.line.now (Asks c.in-Ok.command) c.requires.names c.in-Ok.ensures) c.serve.ensures.told
 
 pub returns-in-Err-clause-told : goal.returns-in-Err-clause-told
 returns-in-Err-clause-told c =
-    refusal_told c.args.grammar.now c.args.line.now c.args.session.now c.in-Err.fault c.command_refusal.result
+    refusal_answered c.args.grammar.now c.args.line.now c.args.session.now c.in-Err.fault c.command_refusal.result
     (reads_of c.args.grammar.now (vocabulary_in c.args.lexicon.now) c.args.line.now (Err c.in-Err.fault) c.requires.names c.in-Err.ensures) c.command_refusal.ensures

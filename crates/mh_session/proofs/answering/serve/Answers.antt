@@ -1,11 +1,11 @@
 use Rattle.std.proofs.Common.{subst}
 use Rattle.std.specs.Prelude.{IfOk}
 use Rattle.mh_grammar.specs.Text.{Text}
-use Rattle.mh_session.specs.code.Worded.{IsTold}
-use Rattle.mh_session.proofs.LinesAnswered.{said_told}
+use Rattle.mh_session.specs.code.AnswerTexts.{IsAnswerText}
+use Rattle.mh_session.proofs.IsLineAnswered.{meaning_answered}
 use Rattle.mh_session.proofs.answering.serve.Goals as goal
 
 pub returns-clause-told : goal.returns-clause-told
 returns-clause-told c =
-    said_told c.args.grammar.now c.args.session.now c.step-answer.new.self c.args.command.now c.step-answer.result c.answer_text.result c.step-answer.ensures.served
-    (subst (λ (name : Text). IfOk c.answer_text.result (λ v. IsTold c.args.grammar.now name c.step-answer.result v.items)) c.replying.ensures c.answer_text.ensures)
+    meaning_answered c.args.grammar.now c.args.session.now c.step-answer.new.self c.args.command.now c.step-answer.result c.answer_text.result c.step-answer.ensures.served
+    (subst (λ (name : Text). IfOk c.answer_text.result (λ v. IsAnswerText c.args.grammar.now name c.step-answer.result v.items)) c.replying.ensures c.answer_text.ensures)

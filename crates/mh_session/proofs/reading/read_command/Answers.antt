@@ -1,6 +1,6 @@
 use Rattle.std.proofs.Common.{subst}
 use Rattle.mh_msgfile.specs.Sentences.{Vocabulary}
-use Rattle.mh_session_branches.specs.Lines.{ReadsCommand}
+use Rattle.mh_session_branches.specs.LineForms.{ReadsCommand}
 use Rattle.mh_session.proofs.reading.read_command.Goals as goal
 
 pub returns : goal.returns

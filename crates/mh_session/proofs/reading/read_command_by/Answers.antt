@@ -1,7 +1,7 @@
 use Rattle.std.proofs.Common.{sym}
 use Rattle.mh_msgfile.specs.Sentences.{vocabulary_in}
 use Rattle.mh_session.specs.code.Forms.{as_form}
-use Rattle.mh_session.proofs.Spelling.{reads, not_readable}
+use Rattle.mh_session.proofs.HasForm.{reads, not_readable}
 use Rattle.mh_session.proofs.reading.read_command_by.Goals as goal
 
 pub returns-in-Some : goal.returns-in-Some

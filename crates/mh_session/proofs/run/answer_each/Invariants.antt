@@ -1,5 +1,5 @@
-use Rattle.mh_session.proofs.Telling.{Told}
+use Rattle.mh_session.proofs.AnswerAll.{AnswersSoFar}
 use Rattle.mh_session.proofs.run.answer_each.Given as goal
 
 abbrev pub invariant-loop-command : goal.invariant-loop-command
-invariant-loop-command l = Told l.fn.session.table l.commands l.command-index l.session l.so_far.items
+invariant-loop-command l = AnswersSoFar l.fn.session.table l.commands l.command-index l.session l.so_far.items

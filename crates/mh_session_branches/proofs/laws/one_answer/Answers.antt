@@ -1,4 +1,4 @@
-use Rattle.mh_session_branches.proofs.Once.{answer_once}
+use Rattle.mh_session_branches.proofs.OneAnswer.{answer_once}
 use Rattle.mh_session_branches.proofs.laws.one_answer.Goals as goal
 
 pub returns : goal.returns

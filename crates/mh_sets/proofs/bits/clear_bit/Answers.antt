@@ -1,5 +1,5 @@
 use Rattle.std.proofs.Common.{refl}
-use Rattle.mh_sets.proofs.Places.{clear_bits}
+use Rattle.mh_sets.proofs.WordBits.{clear_bits}
 use Rattle.mh_sets.proofs.bits.clear_bit.Goals as goal
 
 pub returns-clause-bits : goal.returns-clause-bits

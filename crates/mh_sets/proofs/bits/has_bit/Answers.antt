@@ -1,5 +1,5 @@
-use Rattle.mh_sets.proofs.Places.{shifted}
+use Rattle.mh_sets.proofs.WordBits.{has_token_by_shift}
 use Rattle.mh_sets.proofs.bits.has_bit.Goals as goal
 
 pub returns : goal.returns
-returns c = shifted c.args.words.now c.args.a
+returns c = has_token_by_shift c.args.words.now c.args.a

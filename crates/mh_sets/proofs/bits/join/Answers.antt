@@ -1,6 +1,6 @@
 use Rattle.std.proofs.Common.{arith, length, ◌≡◌}
 use Rattle.std.proofs.lemmas.Grind.{common_steps, same_number_lists}
-use Rattle.mh_sets.proofs.Places.{join_bits, join_each}
+use Rattle.mh_sets.proofs.WordBits.{join_bits, join_each}
 use Rattle.mh_sets.proofs.bits.join.Goals as goal
 
 pub returns-clause-each : goal.returns-clause-each

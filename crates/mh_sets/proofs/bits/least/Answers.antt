@@ -1,5 +1,5 @@
 use Rattle.std.proofs.Common.{arith}
-use Rattle.mh_sets.proofs.Places.{least_bit, no_bits}
+use Rattle.mh_sets.proofs.WordBits.{least_bit, no_bits}
 use Rattle.mh_sets.proofs.bits.least.Goals as goal
 
 pub returns-then-words-k-ne0-clause-some : goal.returns-then-words-k-ne0-clause-some

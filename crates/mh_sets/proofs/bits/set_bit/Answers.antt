@@ -1,5 +1,5 @@
 use Rattle.std.proofs.Common.{refl}
-use Rattle.mh_sets.proofs.Places.{set_bits, each_set, or_fits, fresh_is}
+use Rattle.mh_sets.proofs.WordBits.{set_bits, each_set, or_fits, fresh_is}
 use Rattle.mh_sets.proofs.bits.set_bit.Goals as goal
 
 pub returns-clause-each : goal.returns-clause-each

@@ -1,4 +1,4 @@
-use Rattle.mh_tabfile_read.proofs.Only.{same_file}
+use Rattle.mh_tabfile_read.proofs.ReadingUnique.{same_file}
 use Rattle.mh_tabfile_read.proofs.laws.content_is_one.Goals as goal
 
 pub returns : goal.returns

@@ -1,5 +1,5 @@
-use Rattle.mh_tabfile_read.proofs.OneFault.{one_bad_line}
-use Rattle.mh_tabfile_read.proofs.Only.{no_bad, no_other}
+use Rattle.mh_tabfile_read.proofs.BadLineUnique.{one_bad_line}
+use Rattle.mh_tabfile_read.proofs.ReadingUnique.{no_bad, no_other}
 use Rattle.mh_tabfile_read.proofs.laws.fault_is_one.Goals as goal
 
 pub returns-clause-line : goal.returns-clause-line

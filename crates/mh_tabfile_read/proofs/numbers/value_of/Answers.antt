@@ -1,5 +1,5 @@
 use Rattle.std.proofs.Common.{arith}
-use Rattle.mh_tabfile_read.proofs.Large.{large}
+use Rattle.mh_tabfile_read.proofs.TooLargeNumber.{large}
 use Rattle.mh_tabfile_read.proofs.numbers.value_of.Goals as goal
 
 pub returns-then-value-gt4294967295 : goal.returns-then-value-gt4294967295

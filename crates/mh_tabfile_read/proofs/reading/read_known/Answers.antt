@@ -1,5 +1,5 @@
 use Rattle.std.proofs.Common.{arith, length, sym, ◌∙◌, ◌-◌}
-use Rattle.mh_tabfile_read.proofs.Cuts.{refused, unended, finished, some_after, none_after}
+use Rattle.mh_tabfile_read.proofs.SplitLines.{refused, unended, finished, some_after, none_after}
 use Rattle.mh_tabfile_read.proofs.reading.read_known.Goals as goal
 
 pub returns-in-Err : goal.returns-in-Err

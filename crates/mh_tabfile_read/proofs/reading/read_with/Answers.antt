@@ -1,7 +1,7 @@
 use Rattle.std.proofs.Common.{refl, sym, ap, map}
 use Rattle.mh_tabfile_read.specs.code.Lines.{lines_in}
 use Rattle.mh_tabfile_read.specs.code.Machine.{run}
-use Rattle.mh_tabfile_read.proofs.Exact.{refused_part}
+use Rattle.mh_tabfile_read.proofs.RunExact.{refused_part}
 use Rattle.mh_tabfile_read.proofs.reading.read_with.Goals as goal
 
 pub loop-at-init : goal.loop-at-init

@@ -1,5 +1,5 @@
 use Rattle.std.proofs.Common.{arith, refl}
-use Rattle.mh_tabfile_write.proofs.Legible.{is_written}
+use Rattle.mh_tabfile_write.proofs.WrittenIsFile.{is_written}
 use Rattle.mh_tabfile_write.proofs.laws.written_is_file.Goals as goal
 
 pub returns : goal.returns

@@ -4,9 +4,9 @@ use Rattle.mh_grammar.specs.Costs.{costs_of}
 use Rattle.mh_grammar.specs.declared.types.Production.{Production}
 use Rattle.mh_grammar.specs.declared.types.TokenInfo.{TokenInfo}
 use Rattle.mh_tabfile_form.specs.Form.{count_line, production_line}
-use Rattle.mh_tabfile_form.specs.Written.{raw_of, raw_production}
+use Rattle.mh_tabfile_form.specs.TableContent.{raw_of, raw_production}
 use Rattle.mh_tabfile_write.specs.code.Texts.{line_written, lines_written}
-use Rattle.mh_tabfile_write.proofs.Written.{count_states, table_written}
+use Rattle.mh_tabfile_write.proofs.LinesWritten.{count_states, table_written}
 use Rattle.mh_tabfile_write.proofs.writing.write_all.Goals as goal
 
 pub returns : goal.returns

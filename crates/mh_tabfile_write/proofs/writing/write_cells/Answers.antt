@@ -1,8 +1,8 @@
 use Rattle.std.proofs.Common.{◌<◌, length, map, arith}
 use Rattle.mh_tables_core.specs.Table.{state_at}
 use Rattle.mh_tabfile_form.specs.Form.{cell_line}
-use Rattle.mh_tabfile_form.specs.Written.{raw_row}
-use Rattle.mh_tabfile_write.proofs.Written.{row_more}
+use Rattle.mh_tabfile_form.specs.TableContent.{raw_row}
+use Rattle.mh_tabfile_write.proofs.LinesWritten.{row_more}
 use Rattle.mh_tabfile_write.proofs.writing.write_cells.Goals as goal
 
 pub loop-token-preserved : goal.loop-token-preserved

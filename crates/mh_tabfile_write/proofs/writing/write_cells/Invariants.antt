@@ -1,7 +1,7 @@
 use Rattle.std.proofs.Common.{◌≡◌, ◌++◌, drop, map}
 use Rattle.mh_tables_core.specs.Table.{state_at}
 use Rattle.mh_tabfile_form.specs.Form.{cell_line}
-use Rattle.mh_tabfile_form.specs.Written.{raw_row}
+use Rattle.mh_tabfile_form.specs.TableContent.{raw_row}
 use Rattle.mh_tabfile_write.specs.code.Texts.{lines_written}
 use Rattle.mh_tabfile_write.proofs.writing.write_cells.Given as goal
 

@@ -2,9 +2,9 @@ use Rattle.std.proofs.Common.{List, get_or, map, refl}
 use Rattle.mh_grammar.specs.declared.edges.Edge.{Edge}
 use Rattle.mh_grammar.specs.declared.types.Symbol.TheVariants.{T}
 use Rattle.mh_tabfile_form.specs.Form.{edge_line}
-use Rattle.mh_tabfile_form.specs.Written.{raw_edge}
+use Rattle.mh_tabfile_form.specs.TableContent.{raw_edge}
 use Rattle.mh_tabfile_write.specs.code.Texts.{line_written, lines_written}
-use Rattle.mh_tabfile_write.proofs.Written.{item_more}
+use Rattle.mh_tabfile_write.proofs.LinesWritten.{item_more}
 use Rattle.mh_tabfile_write.proofs.writing.write_edges.Goals as goal
 
 pub loop-edge-preserved : goal.loop-edge-preserved

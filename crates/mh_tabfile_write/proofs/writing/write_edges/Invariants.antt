@@ -1,7 +1,7 @@
 use Rattle.std.proofs.Common.{◌≡◌, ◌++◌, drop, map}
 use Rattle.mh_tabfile_form.specs.Form.{edge_line}
 use Rattle.mh_tabfile_write.specs.code.Texts.{lines_written}
-use Rattle.mh_tabfile_form.specs.Written.{raw_edge}
+use Rattle.mh_tabfile_form.specs.TableContent.{raw_edge}
 use Rattle.mh_tabfile_write.proofs.writing.write_edges.Given as goal
 
 abbrev pub invariant-loop-edge : goal.invariant-loop-edge

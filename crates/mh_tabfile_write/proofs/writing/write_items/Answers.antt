@@ -1,9 +1,9 @@
 use Rattle.std.proofs.Common.{List, map, refl}
-use Rattle.mh_items_kernels.specs.Shapes.{KernelItem}
+use Rattle.mh_items_kernels.specs.KernelTypes.{KernelItem}
 use Rattle.mh_tabfile_form.specs.Form.{item_line}
-use Rattle.mh_tabfile_form.specs.Written.{raw_item}
+use Rattle.mh_tabfile_form.specs.TableContent.{raw_item}
 use Rattle.mh_tabfile_write.specs.code.Texts.{line_written, lines_written}
-use Rattle.mh_tabfile_write.proofs.Written.{item_more}
+use Rattle.mh_tabfile_write.proofs.LinesWritten.{item_more}
 use Rattle.mh_tabfile_write.proofs.writing.write_items.Goals as goal
 
 pub loop-item-preserved : goal.loop-item-preserved

@@ -1,9 +1,9 @@
 use Rattle.std.proofs.Common.{List, map, refl}
 use Rattle.mh_grammar.specs.declared.types.Production.{Production}
 use Rattle.mh_tabfile_form.specs.Form.{production_line}
-use Rattle.mh_tabfile_form.specs.Written.{raw_production}
+use Rattle.mh_tabfile_form.specs.TableContent.{raw_production}
 use Rattle.mh_tabfile_write.specs.code.Texts.{line_written, lines_written}
-use Rattle.mh_tabfile_write.proofs.Written.{item_more}
+use Rattle.mh_tabfile_write.proofs.LinesWritten.{item_more}
 use Rattle.mh_tabfile_write.proofs.writing.write_productions.Goals as goal
 
 pub loop-production-preserved : goal.loop-production-preserved

@@ -1,7 +1,7 @@
 use Rattle.std.proofs.Common.{◌≡◌, ◌++◌, drop, map}
 use Rattle.mh_tabfile_form.specs.Form.{production_line}
 use Rattle.mh_tabfile_write.specs.code.Texts.{lines_written}
-use Rattle.mh_tabfile_form.specs.Written.{raw_production}
+use Rattle.mh_tabfile_form.specs.TableContent.{raw_production}
 use Rattle.mh_tabfile_write.proofs.writing.write_productions.Given as goal
 
 abbrev pub invariant-loop-production : goal.invariant-loop-production

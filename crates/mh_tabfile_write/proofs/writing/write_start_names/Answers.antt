@@ -1,7 +1,7 @@
 use Rattle.std.proofs.Common.{ℕ, List, ◌∷◌, ◌++◌, get_or, map, ap, refl, ◌∙◌}
 use Rattle.mh_grammar.specs.Names.{nonterminal_name}
 use Rattle.mh_tabfile_write.specs.code.Texts.{words_after}
-use Rattle.mh_tabfile_write.proofs.Written.{item_more}
+use Rattle.mh_tabfile_write.proofs.LinesWritten.{item_more}
 use Rattle.mh_tabfile_write.proofs.writing.write_start_names.Goals as goal
 
 pub loop-start-preserved : goal.loop-start-preserved

@@ -1,7 +1,7 @@
 use Rattle.std.proofs.Common.{arith}
 use Rattle.mh_tabfile_form.specs.Form.{states_lines}
-use Rattle.mh_tabfile_form.specs.Written.{raw_states}
-use Rattle.mh_tabfile_write.proofs.Written.{states_more}
+use Rattle.mh_tabfile_form.specs.TableContent.{raw_states}
+use Rattle.mh_tabfile_write.proofs.LinesWritten.{states_more}
 use Rattle.mh_tabfile_write.proofs.writing.write_states.Goals as goal
 
 pub loop-state-preserved : goal.loop-state-preserved

@@ -1,6 +1,6 @@
 use Rattle.std.proofs.Common.{◌≡◌, ◌++◌, drop}
 use Rattle.mh_tabfile_form.specs.Form.{states_lines}
-use Rattle.mh_tabfile_form.specs.Written.{raw_states}
+use Rattle.mh_tabfile_form.specs.TableContent.{raw_states}
 use Rattle.mh_tabfile_write.specs.code.Texts.{lines_written}
 use Rattle.mh_tabfile_write.proofs.writing.write_states.Given as goal
 

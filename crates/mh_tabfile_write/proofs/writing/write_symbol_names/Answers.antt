@@ -3,7 +3,7 @@ use Rattle.mh_grammar.specs.Names.{symbol_name}
 use Rattle.mh_grammar.specs.declared.types.Symbol.{Symbol}
 use Rattle.mh_grammar.specs.declared.types.Symbol.TheVariants.{T}
 use Rattle.mh_tabfile_write.specs.code.Texts.{words_after}
-use Rattle.mh_tabfile_write.proofs.Written.{item_more}
+use Rattle.mh_tabfile_write.proofs.LinesWritten.{item_more}
 use Rattle.mh_tabfile_write.proofs.writing.write_symbol_names.Goals as goal
 
 pub loop-symbol-preserved : goal.loop-symbol-preserved

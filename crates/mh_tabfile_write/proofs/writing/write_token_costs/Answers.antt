@@ -2,7 +2,7 @@ use Rattle.std.proofs.Common.{List, ◌∷◌, map, decimal, refl}
 use Rattle.mh_grammar.specs.Costs.{costs_of}
 use Rattle.mh_grammar.specs.declared.types.TokenInfo.{TokenInfo}
 use Rattle.mh_tabfile_write.specs.code.Texts.{words_after}
-use Rattle.mh_tabfile_write.proofs.Written.{item_more}
+use Rattle.mh_tabfile_write.proofs.LinesWritten.{item_more}
 use Rattle.mh_tabfile_write.proofs.writing.write_token_costs.Goals as goal
 
 pub loop-token-preserved : goal.loop-token-preserved

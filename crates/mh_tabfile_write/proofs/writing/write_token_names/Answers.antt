@@ -1,7 +1,7 @@
 use Rattle.std.proofs.Common.{ℕ, List, ◌∷◌, ◌++◌, map, ap, refl, ◌∙◌}
 use Rattle.mh_grammar.specs.declared.types.TokenInfo.{TokenInfo}
 use Rattle.mh_tabfile_write.specs.code.Texts.{words_after}
-use Rattle.mh_tabfile_write.proofs.Written.{item_more}
+use Rattle.mh_tabfile_write.proofs.LinesWritten.{item_more}
 use Rattle.mh_tabfile_write.proofs.writing.write_token_names.Goals as goal
 
 pub loop-token-preserved : goal.loop-token-preserved

@@ -1,5 +1,5 @@
 use Rattle.std.proofs.Common.{ap, ◌∙◌, ◌++◌, ◌∷◌, [], codes, decimal}
-use Rattle.mh_tabfile_write.proofs.Written.{three_words}
+use Rattle.mh_tabfile_write.proofs.LinesWritten.{three_words}
 use Rattle.mh_tabfile_write.proofs.writing.write_version.Goals as goal
 
 pub returns : goal.returns

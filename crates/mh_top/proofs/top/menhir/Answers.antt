@@ -3,7 +3,7 @@ use Rattle.std.specs.String.{string_bytes}
 use Rattle.std.specs.declared.alloc.Global.{Global}
 use Rattle.mh_top_claims.proofs.Claims.{keeps}
 use Rattle.mh_top_claims.proofs.ErrorLists.{lists_exactly}
-use Rattle.mh_top_claims.proofs.Exactly.{accepts_exactly, rejects_rightly, overshoots_rightly, all_rightly, deep_exactly}
+use Rattle.mh_top_claims.proofs.VerdictClaims.{accepts_exactly, rejects_rightly, overshoots_rightly, all_rightly, deep_exactly}
 use Rattle.mh_top.proofs.top.menhir.Goals as goal
 
 pub returns : goal.returns

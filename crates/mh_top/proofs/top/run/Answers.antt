@@ -1,5 +1,5 @@
 use Rattle.std.proofs.Common.{refl}
-use Rattle.mh_top_claims.proofs.Reports.{ran, done}
+use Rattle.mh_top_claims.proofs.Ran.{ran, done}
 use Rattle.mh_top.proofs.top.run.Goals as goal
 
 pub returns-in-Err-clause-ran : goal.returns-in-Err-clause-ran

@@ -1,9 +1,9 @@
 use Rattle.std.proofs.Common.{List, ℕ, map, refl, sym, subst}
 use Rattle.std.specs.String.{string_bytes}
 use Rattle.std.specs.declared.alloc.Global.{Global}
-use Rattle.mh_top_drive.specs.Causes.{Go}
-use Rattle.mh_top_load.specs.FrontStage.{IsFront}
-use Rattle.mh_top_claims.proofs.Going.{front_stops, worked_same}
+use Rattle.mh_top_drive.specs.StageResults.{Go}
+use Rattle.mh_top_load.specs.OrderAndGrammar.{IsOrderAndGrammar}
+use Rattle.mh_top_claims.proofs.WorkBeforeLastLine.{front_stops, worked_same}
 use Rattle.mh_top.proofs.top.work.Goals as goal
 
 pub front_of-requires : goal.front_of-requires
@@ -23,4 +23,4 @@ pub returns-in-Ok-clause-ran : goal.returns-in-Ok-clause-ran
 returns-in-Ok-clause-ran g c =
     let words : List (List ℕ) = map (string_bytes {Z = Global}) c.args.words.now in
     worked_same words _ _ _ _ c.work_at_width.result c.in-Ok.ensures.kept c.in-Ok.ensures.counts
-    (c.work_at_width.ensures.ran words (subst (λ f. IsFront words f (Go c.in-Ok.front)) (sym c.in-Ok.ensures.kept) c.in-Ok.ensures.front))
+    (c.work_at_width.ensures.ran words (subst (λ f. IsOrderAndGrammar words f (Go c.in-Ok.front)) (sym c.in-Ok.ensures.kept) c.in-Ok.ensures.front))

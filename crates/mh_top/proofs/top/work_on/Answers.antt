@@ -1,13 +1,13 @@
 use Rattle.std.proofs.Common.{refl, rules, subst, sym}
-use Rattle.mh_top_drive.specs.Causes.{Go}
+use Rattle.mh_top_drive.specs.StageResults.{Go}
 use Rattle.mh_top_claims.specs.Preparing.{IsPrepared}
-use Rattle.mh_top_claims.proofs.Going.{prepare_stops, prepared_so, worked_same}
+use Rattle.mh_top_claims.proofs.WorkBeforeLastLine.{prepare_stops, prepared_so, worked_same}
 use Rattle.mh_top.proofs.top.work_on.Goals as goal
 
 pub work_with-ended-requires : goal.work_with-ended-requires
 work_with-ended-requires g c = (
   search rules,
-  (c.requires.few, (c.in-Ok.ensures.fit, rw c.in-Ok.ensures.order (λ k d lt. c.in-Ok.ensures.may_still _ (c.requires.asked k d lt)))),
+  (c.requires.fits.few, (c.in-Ok.ensures.fit, rw c.in-Ok.ensures.order (λ k d lt. c.in-Ok.ensures.may_still _ (c.requires.asked k d lt)))),
 )
 
 pub returns-in-Err-clause-ran : goal.returns-in-Err-clause-ran

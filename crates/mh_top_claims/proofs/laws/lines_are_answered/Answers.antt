@@ -1,4 +1,4 @@
-use Rattle.mh_top_claims.proofs.EachLine.{answered_at, verdict_at}
+use Rattle.mh_top_claims.proofs.AnswerAtLine.{answered_at, verdict_at}
 use Rattle.mh_top_claims.proofs.laws.lines_are_answered.Goals as goal
 
 pub returns-clause-each : goal.returns-clause-each

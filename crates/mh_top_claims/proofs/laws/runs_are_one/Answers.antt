@@ -1,4 +1,4 @@
-use Rattle.mh_top_claims.proofs.Once.{run_once}
+use Rattle.mh_top_claims.proofs.WorkUnique.{run_once}
 use Rattle.mh_top_claims.proofs.laws.runs_are_one.Goals as goal
 
 pub returns : goal.returns

@@ -1,4 +1,4 @@
-use Rattle.mh_top_claims.proofs.Once.{outcome_once, work_once}
+use Rattle.mh_top_claims.proofs.WorkUnique.{outcome_once, work_once}
 use Rattle.mh_top_claims.proofs.laws.work_is_one.Goals as goal
 
 pub returns-clause-work : goal.returns-clause-work

@@ -1,4 +1,4 @@
-use Rattle.mh_top_drive.proofs.Answered.{answer_ran}
+use Rattle.mh_top_drive.proofs.LineCalls.{answer_ran}
 use Rattle.mh_top_drive.proofs.driving.answer_line.Goals as goal
 
 pub returns-clause-text : goal.returns-clause-text

@@ -1,11 +1,11 @@
 use Rattle.std.proofs.Common.{◌≡◌, ◌-◌}
-use Rattle.mh_top_drive.specs.Ways.{most}
-use Rattle.mh_top_drive.proofs.SoFar.{SoFar}
+use Rattle.mh_top_drive.specs.ModeBehavior.{max_lines}
+use Rattle.mh_top_drive.proofs.AskLoop.{SoFar}
 use Rattle.mh_top_drive.proofs.driving.ask.Given as goal
 
 abbrev pub invariant-loop : goal.invariant-loop
 invariant-loop g l = record {
-  so_far : (plan : g.M.Mode.State) → g.M.Mode.Is l.fn.mode plan → (next : g.M.Mode.State) × g.M.Mode.Is l.mode next × SoFar g.M.Mode.way plan (most l.asks - l.counter) (g.I.Source.left l.fn.input) (g.I.Source.left l.input) (g.O.Sink.written l.fn.out) (g.O.Sink.written l.out) next;
+  so_far : (plan : g.M.Mode.State) → g.M.Mode.Is l.fn.mode plan → (next : g.M.Mode.State) × g.M.Mode.Is l.mode next × SoFar g.M.Mode.way plan (max_lines l.asks - l.counter) (g.I.Source.left l.fn.input) (g.I.Source.left l.input) (g.O.Sink.written l.fn.out) (g.O.Sink.written l.out) next;
   asks : (plan : g.M.Mode.State) → g.M.Mode.Is l.fn.mode plan → l.asks ≡ g.M.Mode.way.asks_of plan;
   input_calm : g.I.Source.faults l.input ≡ g.I.Source.faults l.fn.input;
   out_calm : g.O.Sink.faults l.out ≡ g.O.Sink.faults l.fn.out;

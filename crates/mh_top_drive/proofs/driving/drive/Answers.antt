@@ -1,4 +1,4 @@
-use Rattle.mh_top_drive.proofs.SoFar.{end_ran}
+use Rattle.mh_top_drive.proofs.AskLoop.{end_ran}
 use Rattle.mh_top_drive.proofs.driving.drive.Goals as goal
 
 pub end-requires : goal.end-requires

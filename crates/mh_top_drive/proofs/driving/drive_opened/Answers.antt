@@ -1,4 +1,4 @@
-use Rattle.mh_top_drive.proofs.Opening.{unopened_counts}
+use Rattle.mh_top_drive.proofs.OpenedModes.{unopened_counts}
 use Rattle.mh_top_drive.proofs.driving.drive_opened.Goals as goal
 
 pub returns-in-Err-clause-counts : goal.returns-in-Err-clause-counts

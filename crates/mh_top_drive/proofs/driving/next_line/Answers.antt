@@ -1,4 +1,4 @@
-use Rattle.mh_top_drive.proofs.Answered.{next_fault, next_taken}
+use Rattle.mh_top_drive.proofs.LineCalls.{next_fault, next_taken}
 use Rattle.mh_top_drive.proofs.driving.next_line.Goals as goal
 
 pub returns-in-Ok-clause-line : goal.returns-in-Ok-clause-line

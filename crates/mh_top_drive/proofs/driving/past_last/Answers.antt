@@ -1,5 +1,5 @@
 use Rattle.std.proofs.Common.{inr, refl}
-use Rattle.mh_top_drive.proofs.Answered.{past_fault}
+use Rattle.mh_top_drive.proofs.LineCalls.{past_fault}
 use Rattle.mh_top_drive.proofs.driving.past_last.Goals as goal
 
 pub returns-in-Ok-Some-clause-ran : goal.returns-in-Ok-Some-clause-ran

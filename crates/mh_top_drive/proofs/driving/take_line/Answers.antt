@@ -1,4 +1,4 @@
-use Rattle.mh_top_drive.proofs.Answered.{line_err, line_none, line_ok, line_stop}
+use Rattle.mh_top_drive.proofs.LineCalls.{line_err, line_none, line_ok, line_stop}
 use Rattle.mh_top_drive.proofs.driving.take_line.Goals as goal
 
 pub returns-in-Ok-None-clause-ran : goal.returns-in-Ok-None-clause-ran

@@ -1,4 +1,4 @@
-use Rattle.mh_top_drive.proofs.Loads.{has_failed, is_long, is_missing, loads, loads_short}
+use Rattle.mh_top_drive.proofs.IsLoaded.{has_failed, is_long, is_missing, loads, loads_short}
 use Rattle.mh_top_drive.proofs.files.load.Goals as goal
 
 pub returns-in-Ok-clause-bytes : goal.returns-in-Ok-clause-bytes

@@ -1,6 +1,6 @@
 use Rattle.std.proofs.Common.{◌∙◌, arith, refl}
 use Rattle.std.proofs.lemmas.List.{drop_all}
-use Rattle.mh_top_drive.proofs.Turns.{so_far_ends, so_far_halts, so_far_next, so_far_start}
+use Rattle.mh_top_drive.proofs.ReadFilesLoop.{so_far_ends, so_far_halts, so_far_next, so_far_start}
 use Rattle.mh_top_drive.proofs.files.read_files.Goals as goal
 
 pub loop-name-init : goal.loop-name-init

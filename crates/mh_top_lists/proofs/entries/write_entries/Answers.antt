@@ -1,5 +1,5 @@
 use Rattle.std.proofs.Common.{refl, rules, ◌∙◌}
-use Rattle.mh_top_lists.proofs.Listed.{all_written, none_written, row_fit, row_stops, row_written}
+use Rattle.mh_top_lists.proofs.WriteEntriesLoop.{all_written, none_written, row_fit, row_stops, row_written}
 use Rattle.mh_top_lists.proofs.entries.write_entries.Goals as goal
 
 pub loop-row-init : goal.loop-row-init

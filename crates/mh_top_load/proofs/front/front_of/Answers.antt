@@ -2,8 +2,8 @@ use Rattle.std.proofs.Common.{map}
 use Rattle.std.specs.String.{string_bytes}
 use Rattle.std.specs.declared.alloc.Global.{Global}
 use Rattle.mh_top_load.specs.Modules.{sample_of}
-use Rattle.mh_top_load.proofs.Going.{files_stop, front_made, grammar_stops}
-use Rattle.mh_top_load.proofs.Ready.{modules_capital, modules_ready}
+use Rattle.mh_top_load.proofs.StagesToGrammar.{files_stop, front_made, grammar_stops}
+use Rattle.mh_top_load.proofs.AreModulesReady.{modules_capital, modules_ready}
 use Rattle.mh_top_load.proofs.front.front_of.Goals as goal
 
 pub returns-in-Err-modules_of-clause-front : goal.returns-in-Err-modules_of-clause-front

@@ -1,5 +1,5 @@
-use Rattle.mh_top_load.proofs.Apart.{names_apart}
-use Rattle.mh_top_load.proofs.Refusing.{refused_so}
+use Rattle.mh_top_load.proofs.AreNamesApart.{names_apart}
+use Rattle.mh_top_load.proofs.IsGrammarFault.{refused_so}
 use Rattle.mh_top_load.proofs.grammar.grammar_in.Goals as goal
 
 pub returns-clause-grammar : goal.returns-clause-grammar

@@ -1,4 +1,4 @@
-use Rattle.mh_top_load.proofs.Misspelled.{misspelled}
+use Rattle.mh_top_load.proofs.IsSyntaxFault.{misspelled}
 use Rattle.mh_top_load.proofs.grammar_file.module_in.Goals as goal
 
 pub returns-in-Ok : goal.returns-in-Ok

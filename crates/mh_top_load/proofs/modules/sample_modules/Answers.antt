@@ -1,5 +1,5 @@
 use Rattle.std.proofs.Common.{◌∙◌}
-use Rattle.mh_top_load.proofs.Sampling.{sample_made, sample_stops}
+use Rattle.mh_top_load.proofs.SampleModules.{sample_made, sample_stops}
 use Rattle.mh_top_load.proofs.modules.sample_modules.Goals as goal
 
 pub returns-in-Ok : goal.returns-in-Ok

@@ -1,4 +1,4 @@
-use Rattle.mh_top_load.proofs.Sampling.{text_short}
+use Rattle.mh_top_load.proofs.SampleModules.{text_short}
 use Rattle.mh_top_load.proofs.modules.sample_text.Goals as goal
 
 pub returns-clause-short : goal.returns-clause-short

@@ -1,13 +1,13 @@
-use Rattle.mh_msgfile.specs.Printed.{echo_text}
-use Rattle.mh_top_drive.specs.FileStage.{IsFile}
-use Rattle.mh_top_plans.specs.MessagesStage.{IsMessagesFile}
+use Rattle.mh_msgfile.specs.FileTexts.{echo_text}
+use Rattle.mh_top_drive.specs.FileContents.{IsFileContent}
+use Rattle.mh_top_plans.specs.MessagesFiles.{IsMessagesFile}
 use Rattle.mh_top_plans.specs.code.Modes.{WritesFinal}
-use Rattle.mh_top_plans.specs.Plan.{writes_final}
+use Rattle.mh_top_plans.specs.Plan.{writing_plan}
 use Rattle.mh_top_plans.specs.declared.at_end.FinalText.TheVariants.{Written}
-use Rattle.mh_top_plans.proofs.Messaging.{one_opens}
+use Rattle.mh_top_plans.proofs.MessagesFileLines.{one_opens}
 use Rattle.mh_top_modes.proofs.echoing.echo_errors.Goals as goal
 
 pub returns-in-Err-clause-opens : goal.returns-in-Err-clause-opens
 returns-in-Err-clause-opens g c =
     let p = c.args.prepared.now in
-    one_opens p (g.F.Shelf.files c.args.shelf.now) (IsFile (g.F.Shelf.files c.args.shelf.now) (IsMessagesFile p.grammar) c.args.file.now) c.args.file.now WritesFinal (λ spelled. writes_final (Written (echo_text p.grammar spelled))) c.in-Err.stop c.in-Err.ensures.spelled
+    one_opens p (g.F.Shelf.files c.args.shelf.now) (IsFileContent (g.F.Shelf.files c.args.shelf.now) (IsMessagesFile p.grammar) c.args.file.now) c.args.file.now WritesFinal (λ spelled. writing_plan (Written (echo_text p.grammar spelled))) c.in-Err.stop c.in-Err.ensures.spelled

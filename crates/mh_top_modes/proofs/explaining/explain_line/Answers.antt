@@ -1,5 +1,5 @@
 use Rattle.std.proofs.Common.{refl, rules, arith}
-use Rattle.mh_msgfile.proofs.Below.{sentence_below, start_known}
+use Rattle.mh_msgfile.proofs.SentenceBounds.{sentence_below, start_known}
 use Rattle.mh_top_modes.proofs.explaining.explain_line.Goals as goal
 
 pub explain_sentence-requires : goal.explain_sentence-requires

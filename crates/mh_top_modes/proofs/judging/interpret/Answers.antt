@@ -1,4 +1,4 @@
-use Rattle.mh_top_plans.proofs.Following.{opened_followed, opened_read}
+use Rattle.mh_top_plans.proofs.OpenedAndRan.{opened_followed, opened_read}
 use Rattle.mh_top_modes.proofs.judging.interpret.Goals as goal
 
 pub returns-clause-ran : goal.returns-clause-ran

@@ -1,6 +1,6 @@
 use Rattle.std.proofs.Common.{◌≡◌, refl, subst}
 use Rattle.mh_msgfile.specs.Sentences.{Vocabulary, IsSentence, sentence_in}
-use Rattle.mh_msgfile.proofs.Below.{sentence_below, start_known}
+use Rattle.mh_msgfile.proofs.SentenceBounds.{sentence_below, start_known}
 use Rattle.mh_top_modes.proofs.judging.line_text.Goals as goal
 
 pub sentence_text-requires-clause-start : goal.sentence_text-requires-clause-start

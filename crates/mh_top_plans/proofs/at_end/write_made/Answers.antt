@@ -1,6 +1,6 @@
-use Rattle.mh_top_drive.proofs.Opening.{unopened_counts}
+use Rattle.mh_top_drive.proofs.OpenedModes.{unopened_counts}
 use Rattle.mh_top_plans.specs.code.Modes.{WritesFinal}
-use Rattle.mh_top_plans.proofs.Following.{made_driven}
+use Rattle.mh_top_plans.proofs.OpenedAndRan.{made_driven}
 use Rattle.mh_top_plans.proofs.at_end.write_made.Goals as goal
 
 pub returns-in-Ok-clause-ran : goal.returns-in-Ok-clause-ran

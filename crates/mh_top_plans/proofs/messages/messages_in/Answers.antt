@@ -1,6 +1,6 @@
-use Rattle.mh_top_drive.proofs.Binding.{then_on, then_stops}
+use Rattle.mh_top_drive.proofs.Then.{then_on, then_stops}
 use Rattle.mh_grammar.specs.Text.{Text}
-use Rattle.mh_top_plans.specs.MessagesStage.{AreMessagesOf, IsMessagesFile}
+use Rattle.mh_top_plans.specs.MessagesFiles.{AreMessagesOf, IsMessagesFile}
 use Rattle.mh_top_plans.proofs.messages.messages_in.Goals as goal
 
 pub returns-in-Ok : goal.returns-in-Ok

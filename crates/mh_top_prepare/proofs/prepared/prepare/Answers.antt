@@ -1,4 +1,4 @@
-use Rattle.mh_top_prepare.proofs.Going.{from_source, source_stops}
+use Rattle.mh_top_prepare.proofs.StagesToTable.{from_source, source_stops}
 use Rattle.mh_top_prepare.proofs.prepared.prepare.Goals as goal
 
 pub returns-in-Ok-clause-prepared : goal.returns-in-Ok-clause-prepared

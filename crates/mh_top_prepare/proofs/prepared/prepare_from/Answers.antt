@@ -1,4 +1,4 @@
-use Rattle.mh_top_prepare.proofs.Going.{table_stops}
+use Rattle.mh_top_prepare.proofs.StagesToTable.{table_stops}
 use Rattle.mh_top_prepare.proofs.prepared.prepare_from.Goals as goal
 
 pub returns-in-Err-clause-prepared : goal.returns-in-Err-clause-prepared

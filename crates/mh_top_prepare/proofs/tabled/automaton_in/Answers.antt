@@ -1,6 +1,6 @@
 use Rattle.std.specs.Prelude.{Err}
 use Rattle.std.proofs.Common.{refl}
-use Rattle.mh_top_prepare.proofs.Going.{both_ok}
+use Rattle.mh_top_prepare.proofs.StagesToTable.{both_ok}
 use Rattle.mh_top_prepare.proofs.tabled.automaton_in.Goals as goal
 
 pub returns-in-Merged-clause-made : goal.returns-in-Merged-clause-made

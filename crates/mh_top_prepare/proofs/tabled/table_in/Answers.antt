@@ -1,10 +1,10 @@
 use Rattle.std.proofs.Common.{rules}
-use Rattle.mh_top_tables.specs.declared.sources.Source.TheVariants.{File}
-use Rattle.mh_top_prepare.proofs.Going.{automaton_kept, automaton_stops, valid_table}
+use Rattle.mh_top_tables.specs.declared.sources.AutomatonSource.TheVariants.{File}
+use Rattle.mh_top_prepare.proofs.StagesToTable.{automaton_kept, automaton_stops, valid_table}
 use Rattle.mh_top_prepare.proofs.tabled.table_in.Goals as goal
 
 pub with_valid-requires : goal.with_valid-requires
-with_valid-requires g c = (search rules, (search rules, (c.requires.few, (c.requires.width, (rw c.in-Ok.ensures.stage.mode c.in-Ok.ensures.stage.table, c.in-Ok.ensures.stage.conflicts)))))
+with_valid-requires g c = (search rules, (search rules, (c.requires.fits, (rw c.in-Ok.ensures.stage.mode c.in-Ok.ensures.stage.table, c.in-Ok.ensures.stage.conflicts))))
 
 pub returns-in-Ok-clause-stage : goal.returns-in-Ok-clause-stage
 returns-in-Ok-clause-stage g c =

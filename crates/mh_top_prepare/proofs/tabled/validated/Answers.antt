@@ -1,6 +1,6 @@
 use Rattle.std.specs.Prelude.{Err}
 use Rattle.std.proofs.Common.{ap}
-use Rattle.mh_top_prepare.proofs.Going.{not_valid_stops}
+use Rattle.mh_top_prepare.proofs.StagesToTable.{not_valid_stops}
 use Rattle.mh_top_prepare.proofs.tabled.validated.Goals as goal
 
 pub returns-in-Ok-clause-stage : goal.returns-in-Ok-clause-stage

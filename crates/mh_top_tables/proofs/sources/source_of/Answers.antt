@@ -1,5 +1,5 @@
 use Rattle.std.proofs.Common.{◌≡◌, Some, ap, sym, ◌∙◌}
-use Rattle.mh_top_tables.proofs.Sourcing.{built_numbered, built_source, order_source}
+use Rattle.mh_top_tables.proofs.IsAutomatonSource.{built_numbered, built_source, order_source}
 use Rattle.mh_top_tables.proofs.sources.source_of.Goals as goal
 
 pub returns-in-Some-clause-source : goal.returns-in-Some-clause-source

@@ -1,5 +1,5 @@
 use Rattle.mh_tabfile_read.specs.declared.reading.TabFault.TheVariants.{Version}
-use Rattle.mh_top_tables.proofs.Rejecting.{rejected_so}
+use Rattle.mh_top_tables.proofs.IsTableFault.{rejected_so}
 use Rattle.mh_top_tables.proofs.table_file.raw_in.Goals as goal
 
 pub returns-in-Err-Version : goal.returns-in-Err-Version

@@ -1,4 +1,4 @@
-use Rattle.mh_top_tables.proofs.Tabling.{halts_too, loops_there}
+use Rattle.mh_top_tables.proofs.ResolvedStage.{halts_too, loops_there}
 use Rattle.mh_top_tables.proofs.tabled.where_halting.Goals as goal
 
 pub returns-in-Ok : goal.returns-in-Ok

@@ -1,4 +1,4 @@
-use Rattle.mh_top_warnings.proofs.Lines.{both_written, first_cut}
+use Rattle.mh_top_warnings.proofs.LastLine.{both_written, first_cut}
 use Rattle.mh_top_warnings.proofs.last_line.write_both.Goals as goal
 
 pub returns-in-Ok-clause-bytes : goal.returns-in-Ok-clause-bytes

@@ -1,4 +1,4 @@
-use Rattle.mh_update.proofs.Twice.{updated_once, updated_again}
+use Rattle.mh_update.proofs.UpdatedAgain.{updated_once, updated_again}
 use Rattle.mh_update.proofs.laws.updated_again.Goals as goal
 
 pub returns-clause-once : goal.returns-clause-once

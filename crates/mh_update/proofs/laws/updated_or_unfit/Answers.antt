@@ -1,4 +1,4 @@
-use Rattle.mh_update.proofs.Unfit.{unfit_once, updated_fits, updated_or_unfit}
+use Rattle.mh_update.proofs.UpdatedOrUnfit.{unfit_once, updated_fits, updated_or_unfit}
 use Rattle.mh_update.proofs.laws.updated_or_unfit.Goals as goal
 
 pub returns-clause-fault : goal.returns-clause-fault

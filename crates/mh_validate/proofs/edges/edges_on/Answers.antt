@@ -1,5 +1,5 @@
 use Rattle.std.proofs.Common.{◌∙◌, arith}
-use Rattle.mh_validate.proofs.Counting.{row_step, row_done}
+use Rattle.mh_validate.proofs.FirstRows.{row_step, row_done}
 use Rattle.mh_validate.proofs.edges.edges_on.Goals as goal
 
 pub loop-at-preserved : goal.loop-at-preserved

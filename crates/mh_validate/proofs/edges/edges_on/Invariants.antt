@@ -1,5 +1,5 @@
 use Rattle.std.proofs.Common.{◌≡◌, ◌++◌, drop}
-use Rattle.mh_validate.specs.code.Leading.{edges_on}
+use Rattle.mh_validate.specs.code.MatchedEdges.{edges_on}
 use Rattle.mh_validate.proofs.edges.edges_on.Given as goal
 
 abbrev pub invariant-loop-at : goal.invariant-loop-at

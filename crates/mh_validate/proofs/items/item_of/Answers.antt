@@ -1,6 +1,6 @@
 use Rattle.std.proofs.Common.{sym, ◌∙◌, true≢false}
 use Rattle.mh_grammar.proofs.Lists.{some_length}
-use Rattle.mh_validate.proofs.Itemed.{item_place, item_from}
+use Rattle.mh_validate.proofs.ItemsRead.{item_place, item_from}
 use Rattle.mh_validate.proofs.items.item_of.Goals as goal
 
 pub returns-then-not-is_place : goal.returns-then-not-is_place

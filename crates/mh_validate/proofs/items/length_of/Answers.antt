@@ -1,5 +1,5 @@
 use Rattle.std.proofs.Common.{◌∙◌, arith}
-use Rattle.mh_validate.proofs.Itemed.{start_length, ordinary_length}
+use Rattle.mh_validate.proofs.ItemsRead.{start_length, ordinary_length}
 use Rattle.mh_validate.proofs.items.length_of.Goals as goal
 
 pub returns-then-production-starts : goal.returns-then-production-starts

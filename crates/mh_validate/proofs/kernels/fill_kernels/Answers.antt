@@ -1,7 +1,7 @@
 use Rattle.std.proofs.Common.{arith}
 use Rattle.mh_items_kernels.specs.Automaton.{no_kernel}
 use Rattle.mh_validate_valid.specs.Valid.{HasKernel}
-use Rattle.mh_validate_valid.proofs.Pushed.{count_more, pushed}
+use Rattle.mh_validate_valid.proofs.AppendedAt.{count_more, pushed}
 use Rattle.mh_validate.proofs.FirstKernels.{kernels_stop, kernels_end}
 use Rattle.mh_validate.proofs.kernels.fill_kernels.Goals as goal
 

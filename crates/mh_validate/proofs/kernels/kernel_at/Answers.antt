@@ -1,5 +1,5 @@
 use Rattle.std.proofs.Common.{sym, ◌∙◌, true≢false}
-use Rattle.mh_validate.proofs.Stating.{kernel_has, never_has}
+use Rattle.mh_validate.proofs.StateKernel.{kernel_has, never_has}
 use Rattle.mh_validate.proofs.kernels.kernel_at.Goals as goal
 
 pub returns : goal.returns

@@ -1,6 +1,6 @@
 use Rattle.std.proofs.Common.{◌≡◌, sym, ap, ◌∙◌, true≢false}
 use Rattle.mh_msgfile.specs.Sentences.{Vocabulary, number_in, number_of, token_names}
-use Rattle.mh_validate.proofs.Named.{token_named, none_named}
+use Rattle.mh_validate.proofs.LookByName.{token_named, none_named}
 use Rattle.mh_validate.proofs.looks.look_of.Goals as goal
 
 pub returns-in-Some : goal.returns-in-Some

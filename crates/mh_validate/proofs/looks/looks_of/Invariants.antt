@@ -1,5 +1,5 @@
 use Rattle.std.proofs.Common.{take}
-use Rattle.mh_validate.proofs.Itemed.{LooksSoFar}
+use Rattle.mh_validate.proofs.ItemsRead.{LooksSoFar}
 use Rattle.mh_validate.proofs.looks.looks_of.Given as goal
 
 abbrev pub invariant-loop-name : goal.invariant-loop-name

@@ -1,11 +1,11 @@
 use Rattle.std.proofs.Common.{[], arith, rules}
 use Rattle.mh_validate_valid.specs.Valid.{HasEdges}
-use Rattle.mh_validate_valid.proofs.Pushed.{count_more, pushed}
-use Rattle.mh_validate.proofs.Counting.{rows_stop, rows_end}
+use Rattle.mh_validate_valid.proofs.AppendedAt.{count_more, pushed}
+use Rattle.mh_validate.proofs.FirstRows.{rows_stop, rows_end}
 use Rattle.mh_validate.proofs.rows.fill_rows.Goals as goal
 
 pub row_at-requires : goal.row_at-requires
-row_at-requires g c = (search rules, (search rules, (c.requires.few, (c.requires.width, (c.requires.range, (c.loop-state.invariant.mover, (c.requires.kernels, c.loop-state-test.true)))))))
+row_at-requires g c = (search rules, (search rules, (c.requires.fits, (c.loop-state.invariant.mover, (c.requires.kernels, c.loop-state-test.true)))))
 
 pub loop-state-preserved : goal.loop-state-preserved
 loop-state-preserved g c = record {

@@ -1,10 +1,10 @@
 use Rattle.std.proofs.Common.{rules}
 use Rattle.std.proofs.lemmas.Result.{IfOk-weaker}
-use Rattle.mh_validate.proofs.Edging.{found_row, moves_at, kernel_right}
+use Rattle.mh_validate.proofs.MatchedEdges.{found_row, moves_at, kernel_right}
 use Rattle.mh_validate.proofs.rows.row_at.Goals as goal
 
 pub moves-requires : goal.moves-requires
-moves-requires g c = (search rules, (search rules, (c.requires.few, (c.requires.width, (c.requires.range, (c.requires.mover, kernel_right c.args.grammar.now c.args.raw.now c.args.kernels.now c.requires.kernels c.args.state c.index-kernels-state.result c.requires.state c.index-kernels-state.is))))))
+moves-requires g c = (search rules, (search rules, (c.requires.fits, (c.requires.mover, kernel_right c.args.grammar.now c.args.raw.now c.args.kernels.now c.requires.kernels c.args.state c.index-kernels-state.result c.requires.state c.index-kernels-state.is))))
 
 pub returns-clause-row : goal.returns-clause-row
 returns-clause-row g c =

@@ -1,5 +1,5 @@
 use Rattle.std.proofs.Common.{◌≡◌, ◌<◌, length, arith}
-use Rattle.mh_validate.proofs.Judging.{cell_fault, edge_fault, edges_fault, wrong_fault}
+use Rattle.mh_validate.proofs.Outcomes.{cell_fault, edge_fault, edges_fault, wrong_fault}
 use Rattle.mh_validate.proofs.validation.fault_within.Goals as goal
 
 pub returns : goal.returns

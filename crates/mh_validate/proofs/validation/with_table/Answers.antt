@@ -1,10 +1,10 @@
 use Rattle.std.proofs.Common.{◌<◌, ◌≤◌, length, refl, arith, rules}
-use Rattle.mh_validate_valid.proofs.Giving.{automaton_named}
-use Rattle.mh_validate.proofs.Judging.{cell_fault, wrong_fault, valid_told, resolved_at, named}
+use Rattle.mh_validate_valid.proofs.ValidIsAutomaton.{automaton_named}
+use Rattle.mh_validate.proofs.Outcomes.{cell_fault, wrong_fault, valid_by_tests, resolved_at, named}
 use Rattle.mh_validate.proofs.validation.with_table.Goals as goal
 
 pub resolve_states-requires : goal.resolve_states-requires
-resolve_states-requires g c = (search rules, (c.requires.few, (c.requires.width, (c.requires.range, (c.requires.costs, automaton_named c.args.grammar.now c.args.raw.now c.requires.small c.args.automaton (named c.args.grammar.now c.args.raw.now c.args.automaton c.requires.states c.requires.kernels c.requires.rows))))))
+resolve_states-requires g c = (search rules, (c.requires.fits, (c.requires.costs, automaton_named c.args.grammar.now c.args.raw.now c.requires.small c.args.automaton (named c.args.grammar.now c.args.raw.now c.args.automaton c.requires.states c.requires.kernels c.requires.rows))))
 
 pub returns-then-right-len : goal.returns-then-right-len
 returns-then-right-len g c =
@@ -23,7 +23,7 @@ returns g c =
     let n = c.in-Ok.ensures.states.count in
     let m = c.requires.kernels.count in
     rw c.in-Ok-table_of.ensures (record {
-      valid = valid_told c.args.grammar.now c.args.raw.now c.args.automaton c.in-Ok.found.states.items c.requires.header c.requires.states c.requires.kernels c.requires.rows c.in-Ok.ensures.states (λ s lt. told.each s (omega (arith, lt, past, n, m)));
+      valid = valid_by_tests c.args.grammar.now c.args.raw.now c.args.automaton c.in-Ok.found.states.items c.requires.header c.requires.states c.requires.kernels c.requires.rows c.in-Ok.ensures.states (λ s lt. told.each s (omega (arith, lt, past, n, m)));
       table = record { grammar = refl; costs = refl; states = c.in-Ok.ensures.states };
       conflicts = c.in-Ok.ensures.conflicts;
       mode = refl;

@@ -1,6 +1,6 @@
 use Rattle.std.proofs.Common.{sym, ◌∙◌, true≢false}
-use Rattle.mh_tabfile_form.specs.Written.{raw_row}
-use Rattle.mh_validate_valid.proofs.Lines.{row_acts_or}
+use Rattle.mh_tabfile_form.specs.TableContent.{raw_row}
+use Rattle.mh_validate_valid.proofs.CellLines.{row_acts_or}
 use Rattle.mh_validate_valid.proofs.cells.acts.Goals as goal
 
 pub returns-then-not-is_same : goal.returns-then-not-is_same

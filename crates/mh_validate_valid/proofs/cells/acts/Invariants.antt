@@ -1,5 +1,5 @@
 use Rattle.std.proofs.Common.{◌≡◌, drop}
-use Rattle.mh_tabfile_form.specs.Written.{raw_row}
+use Rattle.mh_tabfile_form.specs.TableContent.{raw_row}
 use Rattle.mh_validate_valid.proofs.cells.acts.Given as goal
 
 abbrev pub invariant-loop-cell : goal.invariant-loop-cell

@@ -1,4 +1,4 @@
-use Rattle.mh_validate_valid.proofs.Rowing.{row_end}
+use Rattle.mh_validate_valid.proofs.RowEnd.{row_end}
 use Rattle.mh_validate_valid.proofs.cells.are_cells.Goals as goal
 
 pub returns : goal.returns

@@ -1,5 +1,5 @@
 use Rattle.std.proofs.Common.{◌≡◌, ◌↔◌, ◌≤◌, drop, length}
-use Rattle.mh_tabfile_form.specs.Written.{raw_row}
+use Rattle.mh_tabfile_form.specs.TableContent.{raw_row}
 use Rattle.mh_validate_valid.proofs.cells.are_cells.Given as goal
 
 abbrev pub invariant-loop-token : goal.invariant-loop-token

@@ -1,5 +1,5 @@
 use Rattle.std.proofs.Common.{sym, ◌∙◌, true≢false}
-use Rattle.mh_validate_valid.proofs.Lines.{cells_stop}
+use Rattle.mh_validate_valid.proofs.CellLines.{cells_stop}
 use Rattle.mh_validate_valid.proofs.cells.count_right.Goals as goal
 
 pub returns-then-not-has_parts : goal.returns-then-not-has_parts

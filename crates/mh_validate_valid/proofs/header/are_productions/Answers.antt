@@ -1,5 +1,5 @@
-use Rattle.mh_tabfile_form.specs.Written.{raw_production}
-use Rattle.mh_validate_valid.proofs.Mapped.{mapped_all, mapped_next, mapped_differs}
+use Rattle.mh_tabfile_form.specs.TableContent.{raw_production}
+use Rattle.mh_validate_valid.proofs.ComparedMap.{mapped_all, mapped_next, mapped_differs}
 use Rattle.mh_validate_valid.proofs.header.are_productions.Goals as goal
 
 pub returns-then-not-is_production : goal.returns-then-not-is_production

@@ -1,5 +1,5 @@
 use Rattle.std.proofs.Common.{◌≡◌, ◌↔◌, drop, map, length}
-use Rattle.mh_tabfile_form.specs.Written.{raw_production}
+use Rattle.mh_tabfile_form.specs.TableContent.{raw_production}
 use Rattle.mh_validate_valid.proofs.header.are_productions.Given as goal
 
 abbrev pub invariant-loop-at : goal.invariant-loop-at

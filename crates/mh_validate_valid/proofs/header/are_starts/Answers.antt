@@ -1,6 +1,6 @@
 use Rattle.std.proofs.Common.{get_or, refl}
 use Rattle.mh_grammar.specs.Names.{nonterminal_name}
-use Rattle.mh_validate_valid.proofs.Mapped.{mapped_all, mapped_next, mapped_differs}
+use Rattle.mh_validate_valid.proofs.ComparedMap.{mapped_all, mapped_next, mapped_differs}
 use Rattle.mh_validate_valid.proofs.header.are_starts.Goals as goal
 
 pub returns-then-not-is_named : goal.returns-then-not-is_named

@@ -1,5 +1,5 @@
 use Rattle.std.proofs.Common.{sym, ◌∙◌}
-use Rattle.mh_sets.specs.Same.{sets_Decides}
+use Rattle.mh_sets.specs.LookEquality.{sets_Decides}
 use Rattle.mh_validate_valid.proofs.items.is_end.Goals as goal
 
 pub returns : goal.returns

@@ -1,4 +1,4 @@
-use Rattle.mh_validate_valid.proofs.Giving.{automaton_of, resolved_of}
+use Rattle.mh_validate_valid.proofs.ValidIsAutomaton.{automaton_of, resolved_of}
 use Rattle.mh_validate_valid.proofs.laws.valid_is_automaton.Goals as goal
 
 pub returns-clause-automaton : goal.returns-clause-automaton

@@ -1,4 +1,4 @@
-use Rattle.mh_validate_valid.proofs.Once.{automaton_is_one, test_is_one}
+use Rattle.mh_validate_valid.proofs.ValidityUnique.{automaton_is_one, test_is_one}
 use Rattle.mh_validate_valid.proofs.laws.validity_is_one.Goals as goal
 
 pub returns-clause-automaton : goal.returns-clause-automaton

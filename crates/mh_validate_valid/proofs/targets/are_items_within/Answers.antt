@@ -1,7 +1,7 @@
 use Rattle.std.proofs.Common.{sym, true≢false}
 use Rattle.mh_grammar.proofs.Lists.{zip_length}
-use Rattle.mh_validate_valid.specs.code.Within.{IsItemWithin}
-use Rattle.mh_validate_valid.proofs.Zipping.{zip_all, zip_next, zip_differs}
+use Rattle.mh_validate_valid.specs.code.KernelWithin.{IsItemWithin}
+use Rattle.mh_validate_valid.proofs.FirstDifference.{zip_all, zip_next, zip_differs}
 use Rattle.mh_validate_valid.proofs.targets.are_items_within.Goals as goal
 
 pub returns-then-inner-outer : goal.returns-then-inner-outer

@@ -1,6 +1,6 @@
 use Rattle.std.proofs.Common.{◌≡◌, ◌↔◌, drop, length}
 use Rattle.std.specs.List.{AllZip}
-use Rattle.mh_validate_valid.specs.code.Within.{IsItemWithin}
+use Rattle.mh_validate_valid.specs.code.KernelWithin.{IsItemWithin}
 use Rattle.mh_validate_valid.proofs.targets.are_items_within.Given as goal
 
 abbrev pub invariant-loop-at : goal.invariant-loop-at

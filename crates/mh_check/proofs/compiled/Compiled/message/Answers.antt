@@ -2,7 +2,7 @@ use Rattle.std.proofs.Common.{◌≡◌, ◌∙◌, ℕ, List, Option, Some, Non
 use Rattle.std.specs.Prelude.{MatchOption, slice_get}
 use Rattle.mh_check.specs.declared.places.SentencePlace.{SentencePlace}
 use Rattle.mh_check.specs.code.Places.{place_in}
-use Rattle.mh_check.proofs.Files.{message_some, message_none}
+use Rattle.mh_check.proofs.IsCompiled.{message_some, message_none}
 use Rattle.mh_check.proofs.compiled.Compiled.message.Goals as goal
 
 pub returns-in-Some : goal.returns-in-Some

@@ -1,6 +1,6 @@
 use Rattle.std.proofs.Common.{ap}
 use Rattle.mh_engine.specs.Positions.{Position}
-use Rattle.mh_engine.proofs.Moves.{no_shift_waiting}
+use Rattle.mh_engine.proofs.PhaseMoves.{no_shift_waiting}
 use Rattle.mh_engine.proofs.checkpoint.Checkpoint.phase.Goals as goal
 
 pub unreachable-requires : goal.unreachable-requires

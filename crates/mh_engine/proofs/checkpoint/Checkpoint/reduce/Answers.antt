@@ -3,14 +3,14 @@ use Rattle.std.specs.List.{All}
 use Rattle.mh_tables_core.specs.Facts.{Facts}
 use Rattle.mh_tables_core.specs.Halting.{look_list}
 use Rattle.mh_tables_core.specs.Run.{Refuses, Shifts, Reduces}
-use Rattle.mh_engine.specs.Positions.{Position, waiting}
-use Rattle.mh_engine.specs.Phases.{next_move, phase_of, IsAsking}
+use Rattle.mh_engine.specs.Positions.{Position, position_with_look}
+use Rattle.mh_engine.specs.Phases.{next_move, phase_of, CanOffer}
 use Rattle.mh_engine.specs.Steps.{resumed, offered}
-use Rattle.mh_engine.specs.code.Sound.{IsSound}
-use Rattle.mh_tables_core.specs.Deep.{too_deep}
-use Rattle.mh_engine.specs.code.Reducing.{CanReduce}
-use Rattle.mh_engine.proofs.Moves.{no_shift_waiting}
-use Rattle.mh_engine.proofs.Resuming.{full, offered_made, refused_is, shifted_made, shifted_keeps, shifted_fits, shifted_deep, Found, reduced_made, reduced_keeps, reduced_low, reduced_deep, can_reduce, going}
+use Rattle.mh_engine.specs.code.IsSound.{IsSound}
+use Rattle.mh_tables_core.specs.TooDeep.{too_deep}
+use Rattle.mh_engine.specs.code.CanReduce.{CanReduce}
+use Rattle.mh_engine.proofs.PhaseMoves.{no_shift_waiting}
+use Rattle.mh_engine.proofs.Resumed.{not_below_limit, offered_made, resumed_refused, shifted_made, shifted_keeps, shifted_fits, shifted_deep, ReductionValues, reduced_made, reduced_keeps, reduced_low, reduced_deep, can_reduce, resumable_moves}
 use Rattle.mh_grammar.specs.declared.types.Symbol.TheVariants.{N}
 use Rattle.mh_grammar.specs.Plain.{rhs_of, lhs_of}
 use Rattle.mh_tables_core.specs.Table.{TableData}
@@ -22,24 +22,24 @@ use Rattle.mh_engine.proofs.checkpoint.Checkpoint.reduce.Goals as goal
 
 pub returns-then-not-has_room-clause-deep : goal.returns-then-not-has_room-clause-deep
 returns-then-not-has_room-clause-deep c =
-    let v : Position = waiting c.self.inside.table.now c.self.inside.stack c.self.inside.pending c.self.inside.refused in
+    let v : Position = position_with_look c.self.inside.table.now c.self.inside.stack c.self.inside.pending c.self.inside.refused in
     let size = c.length_of-length.ensures ∙ ap (λ (t : TableData). length (rhs_of t.grammar c.args.production)) c.table-table.ensures.table in
     let next = subst (λ (p : Position). next_move p ≡ Reduces c.args.production) (sym c.self.view_is) c.requires.next in
     let can = subst (λ (p : Position). CanReduce p c.args.production) (sym c.self.view_is) c.requires.can in
     λ e. ap (λ (p : Position). too_deep (resumed p).pairs.trees) (sym c.self.view_is)
     ∙ reduced_deep v c.args.production c.length_of-length.result c.in_ok-kept.kept c.in_ok-kept.children.items c.table-table.ensures.facts.facts c.self.invariant.0 next can size c.in_ok-kept.ensures.below c.in_ok-kept.ensures.trees
     (elim c.then-not-has_room.branch [
-      | then-not-has_room-via-then-not-has_room w ↦ inl (full (length c.in_ok-kept.kept.trees) (λ lt. let told = w.if-not-has_room.ensures.1 lt in cc))
+      | then-not-has_room-via-then-not-has_room w ↦ inl (not_below_limit (length c.in_ok-kept.kept.trees) (λ lt. let told = w.if-not-has_room.ensures.1 lt in cc))
       | then-not-has_room-via-else-not-has_room+then-not-can_be_children w ↦ inr (λ all. let told = w.if-not-can_be_children.ensures.1 (subst (All (λ t. height_of t < 4000)) (sym w.as_slice.ensures.value) all) in cc)
     ])
 
 pub invariant_of-result : goal.invariant_of-result
 invariant_of-result c =
-    let v : Position = waiting c.self.inside.table.now c.self.inside.stack c.self.inside.pending c.self.inside.refused in
+    let v : Position = position_with_look c.self.inside.table.now c.self.inside.stack c.self.inside.pending c.self.inside.refused in
     let size = c.length_of-length.ensures ∙ ap (λ (t : TableData). length (rhs_of t.grammar c.args.production)) c.table-table.ensures.table in
     let next = subst (λ (p : Position). next_move p ≡ Reduces c.args.production) (sym c.self.view_is) c.requires.next in
     let can = subst (λ (p : Position). CanReduce p c.args.production) (sym c.self.view_is) c.requires.can in
-    let found : Found v c.args.production c.length_of-length.result c.in-Some.target c.in_ok-kept.kept c.in_ok-kept.children.items c.in_ok-push.field-0 = record {
+    let found : ReductionValues v c.args.production c.length_of-length.result c.in-Some.target c.in_ok-kept.kept c.in_ok-kept.children.items c.in_ok-push.field-0 = record {
       size_is = size;
       kept_are = c.in_ok-kept.ensures.below;
       children_are = c.in_ok-kept.ensures.trees;
@@ -53,11 +53,11 @@ invariant_of-result c =
 
 pub returns-clause-made : goal.returns-clause-made
 returns-clause-made c =
-    let v : Position = waiting c.self.inside.table.now c.self.inside.stack c.self.inside.pending c.self.inside.refused in
+    let v : Position = position_with_look c.self.inside.table.now c.self.inside.stack c.self.inside.pending c.self.inside.refused in
     let size = c.length_of-length.ensures ∙ ap (λ (t : TableData). length (rhs_of t.grammar c.args.production)) c.table-table.ensures.table in
     let next = subst (λ (p : Position). next_move p ≡ Reduces c.args.production) (sym c.self.view_is) c.requires.next in
     let can = subst (λ (p : Position). CanReduce p c.args.production) (sym c.self.view_is) c.requires.can in
-    let found : Found v c.args.production c.length_of-length.result c.in-Some.target c.in_ok-kept.kept c.in_ok-kept.children.items c.in_ok-push.field-0 = record {
+    let found : ReductionValues v c.args.production c.length_of-length.result c.in-Some.target c.in_ok-kept.kept c.in_ok-kept.children.items c.in_ok-push.field-0 = record {
       size_is = size;
       kept_are = c.in_ok-kept.ensures.below;
       children_are = c.in_ok-kept.ensures.trees;
@@ -68,11 +68,11 @@ returns-clause-made c =
 
 pub returns-clause-fits : goal.returns-clause-fits
 returns-clause-fits c =
-    let v : Position = waiting c.self.inside.table.now c.self.inside.stack c.self.inside.pending c.self.inside.refused in
+    let v : Position = position_with_look c.self.inside.table.now c.self.inside.stack c.self.inside.pending c.self.inside.refused in
     let size = c.length_of-length.ensures ∙ ap (λ (t : TableData). length (rhs_of t.grammar c.args.production)) c.table-table.ensures.table in
     let next = subst (λ (p : Position). next_move p ≡ Reduces c.args.production) (sym c.self.view_is) c.requires.next in
     let can = subst (λ (p : Position). CanReduce p c.args.production) (sym c.self.view_is) c.requires.can in
-    let found : Found v c.args.production c.length_of-length.result c.in-Some.target c.in_ok-kept.kept c.in_ok-kept.children.items c.in_ok-push.field-0 = record {
+    let found : ReductionValues v c.args.production c.length_of-length.result c.in-Some.target c.in_ok-kept.kept c.in_ok-kept.children.items c.in_ok-push.field-0 = record {
       size_is = size;
       kept_are = c.in_ok-kept.ensures.below;
       children_are = c.in_ok-kept.ensures.trees;

@@ -3,8 +3,8 @@ use Rattle.mh_grammar.specs.Trees.{SyntaxTree}
 use Rattle.mh_tables_core.specs.Table.{TableData}
 use Rattle.mh_tables_core.specs.Facts.{Facts}
 use Rattle.mh_engine.specs.Positions.{Position}
-use Rattle.mh_engine.specs.code.Sound.{IsSound}
-use Rattle.mh_engine.proofs.Moves.{accepted_tree, accepted_some}
+use Rattle.mh_engine.specs.code.IsSound.{IsSound}
+use Rattle.mh_engine.proofs.PhaseMoves.{accepted_tree, accepted_some}
 use Rattle.mh_engine.proofs.checkpoint.Checkpoint.tree.Goals as goal
 
 pub unreachable-requires : goal.unreachable-requires

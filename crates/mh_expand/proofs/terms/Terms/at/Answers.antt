@@ -1,7 +1,7 @@
 use Rattle.std.proofs.Common.{◌≡◌, ◌<◌, length, Some, ap, ◌∙◌, sym, arith}
 use Rattle.std.specs.List.{slice_get}
 use Rattle.std.proofs.lemmas.Option.{slice_get-get_or}
-use Rattle.mh_expand.proofs.Shared.{terms_of-length, terms_of-means}
+use Rattle.mh_expand.proofs.SharedTerms.{terms_of-length, terms_of-means}
 use Rattle.mh_expand.proofs.terms.Terms.at.Goals as goal
 
 pub offset_bounds-as_slice-number : goal.offset_bounds-as_slice-number

@@ -1,4 +1,4 @@
-use Rattle.mh_expand.proofs.Shared.{AreNodes-result, AreNodes-placed, Placed-term}
+use Rattle.mh_expand.proofs.SharedTerms.{AreNodes-result, AreNodes-placed, Placed-term}
 use Rattle.mh_expand.proofs.terms.Terms.insert.Goals as goal
 
 pub invariant_of-self : goal.invariant_of-self

@@ -1,6 +1,6 @@
 use Rattle.std.proofs.Common.{ap, ◌∙◌}
-use Rattle.mh_expand.specs.code.Sharing.{terms_of}
-use Rattle.mh_expand.proofs.Shared.{terms_of-none}
+use Rattle.mh_expand.specs.code.SharedTerms.{terms_of}
+use Rattle.mh_expand.proofs.SharedTerms.{terms_of-none}
 use Rattle.mh_expand.proofs.terms.Terms.new.Goals as goal
 
 pub returns : goal.returns

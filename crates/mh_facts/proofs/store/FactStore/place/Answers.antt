@@ -1,4 +1,4 @@
-use Rattle.mh_facts.proofs.Storing.{place_found, place_none}
+use Rattle.mh_facts.proofs.StoreEntries.{place_found, place_none}
 use Rattle.mh_facts.proofs.store.FactStore.place.Goals as goal
 
 pub returns-clause-none : goal.returns-clause-none

@@ -1,5 +1,5 @@
 use Rattle.std.proofs.Common.{sym}
-use Rattle.mh_join_names.proofs.Listing.{placed_has}
+use Rattle.mh_join_names.proofs.IsPositionMap.{placed_has}
 use Rattle.mh_join_names.proofs.name_list.NameList.contains.Goals as goal
 
 pub returns : goal.returns

@@ -1,6 +1,6 @@
 use Rattle.std.proofs.Common.{◌≡◌, arith, ◌∙◌, ap, sym, false}
 use Rattle.std.specs.Str.{bytes_eq}
-use Rattle.mh_outside.proofs.Pieces.{file_skip}
+use Rattle.mh_outside.proofs.Consumes.{file_skip}
 use Rattle.mh_outside.proofs.fakes.mem_shelf.file_of.Goals as goal
 
 pub loop-rest-preserved : goal.loop-rest-preserved

@@ -1,7 +1,7 @@
 use Rattle.std.proofs.Common.{◌≡◌, Some, length, refl, rules}
 use Rattle.std.specs.List.{slice_get}
 use Rattle.std.proofs.lemmas.Option.{slice_get_read, slice_get_within}
-use Rattle.mh_pager.proofs.Indexing.{candidates_of}
+use Rattle.mh_pager.proofs.IsCoreIndex.{candidates_of}
 use Rattle.mh_pager.proofs.worklist.Worklist.fitting.Goals as goal
 
 pub first_fitting-requires : goal.first_fitting-requires

@@ -3,7 +3,7 @@ use Rattle.std.specs.List.{slice_get}
 use Rattle.std.proofs.lemmas.List.{length_push}
 use Rattle.std.proofs.lemmas.Option.{slice_get_read, slice_get_within}
 use Rattle.mh_grammar.specs.declared.edges.Edge.{Edge}
-use Rattle.mh_pager.proofs.Indexing.{indexed_append}
+use Rattle.mh_pager.proofs.IsCoreIndex.{indexed_append}
 use Rattle.mh_pager.proofs.worklist.Worklist.push.Goals as goal
 
 pub returns-clause-ok : goal.returns-clause-ok

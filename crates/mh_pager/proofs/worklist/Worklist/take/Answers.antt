@@ -4,7 +4,7 @@ use Rattle.std.proofs.lemmas.List.{length-set}
 use Rattle.std.proofs.lemmas.Option.{slice_get_read}
 use Rattle.mh_grammar.specs.Plain.{plain_of}
 use Rattle.mh_pager_steps.specs.code.Cores.{core_of}
-use Rattle.mh_pager.proofs.Indexing.{joined_core, indexed_join}
+use Rattle.mh_pager.proofs.IsCoreIndex.{joined_core, indexed_join}
 use Rattle.mh_pager.proofs.worklist.Worklist.take.Goals as goal
 
 pub joined-requires : goal.joined-requires
@@ -12,7 +12,7 @@ joined-requires g c =
     let kernels = c.args.self.now.kernels.items in
     let k = c.index.result.now in
     let at : slice_get kernels c.args.state ≡ Some k = slice_get_read kernels (length kernels) c.args.state k refl c.requires.within c.index.ensures in
-    (search rules, (c.requires.small, (c.requires.ready.valid c.args.state k at, (c.requires.kernel, c.requires.core k at))))
+    (search rules, (c.requires.fits.few, (c.requires.ready.valid c.args.state k at, (c.requires.kernel, c.requires.core k at))))
 
 pub returns-clause-work : goal.returns-clause-work
 returns-clause-work g c =

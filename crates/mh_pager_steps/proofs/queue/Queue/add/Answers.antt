@@ -1,5 +1,5 @@
 use Rattle.std.proofs.Common.{◌≡◌, length, ◌∙◌}
-use Rattle.mh_pager_steps.proofs.Queueing.{flagged_push}
+use Rattle.mh_pager_steps.proofs.AreFlagged.{flagged_push}
 use Rattle.mh_pager_steps.proofs.queue.Queue.add.Goals as goal
 
 pub returns-clause-flagged : goal.returns-clause-flagged

@@ -1,7 +1,7 @@
 use Rattle.std.proofs.Common.{◌≡◌, Some, false, length, refl, inr}
 use Rattle.std.specs.List.{slice_get}
 use Rattle.std.proofs.lemmas.Option.{slice_get_read}
-use Rattle.mh_pager_steps.proofs.Queueing.{flagged_again, not_waiting}
+use Rattle.mh_pager_steps.proofs.AreFlagged.{flagged_again, not_waiting}
 use Rattle.mh_pager_steps.proofs.queue.Queue.add_again.Goals as goal
 
 pub returns-clause-flagged : goal.returns-clause-flagged

@@ -1,5 +1,5 @@
 use Rattle.std.proofs.Common.{arith}
-use Rattle.mh_pager_steps.proofs.Queueing.{flagged_rest, oldest_flag}
+use Rattle.mh_pager_steps.proofs.AreFlagged.{flagged_rest, oldest_flag}
 use Rattle.mh_pager_steps.proofs.queue.Queue.take_oldest.Goals as goal
 
 pub index_mut-requires : goal.index_mut-requires

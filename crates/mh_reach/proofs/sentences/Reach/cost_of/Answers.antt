@@ -1,8 +1,8 @@
 use Rattle.std.proofs.Common.{arith, sym, ◌∙◌, Some, None, ap, subst}
 use Rattle.mh_tables_core.specs.Table.{TableData}
 use Rattle.mh_reach.specs.Reaching.{LeastCost}
-use Rattle.mh_reach.proofs.Costing.{least_cost}
-use Rattle.mh_reach.proofs.First.{index_at}
+use Rattle.mh_reach.proofs.BestCandidate.{least_cost}
+use Rattle.mh_reach.proofs.FailsFirst.{index_at}
 use Rattle.mh_reach.proofs.sentences.Reach.cost_of.Goals as goal
 
 pub returns-in-None : goal.returns-in-None

@@ -1,15 +1,15 @@
 use Rattle.std.proofs.Common.{◌≡◌, ◌++◌, ◌∷◌, [], arith, sym, ◌∙◌, Some, None, ap, subst, List, ℕ}
 use Rattle.std.specs.Prelude.{reverse}
 use Rattle.mh_tables_core.specs.Table.{TableData}
-use Rattle.mh_tables_core.specs.Failing.{FailsFirst, FailsCheaply}
-use Rattle.mh_reach.specs.code.Best.{BestOk}
-use Rattle.mh_reach.proofs.First.{index_at, best_first}
+use Rattle.mh_tables_core.specs.Failing.{FailsFirst, FailsWithinMaxCost}
+use Rattle.mh_reach.specs.code.Candidates.{IsBestCandidate}
+use Rattle.mh_reach.proofs.FailsFirst.{index_at, best_first}
 use Rattle.mh_reach.proofs.sentences.Reach.sentence_of.Goals as goal
 
 pub unreachable-requires : goal.unreachable-requires
 unreachable-requires c =
     let known = rw (sym c.self.view_is) at c.requires.state in
-    let cheap : FailsCheaply c.self.inside.table.now c.args.state = rw (sym c.self.view_is) at c.requires.cheap in
+    let cheap : FailsWithinMaxCost c.self.inside.table.now c.args.state = rw (sym c.self.view_is) at c.requires.cheap in
     let at = index_at c.self.inside.best.items c.args.state c.index.result.now (let l = c.self.invariant.long in omega (arith, l, known)) c.index.ensures in
     c.self.invariant.each c.args.state None (at ∙ ap Some c.in-None.is) (cheap.0, cheap.1, cheap.2)
 
@@ -17,15 +17,15 @@ pub walk-requires : goal.walk-requires
 walk-requires c =
     let known = rw (sym c.self.view_is) at c.requires.state in
     let at = index_at c.self.inside.best.items c.args.state c.index.result.now (let l = c.self.invariant.long in omega (arith, l, known)) c.index.ensures in
-    let ok : BestOk c.self.inside.table.now c.self.invariant.tale.words c.self.invariant.journey.labels c.args.state c.in-Some.best = c.self.invariant.each c.args.state (Some c.in-Some.best) (at ∙ ap Some c.in-Some.is) in
+    let ok : IsBestCandidate c.self.inside.table.now c.self.invariant.tale.words c.self.invariant.journey.labels c.args.state c.in-Some.best = c.self.invariant.each c.args.state (Some c.in-Some.best) (at ∙ ap Some c.in-Some.is) in
     rw c.table-table.ensures.table (c.self.invariant.tale, c.self.invariant.journey, ok.label, ok.is)
 
 pub returns : goal.returns
 returns c =
     let known = rw (sym c.self.view_is) at c.requires.state in
-    let cheap : FailsCheaply c.self.inside.table.now c.args.state = rw (sym c.self.view_is) at c.requires.cheap in
+    let cheap : FailsWithinMaxCost c.self.inside.table.now c.args.state = rw (sym c.self.view_is) at c.requires.cheap in
     let at = index_at c.self.inside.best.items c.args.state c.index.result.now (let l = c.self.invariant.long in omega (arith, l, known)) c.index.ensures in
-    let ok : BestOk c.self.inside.table.now c.self.invariant.tale.words c.self.invariant.journey.labels c.args.state c.in-Some.best = c.self.invariant.each c.args.state (Some c.in-Some.best) (at ∙ ap Some c.in-Some.is) in
+    let ok : IsBestCandidate c.self.inside.table.now c.self.invariant.tale.words c.self.invariant.journey.labels c.args.state c.in-Some.best = c.self.invariant.each c.args.state (Some c.in-Some.best) (at ∙ ap Some c.in-Some.is) in
     let walks = rw c.table-table.ensures.table at c.in_ok-start-in-Some.ensures in
     let told = walks c.self.invariant.tale c.self.invariant.journey ok.label ok.is in
     let pushed : c.push.new.self.items ≡ c.in-Some.best.token ∷ [] = c.in_ok-push-in-Some.ensures.items ∙ ap (λ (l : List ℕ). l ++ c.in-Some.best.token ∷ []) c.new-backwards.ensures.items in

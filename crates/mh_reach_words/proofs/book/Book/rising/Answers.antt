@@ -1,4 +1,4 @@
-use Rattle.mh_reach_words.proofs.Growing.{is_book}
+use Rattle.mh_reach_words.proofs.LongerBook.{is_book}
 use Rattle.mh_reach_words.proofs.book.Book.rising.Goals as goal
 
 pub returns : goal.returns

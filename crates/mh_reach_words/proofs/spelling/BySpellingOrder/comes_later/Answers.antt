@@ -1,5 +1,5 @@
 use Rattle.mh_reach_words.specs.code.Words.{words_of}
-use Rattle.mh_reach_words.proofs.Ordered.{compared_right, compared_no_later}
+use Rattle.mh_reach_words.proofs.ComparisonOrder.{compared_right, compared_no_later}
 use Rattle.mh_reach_words.proofs.spelling.BySpellingOrder.comes_later.Goals as goal
 
 pub returns-in-Greater : goal.returns-in-Greater

@@ -1,17 +1,17 @@
 use Rattle.std.proofs.Common.{◌≡◌, ap, sym, subst, ◌∙◌, refl, []}
 use Rattle.std.specs.Prelude.{IsTrue, true}
 use Rattle.mh_engine.specs.Positions.{Position}
-use Rattle.mh_engine.specs.Phases.{phase_of, CanGoOn}
-use Rattle.mh_engine.specs.Steps.{resumed, begun}
-use Rattle.mh_tables_core.specs.Deep.{too_deep}
-use Rattle.mh_session.specs.Moments.{Moment}
+use Rattle.mh_engine.specs.Phases.{phase_of, CanResume}
+use Rattle.mh_engine.specs.Steps.{resumed, initial_position}
+use Rattle.mh_tables_core.specs.TooDeep.{too_deep}
+use Rattle.mh_session.specs.SessionState.{SessionState}
 use Rattle.mh_session_branches.specs.Names.{at_name}
-use Rattle.mh_session.proofs.ValuesByName.{removal_of}
-use Rattle.mh_session.proofs.Serving.{found_none, begin_served, offer_served, resume_served, deep_served, resumed_of, fork_served, forget_served, DidPut}
+use Rattle.mh_session.proofs.ChangesName.{removal_of}
+use Rattle.mh_session.proofs.IsServed.{found_none, begin_served, offer_served, resume_served, deep_served, resumed_of, fork_served, forget_served, DidPut}
 use Rattle.mh_session.proofs.session.Session.begin.Goals as goal
 
 pub returns : goal.returns
 returns c =
     begin_served c.args.self.now c.put.new.self c.args.name.now c.args.start c.begin-checkpoint.result c.put.result (found_none c.find.result _ c.find.ensures.found (sym c.is_some.ensures ∙ c.if-is_some.false))
-    (c.begin-checkpoint.ensures.made ∙ ap (λ (m : Moment). begun m.table c.args.start []) c.self.view_is)
+    (c.begin-checkpoint.ensures.made ∙ ap (λ (m : SessionState). initial_position m.table c.args.start []) c.self.view_is)
     (record { reply = c.put.ensures.reply; fault = c.put.ensures.fault; put = c.put.ensures.put; same = c.put.ensures.same })

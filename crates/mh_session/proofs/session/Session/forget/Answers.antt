@@ -1,10 +1,10 @@
 use Rattle.std.proofs.Common.{◌≡◌, ap, sym, ◌∙◌, None, Some}
 use Rattle.std.specs.Map.{update}
-use Rattle.mh_session.specs.Moments.{Moment}
+use Rattle.mh_session.specs.SessionState.{SessionState}
 use Rattle.mh_session_branches.specs.Names.{at_name, same}
-use Rattle.mh_session.specs.code.Puts.{Puts}
-use Rattle.mh_session.proofs.ValuesByName.{removal_of}
-use Rattle.mh_session.proofs.Serving.{forget_served}
+use Rattle.mh_session.specs.code.ChangesName.{ChangesName}
+use Rattle.mh_session.proofs.ChangesName.{removal_of}
+use Rattle.mh_session.proofs.IsServed.{forget_served}
 use Rattle.mh_session.proofs.session.Session.forget.Goals as goal
 
 pub invariant_of-self-2 : goal.invariant_of-self-2
@@ -12,10 +12,10 @@ invariant_of-self-2 c = removal_of c.self.inside.table.now c.self.inside.branche
 
 pub returns : goal.returns
 returns c =
-    let new : Moment = record { table = c.self.inside.table.now; held = c.remove.new.self.entries } in
-    let has : at_name c.args.name.now c.args.self.now.held ≡ Some c.in-Some.field-0 = ap (λ (m : Moment). at_name c.args.name.now m.held) (sym c.self.view_is) ∙ sym c.in-Some.ensures.value in
-    let put : Puts c.args.self.now c.args.name.now None new = record {
-      table = ap (λ (m : Moment). m.table) c.self.view_is;
-      held = λ q. c.remove.ensures.updates.0 q ∙ ap (λ (m : Moment). update same (λ k. at_name k m.held) c.args.name.now None q) c.self.view_is;
+    let new : SessionState = record { table = c.self.inside.table.now; held = c.remove.new.self.entries } in
+    let has : at_name c.args.name.now c.args.self.now.held ≡ Some c.in-Some.field-0 = ap (λ (m : SessionState). at_name c.args.name.now m.held) (sym c.self.view_is) ∙ sym c.in-Some.ensures.value in
+    let put : ChangesName c.args.self.now c.args.name.now None new = record {
+      table = ap (λ (m : SessionState). m.table) c.self.view_is;
+      held = λ q. c.remove.ensures.updates.0 q ∙ ap (λ (m : SessionState). update same (λ k. at_name k m.held) c.args.name.now None q) c.self.view_is;
     } in
     forget_served c.args.self.now new c.args.name.now c.in-Some.field-0 has put

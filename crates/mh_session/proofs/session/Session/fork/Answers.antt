@@ -1,13 +1,13 @@
 use Rattle.std.proofs.Common.{◌≡◌, ap, sym, subst, ◌∙◌, refl}
 use Rattle.std.specs.Prelude.{IsTrue, true}
 use Rattle.mh_engine.specs.Positions.{Position}
-use Rattle.mh_engine.specs.Phases.{phase_of, CanGoOn}
+use Rattle.mh_engine.specs.Phases.{phase_of, CanResume}
 use Rattle.mh_engine.specs.Steps.{resumed}
-use Rattle.mh_tables_core.specs.Deep.{too_deep}
-use Rattle.mh_session.specs.Moments.{Moment}
+use Rattle.mh_tables_core.specs.TooDeep.{too_deep}
+use Rattle.mh_session.specs.SessionState.{SessionState}
 use Rattle.mh_session_branches.specs.Names.{at_name}
-use Rattle.mh_session.proofs.ValuesByName.{removal_of}
-use Rattle.mh_session.proofs.Serving.{found_none, begin_served, offer_served, resume_served, deep_served, resumed_of, fork_served, forget_served, DidPut}
+use Rattle.mh_session.proofs.ChangesName.{removal_of}
+use Rattle.mh_session.proofs.IsServed.{found_none, begin_served, offer_served, resume_served, deep_served, resumed_of, fork_served, forget_served, DidPut}
 use Rattle.mh_session.proofs.session.Session.fork.Goals as goal
 
 pub returns : goal.returns

@@ -1,4 +1,4 @@
-use Rattle.mh_session.proofs.Stepping.{served_reply, served_next, served_same, served_fault, served_table}
+use Rattle.mh_session.proofs.StepClauses.{served_reply, served_next, served_same, served_fault, served_table}
 use Rattle.mh_session.proofs.session.Session.step.Goals as goal
 
 pub returns : goal.returns

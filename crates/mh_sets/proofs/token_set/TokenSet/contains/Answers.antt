@@ -1,4 +1,4 @@
-use Rattle.mh_sets.proofs.Calls.{contains_token, contains_end}
+use Rattle.mh_sets.proofs.TokenSetCalls.{contains_token, contains_end}
 use Rattle.mh_sets.proofs.token_set.TokenSet.contains.Goals as goal
 
 pub returns-in-Token : goal.returns-in-Token

@@ -1,4 +1,4 @@
-use Rattle.mh_sets.proofs.Calls.{empty_is}
+use Rattle.mh_sets.proofs.TokenSetCalls.{empty_is}
 use Rattle.mh_sets.proofs.token_set.TokenSet.empty.Goals as goal
 
 pub returns : goal.returns

@@ -1,4 +1,4 @@
-use Rattle.mh_sets.proofs.Calls.{first_token, first_end, first_none}
+use Rattle.mh_sets.proofs.TokenSetCalls.{first_token, first_end, first_none}
 use Rattle.mh_sets.proofs.token_set.TokenSet.first.Goals as goal
 
 pub returns-in-Some : goal.returns-in-Some

@@ -1,6 +1,6 @@
 use Rattle.std.proofs.Common.{◌∙◌}
-use Rattle.mh_sets.proofs.Views.{is_set}
-use Rattle.mh_sets.proofs.Calls.{insert_token, insert_end, fresh_token, fresh_end}
+use Rattle.mh_sets.proofs.LooksOf.{is_set}
+use Rattle.mh_sets.proofs.TokenSetCalls.{insert_token, insert_end, fresh_token, fresh_end}
 use Rattle.mh_sets.proofs.token_set.TokenSet.insert.Goals as goal
 
 pub returns-in-Token-clause-set : goal.returns-in-Token-clause-set

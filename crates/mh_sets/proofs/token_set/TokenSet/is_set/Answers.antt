@@ -1,4 +1,4 @@
-use Rattle.mh_sets.proofs.Calls.{set_is}
+use Rattle.mh_sets.proofs.TokenSetCalls.{set_is}
 use Rattle.mh_sets.proofs.token_set.TokenSet.is_set.Goals as goal
 
 pub returns : goal.returns

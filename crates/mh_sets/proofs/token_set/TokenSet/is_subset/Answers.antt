@@ -1,4 +1,4 @@
-use Rattle.mh_sets.proofs.Calls.{subset_is}
+use Rattle.mh_sets.proofs.TokenSetCalls.{subset_is}
 use Rattle.mh_sets.proofs.token_set.TokenSet.is_subset.Goals as goal
 
 pub returns : goal.returns

@@ -1,4 +1,4 @@
-use Rattle.mh_sets.proofs.Calls.{meets_is}
+use Rattle.mh_sets.proofs.TokenSetCalls.{meets_is}
 use Rattle.mh_sets.proofs.token_set.TokenSet.meets.Goals as goal
 
 pub returns : goal.returns

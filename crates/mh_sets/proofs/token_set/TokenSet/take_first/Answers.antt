@@ -1,5 +1,5 @@
-use Rattle.mh_sets.proofs.Calls.{none_left}
-use Rattle.mh_sets.proofs.Taking.{take_token, take_end}
+use Rattle.mh_sets.proofs.TokenSetCalls.{none_left}
+use Rattle.mh_sets.proofs.TakeFirst.{take_token, take_end}
 use Rattle.mh_sets.proofs.token_set.TokenSet.take_first.Goals as goal
 
 pub returns-in-Some : goal.returns-in-Some

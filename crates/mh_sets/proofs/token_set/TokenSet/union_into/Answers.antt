@@ -1,6 +1,6 @@
 use Rattle.std.proofs.Common.{◌∙◌}
-use Rattle.mh_sets.proofs.Views.{is_set}
-use Rattle.mh_sets.proofs.Calls.{union_members, union_grew}
+use Rattle.mh_sets.proofs.LooksOf.{is_set}
+use Rattle.mh_sets.proofs.TokenSetCalls.{union_members, union_grew}
 use Rattle.mh_sets.proofs.token_set.TokenSet.union_into.Goals as goal
 
 pub returns-clause-set : goal.returns-clause-set

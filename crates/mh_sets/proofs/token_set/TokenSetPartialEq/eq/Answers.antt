@@ -1,5 +1,5 @@
 use Rattle.std.proofs.Common.{rules}
-use Rattle.mh_sets.proofs.Exact.{eq_is}
+use Rattle.mh_sets.proofs.EqualSets.{eq_is}
 use Rattle.mh_sets.proofs.token_set.TokenSetPartialEq.eq.Goals as goal
 
 pub returns : goal.returns

@@ -1,4 +1,4 @@
-use Rattle.mh_tables_core.proofs.Ending.{has_verdict}
+use Rattle.mh_tables_core.proofs.RunEnds.{has_verdict}
 use Rattle.mh_tables_core.proofs.halting.Halting.run_ends.Goals as goal
 
 pub returns : goal.returns

@@ -1,4 +1,4 @@
-use Rattle.mh_tables_core.proofs.Catalogues.{order_one, order_total}
+use Rattle.mh_tables_core.proofs.OneCatalogue.{order_one, order_total}
 use Rattle.mh_tables_core.proofs.table.Table.one_comes_first.Goals as goal
 
 pub returns-clause-some : goal.returns-clause-some

@@ -1,4 +1,4 @@
-use Rattle.mh_tables_core.proofs.OneLoop.{one_loop as same}
+use Rattle.mh_tables_core.proofs.OneLoop.{loop_unique as same}
 use Rattle.mh_tables_core.proofs.table.Table.one_loop.Goals as goal
 
 pub returns : goal.returns

@@ -1,4 +1,4 @@
-use Rattle.mh_tables_core.proofs.Cut.{verdict_cut}
+use Rattle.mh_tables_core.proofs.RefusalIsCut.{verdict_cut}
 use Rattle.mh_tables_core.proofs.table.Table.refusal_is_cut.Goals as goal
 
 pub returns : goal.returns

@@ -1,4 +1,4 @@
-use Rattle.mh_tables_core.proofs.Longer.{verdict_longer}
+use Rattle.mh_tables_core.proofs.RefusalStays.{verdict_longer}
 use Rattle.mh_tables_core.proofs.table.Table.refusal_stays.Goals as goal
 
 pub returns : goal.returns

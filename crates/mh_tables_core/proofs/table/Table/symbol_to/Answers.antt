@@ -1,5 +1,5 @@
 use Rattle.std.proofs.Common.{arith, sym, ◌∙◌}
-use Rattle.mh_tables_core.proofs.Known.{symbol_below, first_in}
+use Rattle.mh_tables_core.proofs.SymbolsInRange.{symbol_below, first_in}
 use Rattle.mh_tables_core.proofs.table.Table.symbol_to.Goals as goal
 
 pub symbol_of-requires-clause-production : goal.symbol_of-requires-clause-production

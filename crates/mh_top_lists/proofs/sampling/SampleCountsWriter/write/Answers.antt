@@ -2,8 +2,8 @@ use Rattle.std.proofs.Common.{length, ap, sym, ◌∙◌}
 use Rattle.std.proofs.lemmas.List.{length-map}
 use Rattle.std.specs.Prelude.{Err}
 use Rattle.mh_catalogue_rows.specs.Rows.{row_of, rows_of}
-use Rattle.mh_top_lists.proofs.Sampled.{counts_ran}
-use Rattle.mh_top_lists.proofs.Refused.{counts_stop, fault_calm}
+use Rattle.mh_top_lists.proofs.CountsSample.{counts_ran}
+use Rattle.mh_top_lists.proofs.CatalogueRefused.{counts_stop, catalogue_fault_counts}
 use Rattle.mh_top_lists.proofs.sampling.SampleCountsWriter.write.Goals as goal
 
 pub returns-in-Ok-clause-text : goal.returns-in-Ok-clause-text
@@ -15,4 +15,4 @@ pub returns-in-Err-clause-text : goal.returns-in-Err-clause-text
 returns-in-Err-clause-text g c = counts_stop c.args.self.prepared.now _ c.in-Err.fault c.stop_of.result c.stop_of.ensures (λ s e. c.in-Err.ensures.long s (ap Err e)) c.args.self.number
 
 pub returns-in-Err-clause-counts : goal.returns-in-Err-clause-counts
-returns-in-Err-clause-counts g c = fault_calm _ c.in-Err.fault c.stop_of.result c.stop_of.ensures
+returns-in-Err-clause-counts g c = catalogue_fault_counts _ c.in-Err.fault c.stop_of.result c.stop_of.ensures

@@ -1,7 +1,7 @@
 use Rattle.std.proofs.Common.{refl}
-use Rattle.mh_top_drive.proofs.Answered.{nothing_ends}
-use Rattle.mh_top_plans.specs.Plan.{by_plan}
+use Rattle.mh_top_drive.proofs.LineCalls.{nothing_ends}
+use Rattle.mh_top_plans.specs.Plan.{plan_behavior}
 use Rattle.mh_top_modes.proofs.serving.ServingMode.end.Goals as goal
 
 pub returns-clause-text : goal.returns-clause-text
-returns-clause-text g c = λ plan is. nothing_ends by_plan _ plan _ refl is.2
+returns-clause-text g c = λ plan is. nothing_ends plan_behavior _ plan _ refl is.2

@@ -1,5 +1,5 @@
 use Rattle.std.proofs.Common.{rules, arith}
-use Rattle.mh_tree.proofs.Counts.{most_low, popped_heights, popped_fewer, kids_lower, dropped_low, joined_lower, joined_fewer}
+use Rattle.mh_tree.proofs.DroppedTrees.{most_low, popped_heights, popped_fewer, kids_lower, dropped_low, joined_lower, joined_fewer}
 use Rattle.mh_tree.proofs.tree.Tree.+drop.Goals as goal
 
 pub drop-children-requires : goal.drop-children-requires

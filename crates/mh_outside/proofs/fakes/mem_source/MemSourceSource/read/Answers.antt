@@ -1,5 +1,5 @@
 use Rattle.std.proofs.Common.{◌+◌, ◌-◌, ◌≡◌, List, ℕ, take, drop, ◌∙◌, rules, ap}
-use Rattle.mh_outside.proofs.Pieces.{reads_at}
+use Rattle.mh_outside.proofs.Consumes.{reads_at}
 use Rattle.mh_outside.proofs.fakes.mem_source.MemSourceSource.read.Goals as goal
 
 pub returns-clause-bytes : goal.returns-clause-bytes

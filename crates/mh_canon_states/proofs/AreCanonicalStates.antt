@@ -1,0 +1,137 @@
+-- Proves that the kernels that are found are states of the collection, and that too many kernels are too many item
+-- sets.
+use Rattle.std.proofs.Common.{◌≡◌, ℕ, zero, suc, ◌<◌, ◌≤◌, List, [], ◌∷◌, ◌++◌, Some, length, refl, sym, ap, ◌∙◌, arith, inl, inr}
+use Rattle.std.specs.List.{slice_get, All, AllByRecursion, AllZip}
+use Rattle.std.proofs.lemmas.List.{map-append, length_push}
+use Rattle.std.proofs.lemmas.List.Elements.{All-contains, All-from_recursion, recursion_from_All}
+use Rattle.std.proofs.lemmas.Option.{slice_get_within}
+use Rattle.mh_grammar.specs.declared.types.Symbol.{Symbol}
+use Rattle.mh_grammar.specs.declared.edges.Edge.{Edge}
+use Rattle.mh_grammar.specs.Plain.{PlainGrammar, rhs_of}
+use Rattle.mh_grammar.specs.ItemSets as items
+use Rattle.mh_grammar.specs.ItemSets.{AreSameItems, Close, Moved, PathItems}
+use Rattle.mh_grammar.specs.Placed.{Placed}
+use Rattle.mh_grammar.proofs.NumberingInvariant.{AllPlaced-push, AllPlaced-each, AllPlaced-distinct}
+use Rattle.mh_items_kernels.specs.KernelTypes.{Items, Kernel}
+use Rattle.mh_items_kernels.specs.Kernels.{Holds, IsItemList}
+use Rattle.mh_items_kernels.specs.Collection.{targets_of}
+use Rattle.mh_canon_states.specs.Canonical.{Walk, items_of_walk, IsWalkOf, CanonicalExceeds}
+use Rattle.mh_canon_states.specs.code.FoundStates.{IsCanonicalState, AreCanonicalStates, IsStateClosure, AreStateEdges}
+use Rattle.mh_items_kernels.specs.code.KernelMoves.{IsAfterDot, IsMove}
+use Rattle.mh_items_kernels.proofs.UniqueItemList.{kernel_same}
+use Rattle.mh_canon_states.proofs.ItemSets.{AreSameItems-sym, AreSameItems-trans, Moved-same, Close-same, Holds-core_item}
+use Rattle.mh_grammar.proofs.Lists.{zip_push}
+use Rattle.mh_items_kernels.proofs.SymbolAtDot.{drop_from-slice_get}
+
+-- A list of the items of a state's closure is the closure of a state.
+pub IsStateClosure-close : (g : PlainGrammar) (k : Kernel) (closed : Items) → IsCanonicalState g k → IsItemList g closed → AreSameItems (Holds closed) (Close g (Holds k)) → IsStateClosure g closed
+IsStateClosure-close g k closed s of_closed same = record {
+  start = s.reach.start;
+  path = s.reach.path;
+  known = s.reach.known;
+  kernel = of_closed;
+  same = AreSameItems-trans (Holds closed) (Close g (Holds k)) (Close g (PathItems g s.reach.start s.reach.path)) same (Close-same g (Holds k) (PathItems g s.reach.start s.reach.path) s.reach.same);
+}
+
+-- A move of a state's closure leads to a state.
+pub IsCanonicalState-move : (g : PlainGrammar) (closed : Items) (k : Kernel) (X : Symbol) → IsStateClosure g closed → IsAfterDot g closed X → IsMove g closed X k → IsCanonicalState g k
+IsCanonicalState-move g closed k X source behind move =
+    let look = Holds-core_item g closed source.kernel behind.production behind.dot behind.place in
+    let next : Moved g (Holds closed) X behind.production (suc behind.dot) look.0 = items.Moved.moved look.1 (drop_from-slice_get (rhs_of g behind.production) behind.dot X behind.behind) in
+    record {
+      kernel = move.kernel;
+      some = record { production = behind.production; dot = suc behind.dot; look = look.0; holds = (move.same behind.production (suc behind.dot) look.0).1 next };
+      reach = record {
+        start = source.start;
+        path = X ∷ source.path;
+        known = source.known;
+        same = AreSameItems-trans (Holds k) (Moved g (Holds closed) X) (PathItems g source.start (X ∷ source.path)) move.same (Moved-same g (Holds closed) (Close g (PathItems g source.start source.path)) X source.same);
+      };
+    }
+
+moves_states : (g : PlainGrammar) (closed : Items) → IsStateClosure g closed → (symbols : List Symbol) (moves : List Kernel) → AllByRecursion (IsAfterDot g closed) symbols → AllZip (IsMove g closed) symbols moves → AllByRecursion (IsCanonicalState g) moves
+moves_states g closed source [] [] behind each = tt
+moves_states g closed source [] (k ∷ moves) behind each = absurd each
+moves_states g closed source (X ∷ symbols) [] behind each = absurd each
+moves_states g closed source (X ∷ symbols) (k ∷ moves) behind each = (IsCanonicalState-move g closed k X source behind.0 each.0, moves_states g closed source symbols moves behind.1 each.1)
+
+-- The kernels of placed moves are states.
+pub AreCanonicalStates-edges : (g : PlainGrammar) (closed : Items) (symbols : List Symbol) (old new : List Kernel) (row : List Edge) → IsStateClosure g closed → All (IsAfterDot g closed) symbols → AreCanonicalStates g old → AreStateEdges g closed symbols old new row → AreCanonicalStates g new
+AreCanonicalStates-edges g closed symbols old new row source behind s e = record {
+  each = AllPlaced-each (IsCanonicalState g) old new e.moves (targets_of row) e.placed s.each (λ k c. All-contains (IsCanonicalState g) e.moves k (All-from_recursion (IsCanonicalState g) e.moves (moves_states g closed source symbols e.moves (recursion_from_All (IsAfterDot g closed) symbols behind) e.each)) c);
+  distinct = AllPlaced-distinct old new e.moves (targets_of row) e.placed s.distinct;
+}
+
+pub AreStateEdges-none : (g : PlainGrammar) (closed : Items) (kernels : List Kernel) → AreStateEdges g closed [] kernels kernels []
+AreStateEdges-none g closed kernels = record { moves = []; each = tt; on = refl; placed = refl }
+
+pub AreStateEdges-push : (g : PlainGrammar) (closed : Items) (symbols : List Symbol) (old mid new : List Kernel) (row : List Edge) (X : Symbol) (k : Kernel) (n : ℕ) → AreStateEdges g closed symbols old mid row → IsMove g closed X k → Placed mid new k n → AreStateEdges g closed (symbols ++ X ∷ []) old new (row ++ record { symbol = X; target = n } ∷ [])
+AreStateEdges-push g closed symbols old mid new row X k n e m p = record {
+  moves = e.moves ++ k ∷ [];
+  each = zip_push (IsMove g closed) symbols e.moves X k e.each m;
+  on = map-append (λ (f : Edge). f.symbol) row (record { symbol = X; target = n } ∷ []) ∙ ap (λ xs. xs ++ X ∷ []) e.on;
+  placed = rw (map-append (λ (f : Edge). f.target) row (record { symbol = X; target = n } ∷ [])) (AllPlaced-push old mid new e.moves (targets_of row) k n e.placed p);
+}
+
+-- The list of walks that lead to the states.
+walks : (g : PlainGrammar) (kernels : List Kernel) → AllByRecursion (IsCanonicalState g) kernels → List Walk
+walks g [] s = []
+walks g (k ∷ kernels) s = record { start = s.0.reach.start; path = s.0.reach.path } ∷ walks g kernels s.1
+
+walks_len : (g : PlainGrammar) (kernels : List Kernel) (s : AllByRecursion (IsCanonicalState g) kernels) → length (walks g kernels s) ≡ length kernels
+unfolding walks
+walks_len g [] s = refl
+walks_len g (k ∷ kernels) s = ap suc (walks_len g kernels s.1)
+
+record Leads (g : PlainGrammar) (k : Kernel) (w : Walk) : Type 0 where
+  state : IsCanonicalState g k
+  known : w.start < length g.starts
+  same : AreSameItems (Holds k) (items_of_walk g w)
+
+walks_lead : (g : PlainGrammar) (kernels : List Kernel) (s : AllByRecursion (IsCanonicalState g) kernels) (i : ℕ) (w : Walk) → slice_get (walks g kernels s) i ≡ Some w → (k : Kernel) × (slice_get kernels i ≡ Some k) × Leads g k w
+unfolding walks
+walks_lead g [] s i w e = cc
+walks_lead g (k ∷ kernels) s zero w e =
+    let first : Walk = record { start = s.0.reach.start; path = s.0.reach.path } in
+    let here : Leads g k first = record { state = s.0; known = s.0.reach.known; same = s.0.reach.same } in
+    let one : first ≡ w = cc in
+    (k, refl, rw one at here)
+walks_lead g (k ∷ kernels) s (suc i) w e = walks_lead g kernels s.1 i w e
+
+walks_each : (g : PlainGrammar) (kernels : List Kernel) (s : AllByRecursion (IsCanonicalState g) kernels) → AllByRecursion (IsWalkOf g) (walks g kernels s)
+unfolding walks
+walks_each g [] s = tt
+walks_each g (k ∷ kernels) s = (
+  record {
+    known = s.0.reach.known;
+    some = record { production = s.0.some.production; dot = s.0.some.dot; look = s.0.some.look; holds = (s.0.reach.same s.0.some.production s.0.some.dot s.0.some.look).0 s.0.some.holds };
+  },
+  walks_each g kernels s.1,
+)
+
+-- More states than the limit are more item sets than the limit.
+pub CanonicalExceeds-states : (g : PlainGrammar) (kernels : List Kernel) (limit : ℕ) → AreCanonicalStates g kernels → limit < length kernels → CanonicalExceeds g limit
+CanonicalExceeds-states g kernels limit s o =
+    let all = recursion_from_All (IsCanonicalState g) kernels s.each in
+    record {
+      walks = walks g kernels all;
+      each = All-from_recursion (IsWalkOf g) (walks g kernels all) (walks_each g kernels all);
+      distinct = λ i j v w e f same.
+          let a = walks_lead g kernels all i v e in
+          let b = walks_lead g kernels all j w f in
+          let sets : AreSameItems (Holds a.0) (Holds b.0) = AreSameItems-trans (Holds a.0) (items_of_walk g v) (Holds b.0) a.2.same (AreSameItems-trans (items_of_walk g v) (items_of_walk g w) (Holds b.0) same (AreSameItems-sym (Holds b.0) (items_of_walk g w) b.2.same)) in
+          let one : b.0 ≡ a.0 = sym (kernel_same g a.0 b.0 a.2.state.kernel b.2.state.kernel sets) in
+          s.distinct.same i j a.0 a.1 (b.1 ∙ ap Some one);
+      over = omega (arith, walks_len g kernels all);
+    }
+
+-- If a kernel is placed at or after the limit, more item sets are reached than the limit.
+pub CanonicalExceeds-placed : (g : PlainGrammar) (closed : Items) (symbols : List Symbol) (old mid new : List Kernel) (row : List Edge) (X : Symbol) (k : Kernel) (n limit : ℕ) → IsStateClosure g closed → All (IsAfterDot g closed) (symbols ++ X ∷ []) → AreCanonicalStates g old → AreStateEdges g closed symbols old mid row → IsMove g closed X k → Placed mid new k n → limit ≤ n → CanonicalExceeds g limit
+CanonicalExceeds-placed g closed symbols old mid new row X k n limit source behind s e m p o =
+    CanonicalExceeds-states g new limit (AreCanonicalStates-edges g closed (symbols ++ X ∷ []) old new (row ++ record { symbol = X; target = n } ∷ []) source behind s (AreStateEdges-push g closed symbols old mid new row X k n e m p)) (omega (arith, slice_get_within new n k p.at))
+
+pub Placed-few : (old new : List Kernel) (k : Kernel) (n limit : ℕ) → Placed old new k n → length old ≤ limit → n < limit → length new ≤ limit
+Placed-few old new k n limit p l m = elim p.grown [
+  | inl e ↦ omega (arith, ap length e.0)
+  | inr e ↦ omega (arith, ap length e.0, length_push old k, e.1)
+]

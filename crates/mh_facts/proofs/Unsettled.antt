@@ -1,0 +1,72 @@
+-- Lemmas on the number of keys that are not stored: each fact that is settled lowers the number.
+use Rattle.std.proofs.Common.{◌≡◌, ℕ, zero, suc, ◌+◌, ◌<◌, ◌≤◌, inl, inr, List, [], ◌∷◌, ◌++◌, Some, None, Option, Bool, refl, arith}
+use Rattle.std.proofs.lemmas.Bool.{cases_lt}
+use Rattle.std.specs.Prelude.{◌^◌}
+use Rattle.std.specs.Map.{lookup}
+use Rattle.mh_facts.specs.declared.store.FactKey.{FactKey}
+use Rattle.mh_facts.specs.declared.store.Fact.{Fact}
+use Rattle.mh_facts.specs.Stored.{Facts, fact_at}
+use Rattle.mh_facts.specs.code.BestFirst.{key}
+use Rattle.mh_facts.proofs.AssociationLists.{AreKeys, at_kept, at_last}
+use Rattle.mh_facts.proofs.FactKeys.{fact_keys}
+
+-- The sum of a function over the numbers below n.
+unfoldable pub sum_below : ℕ → (ℕ → ℕ) → ℕ
+sum_below zero f = 0
+sum_below (suc n) f = f n + sum_below n f
+
+pub total_le : (n : ℕ) (f g : ℕ → ℕ) → ((k : ℕ) → f k ≤ g k) → sum_below n f ≤ sum_below n g
+unfolding sum_below
+total_le zero f g h = omega arith
+total_le (suc n) f g h = let a = total_le n f g h in let b = h n in omega arith
+
+pub total_less : (n j : ℕ) (f g : ℕ → ℕ) → ((k : ℕ) → f k ≤ g k) → j < n → f j < g j → sum_below n f < sum_below n g
+unfolding sum_below
+total_less zero j f g h lt less = absurd (omega arith)
+total_less (suc n) j f g h lt less = elim (cases_lt j n) [
+  | inl below ↦ (let a = total_less n j f g h below less in let b = h n in omega arith)
+  | inr is ↦ (let e : j ≡ n = omega arith in let l : f n < g n = rw (← e) less in let a = total_le n f g h in omega arith)
+]
+
+-- 1 if nothing is stored for a key, else 0.
+unfoldable pub one_if_absent : {V : Type 0} → Option V → ℕ
+one_if_absent None = 1
+one_if_absent (Some v) = 0
+
+bit_one : {V : Type 0} (o : Option V) → one_if_absent o ≤ 1
+unfolding one_if_absent
+bit_one None = omega arith
+bit_one (Some v) = omega arith
+
+module _ {K V : Type 0} {same : K → K → Bool} (keys : AreKeys same) (a : List (K × V)) (k : K) (v : V) where
+  pub bit_le : (q : K) → one_if_absent (lookup (same q) (a ++ (k, v) ∷ [])) ≤ one_if_absent (lookup (same q) a)
+  unfolding one_if_absent
+  bit_le q = by (lookup (same q) a) refl
+    where
+      by : (o : Option V) → lookup (same q) a ≡ o → one_if_absent (lookup (same q) (a ++ (k, v) ∷ [])) ≤ one_if_absent (lookup (same q) a)
+      by None e = rw e (bit_one (lookup (same q) (a ++ (k, v) ∷ [])))
+      by (Some u) e = let there : lookup (same q) (a ++ (k, v) ∷ []) ≡ Some u = at_kept keys a k q v u e in rw (there, e) (omega arith)
+
+  pub bit_less : lookup (same k) a ≡ None → one_if_absent (lookup (same k) (a ++ (k, v) ∷ [])) < one_if_absent (lookup (same k) a)
+  unfolding one_if_absent
+  bit_less fresh = rw (at_last keys a k v fresh, fresh) (omega arith)
+
+-- The numbers of values of 32 bits and of 16 bits.
+abbrev pub wide : ℕ
+wide = 2 ^ 32
+
+abbrev pub narrow : ℕ
+narrow = 2 ^ 16
+
+unfoldable pub unsettled : Facts → ℕ
+unsettled facts = sum_below wide (λ r. sum_below wide (λ p. sum_below wide (λ d. sum_below narrow (λ a. sum_below narrow (λ z. one_if_absent (fact_at facts (key r p d a z)))))))
+
+module _ (facts : Facts) (k : FactKey) (f : Fact) where
+  pub unsettled_less : fact_at facts k ≡ None → k.from < 2 ^ 32 → k.production < 2 ^ 32 → k.dot < 2 ^ 32 → k.first < 2 ^ 16 → k.next < 2 ^ 16 → unsettled (facts ++ (k, f) ∷ []) < unsettled facts
+  unfolding unsettled
+  unsettled_less fresh r p d a z =
+      total_less wide k.from _ _ (λ r. total_le wide _ _ (λ p. total_le wide _ _ (λ d. total_le narrow _ _ (λ a. total_le narrow _ _ (λ z. bit_le fact_keys facts k f (key r p d a z)))))) r
+      (total_less wide k.production _ _ (λ p. total_le wide _ _ (λ d. total_le narrow _ _ (λ a. total_le narrow _ _ (λ z. bit_le fact_keys facts k f (key k.from p d a z))))) p
+      (total_less wide k.dot _ _ (λ d. total_le narrow _ _ (λ a. total_le narrow _ _ (λ z. bit_le fact_keys facts k f (key k.from k.production d a z)))) d
+      (total_less narrow k.first _ _ (λ a. total_le narrow _ _ (λ z. bit_le fact_keys facts k f (key k.from k.production k.dot a z))) a
+      (total_less narrow k.next _ _ (λ z. bit_le fact_keys facts k f (key k.from k.production k.dot k.first z)) z (bit_less fact_keys facts k f fresh)))))

@@ -1,9 +1,0 @@
-use Rattle.mh_items.proofs.closer.Closer.new.Goals as goal
-
-pub returns : goal.returns
-returns g c = record {
-  firsts = c.in_ok-firsts.ensures;
-  nothing = rw c.len.ensures at c.in_ok-asked.ensures;
-  marks = c.in_ok-empties.ensures.len;
-  empties = c.in_ok-empties.ensures.closed;
-}

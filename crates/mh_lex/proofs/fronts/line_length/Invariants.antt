@@ -1,6 +1,0 @@
-use Rattle.std.proofs.Common.{◌≡◌, ◌+◌, drop}
-use Rattle.mh_lex.specs.Begins.{line_rest}
-use Rattle.mh_lex.proofs.fronts.line_length.Given as goal
-
-abbrev pub invariant-loop-byte : goal.invariant-loop-byte
-invariant-loop-byte l = (l.length ≡ l.byte-index) × (line_rest l.rest ≡ line_rest (drop l.byte-index l.rest) + l.byte-index)

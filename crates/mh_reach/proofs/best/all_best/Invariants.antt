@@ -1,5 +1,0 @@
-use Rattle.mh_reach.specs.code.Best.{AreBest}
-use Rattle.mh_reach.proofs.best.all_best.Given as goal
-
-abbrev pub invariant-loop-state : goal.invariant-loop-state
-invariant-loop-state l = AreBest l.table l.classes l.found.store l.arrivals.spots l.state l.all.items

@@ -1,4 +1,0 @@
-use Rattle.mh_reach_classes.proofs.classing.classes_of.Goals as goal
-
-pub returns : goal.returns
-returns c = c.tested_classes.ensures

@@ -1,6 +1,0 @@
-use Rattle.std.proofs.Common.{◌<◌, length}
-use Rattle.mh_facts.specs.code.Least.{IsEnd}
-use Rattle.mh_reach_classes.proofs.past.end_of.Given as goal
-
-abbrev pub invariant-loop-place : goal.invariant-loop-place
-invariant-loop-place l = IsEnd l.table l.from l.production l.place l.end × (l.end < length l.table.states)

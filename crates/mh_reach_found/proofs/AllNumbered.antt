@@ -1,0 +1,16 @@
+-- Proves that a numbering of the words of one word assignment numbers the words of every word assignment.
+use Rattle.std.proofs.Common.{◌+◌}
+use Rattle.mh_tables_core.specs.Table.{TableData}
+use Rattle.mh_facts.specs.Stored.{Facts}
+use Rattle.mh_facts.specs.Costs.{cap}
+use Rattle.mh_facts.specs.code.WordAssignment.{WordAssignment}
+use Rattle.mh_facts.proofs.WordAssignment.{one_word_assignment}
+use Rattle.mh_reach_found.specs.declared.numbers.WordNumbering.{WordNumbering}
+use Rattle.mh_reach_found.specs.code.WordNumbers.{FactsAreNumbered, AllNumbered}
+
+pub all_numbered : (t : TableData) (facts : Facts) (numbering : WordNumbering) (tale : WordAssignment t facts) → FactsAreNumbered facts tale.words (cap + 1) numbering → AllNumbered t facts numbering
+all_numbered t facts numbering tale h other = record {
+  long = h.long;
+  each = λ n m k f w at num is lt. h.each n m k f w at num (one_word_assignment t facts other tale k w is) lt;
+  below = h.below;
+}

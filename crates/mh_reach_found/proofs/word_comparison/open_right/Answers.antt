@@ -1,0 +1,8 @@
+use Rattle.std.proofs.Common.{refl}
+use Rattle.mh_reach_found.specs.declared.word_comparison.WordPart.TheVariants as parts
+use Rattle.mh_reach_found.proofs.WordComparison.{right_opened}
+use Rattle.mh_reach_found.proofs.word_comparison.open_right.Goals as goal
+
+pub returns : goal.returns
+returns c tale a b u v h g p q =
+    right_opened c.args.table.now c.args.store.now tale c.args.rests.now _ a b u v p q c.args.left (parts.Fact c.args.right) c.args.right refl h g c.in_ok-push.ensures.items c.in_ok-open.ensures

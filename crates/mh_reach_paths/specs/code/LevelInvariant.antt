@@ -1,0 +1,105 @@
+-- The invariant of the search, between two steps. An item is a fact that waits in the queue; the fact is settled when
+-- it is stored with its least word. A level is all work of one cost.
+use Rattle.std.specs.Prelude.{◌≡◌, ℕ, List, [], ◌∷◌, ◌++◌, slice_get, Option, Some, None, ◌≤◌}
+use Rattle.std.specs.List.{Contains}
+use Rattle.mh_grammar.specs.declared.types.Symbol.TheVariants.{N}
+use Rattle.mh_grammar.specs.Plain.{rhs_of}
+use Rattle.mh_tables_core.specs.Table.{TableData}
+use Rattle.mh_facts.specs.declared.store.FactKey.{FactKey}
+use Rattle.mh_facts.specs.Stored.{Facts, fact_at, highest_cost}
+use Rattle.mh_facts.specs.code.BestFirst.{IsPathEnd, SearchInvariant, SoundFact}
+use Rattle.mh_facts.specs.declared.work.QueuedFact.{QueuedFact}
+use Rattle.mh_facts.specs.declared.work.SettledFact.{SettledFact}
+use Rattle.mh_facts.specs.declared.work.CompletePath.{CompletePath}
+use Rattle.mh_facts.specs.declared.work.GotoFact.{GotoFact}
+use Rattle.mh_facts.specs.declared.work.SearchData.{SearchData}
+use Rattle.mh_facts.specs.declared.classes.TokenClasses.{TokenClasses}
+use Rattle.mh_facts.specs.code.Queues.{Waits, WaitsOrIsListed}
+use Rattle.mh_reach_found.specs.code.QueueDraws.{DrawsOne, DrawsNone, AppendsUnlessDone, DrawsSome, DrawsAll}
+use Rattle.mh_facts.specs.code.TokenClasses.{rep_of, place_of}
+use Rattle.mh_facts.specs.code.SearchRules.{InRange, path_of, goto_fact, queue_of, paths_at, complete_paths_at, KnowsGoto, IsReady}
+use Rattle.mh_facts.specs.code.WordAssignment.{WordNoLater, cost_up_to_cap, WordBy, WordAssignment}
+use Rattle.mh_reach_found.specs.code.SearchResult.{IsStored, GotoFactsIn, IsSoundCompletePath}
+
+abbrev pub IsItemSettled : Facts → QueuedFact → Type 0
+IsItemSettled facts i = IsStored facts i.key
+
+-- The item i is the next item of the cost that is not stored; stored items are dropped.
+abbrev pub TakesUnsettled : Facts → List (Rattle.std.specs.Global.Vec QueuedFact) → List (Rattle.std.specs.Global.Vec QueuedFact) → ℕ → QueuedFact → Type 0
+TakesUnsettled facts old new cost i = DrawsOne (IsItemSettled facts) (λ o. fact_at facts o.key ≡ None) old new cost i
+
+abbrev pub NoUnsettledLeft : Facts → List (Rattle.std.specs.Global.Vec QueuedFact) → List (Rattle.std.specs.Global.Vec QueuedFact) → ℕ → Type 0
+NoUnsettledLeft facts old new cost = DrawsNone (IsItemSettled facts) old new cost
+
+-- The next item of the cost that is not stored, if there is one, is taken and stored.
+abbrev pub SettlesNext : Facts → Facts → List (Rattle.std.specs.Global.Vec QueuedFact) → List (Rattle.std.specs.Global.Vec QueuedFact) → ℕ → Option QueuedFact → Type 0
+SettlesNext facts more old new cost None = (more ≡ facts) × NoUnsettledLeft facts old new cost
+SettlesNext facts more old new cost (Some i) = (more ≡ facts ++ (i.key, record { cost = cost; back = i.back }) ∷ []) × TakesUnsettled facts old new cost i
+
+-- An item for the key waits, and its word is u.
+abbrev pub WaitsWithWord : TableData → (FactKey → Option (List ℕ)) → (ℕ → QueuedFact → Type 0) → FactKey → List ℕ → Type 0
+WaitsWithWord t words waits k u = (cost : ℕ) × (i : QueuedFact) × waits cost i × (i.key ≡ k) × WordBy t words i.key i.back u
+
+-- The item waits in the queue, or in a separate list of items of the level's cost.
+abbrev pub Waiting : SearchData → ℕ → List QueuedFact → ℕ → QueuedFact → Type 0
+Waiting work level beside cost i = WaitsOrIsListed (queue_of work) level beside cost i
+
+-- An item that waits is in range and sound, and its cost is the cost of its word.
+pub record IsSoundItem (t : TableData) (rep : ℕ → ℕ → ℕ) (words : FactKey → Option (List ℕ)) (cost : ℕ) (i : QueuedFact) : Type 0 where
+  pub range : InRange t (path_of cost i)
+  pub word : List ℕ
+  pub by : WordBy t words i.key i.back word
+  pub cost_is : cost ≡ cost_up_to_cap t word
+  pub short : cost ≡ 0 → word ≡ []
+  pub sound : SoundFact t rep i.key word
+
+-- A path that is filed is in range and stored, and its cost is the cost of its word.
+pub record IsSoundPath (t : TableData) (words : FactKey → Option (List ℕ)) (p : SettledFact) : Type 0 where
+  pub range : InRange t p
+  pub word : List ℕ
+  pub stored : words p.key ≡ Some word
+  pub cost_is : p.cost ≡ cost_up_to_cap t word
+  pub short : p.cost ≡ 0 → word ≡ []
+
+-- The invariant of the search at a level: all facts of a lower cost are settled. Items of the level's cost may wait in
+-- the separate list `beside`.
+pub record LevelInvariant (t : TableData) (c : TokenClasses) (facts : Facts) (work : SearchData) (level : ℕ) (beside : List QueuedFact) : Type 0 where
+  pub tale : WordAssignment t facts
+  pub ready : IsReady t c work
+  pub frontier : SearchInvariant t (rep_of c) (WordNoLater t) tale.words (GotoFactsIn c tale.words work) (WaitsWithWord t tale.words (Waiting work level beside))
+  pub items : (cost : ℕ) (i : QueuedFact) → Waiting work level beside cost i → IsSoundItem t (rep_of c) tale.words cost i
+  pub low : (cost : ℕ) (i : QueuedFact) → Waiting work level beside cost i → level ≤ cost
+  pub high : highest_cost facts ≤ level
+  pub paths : (n : ℕ) (p : SettledFact) → Contains (paths_at work n) p → IsSoundPath t tale.words p
+  pub all_paths : (k : FactKey) (u : List ℕ) (s n : ℕ) → tale.words k ≡ Some u → IsPathEnd t k.from k.production k.dot s → slice_get (rhs_of t.grammar k.production) k.dot ≡ Some (N n) → (p : SettledFact) × Contains (paths_at work (place_of c s k.next)) p × (p.key ≡ k)
+  pub wholes : (n : ℕ) (w : CompletePath) → Contains (complete_paths_at work n) w → IsSoundCompletePath t (rep_of c) tale.words level w
+  pub filed : (k : GotoFact) → KnowsGoto work k → (w : CompletePath) × Contains (complete_paths_at work (place_of c k.from k.first)) w × (goto_fact w ≡ k)
+
+-- The items are sorted by their words.
+abbrev pub AreSortedByWord : TableData → (FactKey → Option (List ℕ)) → List QueuedFact → Type 0
+AreSortedByWord t words [] = Unit {0}
+AreSortedByWord t words (i ∷ is) = ((o : QueuedFact) (u v : List ℕ) → Contains is o → WordBy t words i.key i.back u → WordBy t words o.key o.back v → WordNoLater t u v) × AreSortedByWord t words is
+
+-- Each item of the level in the queue comes no later than all items that wait, and the separate list is sorted by
+-- words.
+pub record LevelInOrder (t : TableData) (c : TokenClasses) (facts : Facts) (work : SearchData) (level : ℕ) (beside : List QueuedFact) : Type 0 where
+  pub good : LevelInvariant t c facts work level beside
+  pub flat : (o i : QueuedFact) (cost : ℕ) (u v : List ℕ) → Waits (queue_of work) level o → Waiting work level beside cost i → WordBy t good.tale.words o.key o.back u → WordBy t good.tale.words i.key i.back v → WordNoLater t u v
+  pub rising : AreSortedByWord t good.tale.words beside
+
+-- No item of the level waits in the queue, and the separate list is sorted by words.
+pub record LevelReady (t : TableData) (c : TokenClasses) (facts : Facts) (work : SearchData) (level : ℕ) (beside : List QueuedFact) : Type 0 where
+  pub good : LevelInvariant t c facts work level beside
+  pub none : (o : QueuedFact) → Waits (queue_of work) level o → ⊥
+  pub rising : AreSortedByWord t good.tale.words beside
+
+abbrev pub KeepsNew : Facts → QueuedFact → List QueuedFact → List QueuedFact → Type 0
+KeepsNew facts i old new = AppendsUnlessDone (IsItemSettled facts) i old new
+
+-- Some items of the cost are taken; those that are not stored are in the list `all`.
+abbrev pub TakesSomeUnsettled : Facts → List (Rattle.std.specs.Global.Vec QueuedFact) → List (Rattle.std.specs.Global.Vec QueuedFact) → ℕ → List QueuedFact → Type 0
+TakesSomeUnsettled facts old new cost all = DrawsSome (IsItemSettled facts) old new cost all
+
+-- All items of the cost are taken.
+abbrev pub TakesAllUnsettled : Facts → List (Rattle.std.specs.Global.Vec QueuedFact) → List (Rattle.std.specs.Global.Vec QueuedFact) → ℕ → List QueuedFact → Type 0
+TakesAllUnsettled facts old new cost all = DrawsAll (IsItemSettled facts) old new cost all

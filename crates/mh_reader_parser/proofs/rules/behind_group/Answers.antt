@@ -1,8 +1,0 @@
-use Rattle.std.proofs.Common.{sym, subst}
-use Rattle.mh_reader_parser.specs.code.Machine.{Refers}
-use Rattle.mh_reader_parser.proofs.PlaceSteps.{behind_else}
-use Rattle.mh_reader_parser.proofs.rules.behind_group.Goals as goal
-
-pub returns-in_ok-made-in_default : goal.returns-in_ok-made-in_default
-returns-in_ok-made-in_default c =
-    subst (λ step. Refers step c.at_rule_end.result) (sym (behind_else c.args.made c.args.rule c.args.sign c.args.text.now c.in_default.not-Bar)) (rw c.in_ok-made-in_default.ensures at c.at_rule_end.ensures)

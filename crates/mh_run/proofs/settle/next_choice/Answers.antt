@@ -1,7 +1,0 @@
-use Rattle.std.proofs.Common.{arith}
-use Rattle.mh_tables_core.proofs.Path.{state_known}
-use Rattle.mh_run.proofs.settle.next_choice.Goals as goal
-
-pub choose-requires-clause-state : goal.choose-requires-clause-state
-choose-requires-clause-state c =
-    rw c.table.ensures.table (let begun = c.requires.run.path.begun in state_known c.args.table.now c.table.ensures.facts.facts c.args.stack.now c.requires.run _ (omega arith))

@@ -1,5 +1,0 @@
-use Rattle.std.proofs.Common.{rules}
-use Rattle.mh_run.proofs.tracing.SinceShiftFollow.shift.Goals as goal
-
-pub returns : goal.returns
-returns c = search rules

@@ -1,0 +1,72 @@
+-- Lemmas on the loop that answers a list of commands.
+use Rattle.std.proofs.Common.{◌≡◌, ℕ, ◌+◌, ◌<◌, ◌≤◌, List, [], ◌∷◌, ◌++◌, length, drop, get_or, None, Ok, Err, refl, sym, ap, subst, ◌∙◌, append_assoc, append-nil}
+use Rattle.std.proofs.Math.ListN.{drop_of_length-le}
+use Rattle.std.proofs.lemmas.List.{drop_more}
+use Rattle.mh_tables_core.specs.Table.{TableData}
+use Rattle.mh_session_branches.specs.declared.command.Command.{Command}
+use Rattle.mh_session_branches.specs.declared.reply.SessionFault.{SessionFault}
+use Rattle.mh_session_branches.specs.declared.reply.SessionFault.TheVariants as faults
+use Rattle.mh_session.specs.SessionState.{SessionState}
+use Rattle.mh_engine.specs.Positions.{Position}
+use Rattle.mh_grammar.specs.Text.{Text}
+use Rattle.mh_session_branches.specs.Names.{at_name}
+use Rattle.mh_session_branches.specs.Answers.{Branches, Answer, answer, answers, next}
+use Rattle.mh_session.specs.Represents.{FitsBranch, Represents}
+use Rattle.mh_session.specs.Served.{IsServed, IsAnswerOfBranches}
+
+-- The invariant of the loop: the answers so far, and then the answers to the remaining commands, are the answers to all
+-- commands.
+pub record AnswersSoFar (t : TableData) (commands : List Command) (i : ℕ) (session : SessionState) (so_far : List Answer) : Type 0 where
+  pub branches : Branches
+  pub stands : Represents session branches
+  pub table : session.table ≡ t
+  pub rest : so_far ++ answers t branches (drop i commands) ≡ answers t [] commands
+
+-- The invariant holds at the beginning, with no names and no answers.
+pub answers_begin : (commands : List Command) (session : SessionState) (so_far : List Answer) → session.held ≡ [] → so_far ≡ [] → AnswersSoFar session.table commands 0 session so_far
+answers_begin commands session so_far none empty = record {
+  branches = [];
+  stands = λ name. subst (λ (held : List (Text × Position)). FitsBranch session.table None (at_name name held)) (sym none) tt;
+  table = refl;
+  rest = rw empty refl;
+}
+
+-- If no command remains, the answers so far are the answers to all commands.
+pub answers_whole : (t : TableData) (commands : List Command) (i : ℕ) (session : SessionState) (so_far : List Answer) → AnswersSoFar t commands i session so_far → length commands ≤ i → so_far ≡ answers t [] commands
+answers_whole t commands i session so_far told le = sym (append-nil so_far) ∙ ap (λ (l : List Command). so_far ++ answers t told.branches l) (sym (drop_of_length-le commands le)) ∙ told.rest
+
+-- The facts after a command for which memory did not run out.
+pub record AnsweredFacts (old : SessionState) (command : Command) (new : SessionState) (r : Answer) (bs : Branches) : Type 0 where
+  pub table_stays : new.table ≡ old.table
+  pub theirs : answer old.table bs command ≡ r
+  pub stands_for : Represents new (next old.table bs command)
+
+refused_goes : (old new : SessionState) (command : Command) (f : SessionFault) (bs : Branches) → new ≡ old → IsAnswerOfBranches old command (Err f) → Represents old bs → AnsweredFacts old command new (Err f) bs
+refused_goes old new command f bs same theirs all = record {
+  table_stays = ap (λ (m : SessionState). m.table) same;
+  theirs = theirs bs all;
+  stands_for = subst (λ (m : SessionState). Represents m (next old.table bs command)) (sym same) (rw (theirs bs all) all);
+}
+
+pub answered_facts : (old new : SessionState) (command : Command) (r : Answer) (bs : Branches) → IsServed old command new r → (r ≡ Err faults.Memory → ⊥) → Represents old bs → AnsweredFacts old command new r bs
+answered_facts old new command (Ok reply) bs s free all = record { table_stays = s.0; theirs = s.1 bs all; stands_for = s.2 bs all }
+answered_facts old new command (Err faults.UnknownName) bs s free all = refused_goes old new command faults.UnknownName bs s.0 s.1 all
+answered_facts old new command (Err faults.NameTaken) bs s free all = refused_goes old new command faults.NameTaken bs s.0 s.1 all
+answered_facts old new command (Err (faults.WrongPhase phase)) bs s free all = refused_goes old new command (faults.WrongPhase phase) bs s.0 s.1 all
+answered_facts old new command (Err faults.TooDeep) bs s free all = refused_goes old new command faults.TooDeep bs s.0 s.1 all
+answered_facts old new command (Err faults.Memory) bs s free all = absurd (free refl)
+
+pub answers_more : (t : TableData) (commands : List Command) (i : ℕ) (old new : SessionState) (so_far more : List Answer) (command : Command) (r : Answer) → AnswersSoFar t commands i old so_far → i < length commands → command ≡ get_or commands i command → IsServed old command new r
+    → (r ≡ Err faults.Memory → ⊥) → more ≡ so_far ++ r ∷ [] → AnswersSoFar t commands (i + 1) new more
+answers_more t commands i old new so_far more command r told lt is s free e =
+    let g = answered_facts old new command r told.branches s free told.stands in
+    let theirs : answer t told.branches command ≡ r = ap (λ (u : TableData). answer u told.branches command) (sym told.table) ∙ g.theirs in
+    let left : drop i commands ≡ command ∷ drop (i + 1) commands = drop_more commands i command lt ∙ ap (λ (c : Command). c ∷ drop (i + 1) commands) (sym is) in
+    record {
+      branches = next t told.branches command;
+      stands = subst (λ (u : TableData). Represents new (next u told.branches command)) told.table g.stands_for;
+      table = g.table_stays ∙ told.table;
+      rest =
+          ap (λ (l : List Answer). l ++ answers t (next t told.branches command) (drop (i + 1) commands)) e ∙ append_assoc so_far (r ∷ []) (answers t (next t told.branches command) (drop (i + 1) commands))
+          ∙ ap (λ (a : Answer). so_far ++ a ∷ answers t (next t told.branches command) (drop (i + 1) commands)) (sym theirs) ∙ ap (λ (l : List Command). so_far ++ answers t told.branches l) (sym left) ∙ told.rest;
+    }

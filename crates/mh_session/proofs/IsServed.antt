@@ -1,0 +1,160 @@
+-- Proves for each command that the session's answer is the one computed from the histories of the branches.
+use Rattle.std.proofs.Common.{◌≡◌, ℕ, suc, Bool, true, false, cond, List, [], ◌∷◌, Option, Some, None, Bor, Result, Ok, Err, refl, sym, ap, subst, ◌∙◌}
+use Rattle.std.specs.Prelude.{IfOk, IfErr, OnOk, OnErr, is_some}
+use Rattle.std.specs.Option.{option_copied}
+use Rattle.mh_tables_core.specs.Table.{TableData}
+use Rattle.mh_engine.specs.Positions.{Position}
+use Rattle.mh_tables_core.specs.TooDeep.{too_deep}
+use Rattle.mh_engine.specs.Phases.{phase_of, CanOffer, CanResume}
+use Rattle.mh_engine.specs.Steps.{initial_position, offered, resumed}
+use Rattle.mh_engine.specs.Branches.{Branch, HasPosition, position_of, new_branch, with_token, with_step}
+use Rattle.mh_engine.specs.declared.checkpoint.Checkpoint.{Checkpoint}
+use Rattle.mh_engine.specs.declared.phase.Phase.{Phase}
+use Rattle.mh_engine.specs.declared.phase.Phase.TheVariants as phases
+use Rattle.mh_engine.proofs.OneMoreStep.{resumed_table}
+use Rattle.mh_engine.proofs.BranchPosition.{HasPosition-start, HasPosition-token, HasPosition-step}
+use Rattle.mh_session_branches.specs.declared.command.Command.{Command}
+use Rattle.mh_session_branches.specs.declared.command.Command.TheVariants as commands
+use Rattle.mh_session_branches.specs.declared.reply.Reply.{Reply}
+use Rattle.mh_session_branches.specs.declared.reply.Reply.TheVariants as replies
+use Rattle.mh_session_branches.specs.declared.reply.SessionFault.{SessionFault}
+use Rattle.mh_session_branches.specs.declared.reply.SessionFault.TheVariants as faults
+use Rattle.mh_grammar.specs.Text.{Text}
+use Rattle.mh_session_branches.specs.Names.{at_name, without_name, with_name}
+use Rattle.mh_session.specs.SessionState.{SessionState}
+use Rattle.mh_session_branches.specs.Answers.{Branches, Answer, answer, branches_after_command, next, branches_after_answer, phase_at, phase_answer, if_name_held, if_name_free, answer_to_offer, answer_to_resume, step_or_deep, with_changed_branch}
+use Rattle.mh_session.specs.Represents.{FitsBranch, Represents}
+use Rattle.mh_session.specs.code.ChangesName.{ChangesName, HaveTable}
+use Rattle.mh_session.specs.Served.{IsServed}
+use Rattle.mh_session.proofs.ChangesName.{held_name_has_branch, free_name_has_no_branch, puts_fit, removal_fits}
+
+-- A lookup that finds no checkpoint finds no position.
+pub found_none : (o : Option (Bor Checkpoint)) (p : Option Position) → option_copied o ≡ p → is_some o ≡ false → p ≡ None
+found_none None p e h = sym e
+found_none (Some c) p e h = cc
+
+-- The position of a branch is the position that the session has for it.
+pub position_is : (t : TableData) (b : Branch) (c : Position) → HasPosition b c → c.table ≡ t → position_of t b ≡ c
+position_is t b c at e = ap (λ (u : TableData). position_of u b) (sym e) ∙ sym at.position
+
+phase_is : (t : TableData) (b : Branch) (c : Position) → HasPosition b c → c.table ≡ t → phase_at t b ≡ phase_of c
+phase_is t b c at e = ap phase_of (position_is t b c at e)
+
+-- The answer to the command is the phase of c, and after the command the name has a branch with the position c.
+pub record GivesPosition (old : SessionState) (command : Command) (name : Text) (c : Position) (bs : Branches) : Type 0 where
+  pub branch : Branch
+  pub stands : HasPosition branch c
+  pub theirs : answer old.table bs command ≡ Ok (replies.Phase (phase_of c))
+  pub change : branches_after_command bs command ≡ with_name name branch bs
+
+put_case : (old new : SessionState) (command : Command) (name : Text) (c : Position) (r : Answer) → ((bs : Branches) → Represents old bs → GivesPosition old command name c bs) → c.table ≡ old.table → IfOk r (λ x. x ≡ replies.Phase (phase_of c)) → IfErr r (λ f. f ≡ faults.Memory)
+    → OnOk r (ChangesName old name (Some c) new) → OnErr r (new ≡ old) → IsServed old command new r
+put_case old new command name c (Ok reply) gives is told fault put same = (
+  put.table,
+  λ bs all. let g = gives bs all in g.theirs ∙ ap (λ (x : Reply). Ok x) (sym told),
+  λ bs all.
+      let g = gives bs all in
+      let next_is : next old.table bs command ≡ with_name name g.branch bs = ap (λ (a : Answer). branches_after_answer a bs command) g.theirs ∙ g.change in
+      subst (Represents new) (sym next_is) (puts_fit old new bs name g.branch c all put g.stands is),
+)
+put_case old new command name c (Err fault) gives is told f put same = subst (λ (x : SessionFault). IsServed old command new (Err x)) (sym f) same
+
+-- The contract of `put` for this result.
+pub record DidPut (old new : SessionState) (name : Text) (c : Position) (r : Answer) : Type 0 where
+  pub reply : IfOk r (λ x. x ≡ replies.Phase (phase_of c))
+  pub fault : IfErr r (λ f. f ≡ faults.Memory)
+  pub put : OnOk r (ChangesName old name (Some c) new)
+  pub same : OnErr r (new ≡ old)
+
+put_served : (old new : SessionState) (command : Command) (name : Text) (c : Position) (r : Answer) → ((bs : Branches) → Represents old bs → GivesPosition old command name c bs) → c.table ≡ old.table → DidPut old new name c r → IsServed old command new r
+put_served old new command name c r gives is did = put_case old new command name c r gives is did.reply did.fault did.put did.same
+
+pub begin_served : (old new : SessionState) (name : Text) (start : ℕ) (c : Position) (r : Answer) → at_name name old.held ≡ None → c ≡ initial_position old.table start [] → DidPut old new name c r → IsServed old (commands.Begin name start) new r
+begin_served old new name start c r free is did =
+    put_served old new (commands.Begin name start) name c r
+    (λ bs all. record {
+      branch = new_branch start;
+      stands = subst (HasPosition (new_branch start)) (sym is) (HasPosition-start old.table start);
+      theirs = ap (λ (o : Option Branch). if_name_free o (phase_answer old.table (new_branch start))) (free_name_has_no_branch old bs name all free) ∙ ap (λ (p : Position). Ok (replies.Phase (phase_of p))) (sym is);
+      change = refl;
+    }) (ap (λ (p : Position). p.table) is) did
+
+pub offer_served : (old new : SessionState) (name : Text) (z s : ℕ) (c d : Position) (r : Answer) → at_name name old.held ≡ Some c → c.table ≡ old.table → phase_of c ≡ phases.InputNeeded s → d ≡ offered c z → DidPut old new name d r → IsServed old (commands.Offer name z) new r
+offer_served old new name z s c d r has of asks is did =
+    put_served old new (commands.Offer name z) name d r
+    (λ bs all.
+    let f = held_name_has_branch old bs name c all has in
+    let b : Branch = f.0 in
+    let at : HasPosition (with_token b z) d = subst (HasPosition (with_token b z)) (sym is) (HasPosition-token b c z f.2) in
+    let table_is : d.table ≡ old.table = ap (λ (p : Position). p.table) is ∙ of in
+    record {
+      branch = with_token b z;
+      stands = at;
+      theirs =
+          ap (λ (o : Option Branch). if_name_held o (λ b. answer_to_offer old.table b z (phase_at old.table b))) f.1 ∙ ap (answer_to_offer old.table b z) (phase_is old.table b c f.2 of ∙ asks)
+          ∙ ap (λ (p : Phase). Ok (replies.Phase p)) (phase_is old.table (with_token b z) d at table_is);
+      change = ap (λ (o : Option Branch). with_changed_branch name o (λ b. with_token b z) bs) f.1;
+    }) (ap (λ (p : Position). p.table) is ∙ of) did
+
+going_on : (t : TableData) (b : Branch) (p : Phase) → CanResume p → answer_to_resume t b p ≡ step_or_deep t (with_step b)
+going_on t b (phases.InputNeeded s) g = absurd g
+going_on t b (phases.Shifting s y) g = refl
+going_on t b (phases.AboutToReduce s p) g = refl
+going_on t b (phases.HandlingError s) g = refl
+going_on t b phases.Accepted g = absurd g
+going_on t b phases.Rejected g = absurd g
+
+resume_theirs : (old : SessionState) (bs : Branches) (name : Text) (b : Branch) (c : Position) → at_name name bs ≡ Some b → HasPosition b c → c.table ≡ old.table → CanResume (phase_of c)
+    → answer old.table bs (commands.Resume name) ≡ cond (too_deep (resumed c).pairs.trees) (Err faults.TooDeep) (Ok (replies.Phase (phase_of (resumed c))))
+resume_theirs old bs name b c has at of g =
+    ap (λ (o : Option Branch). if_name_held o (λ b. answer_to_resume old.table b (phase_at old.table b))) has
+    ∙ going_on old.table b (phase_at old.table b) (subst CanResume (sym (phase_is old.table b c at of)) g)
+    ∙ ap (λ (p : Position). cond (too_deep p.pairs.trees) (Err faults.TooDeep) (Ok (replies.Phase (phase_of p)))) (position_is old.table (with_step b) (resumed c) (HasPosition-step b c at g) (resumed_table c ∙ of))
+
+pub resumed_of : (c d : Position) (t : TableData) → d ≡ resumed c → c.table ≡ t → d.table ≡ t
+resumed_of c d t is of = ap (λ (p : Position). p.table) is ∙ resumed_table c ∙ of
+
+pub resume_served : (old new : SessionState) (name : Text) (c d : Position) (r : Answer) → at_name name old.held ≡ Some c → c.table ≡ old.table → CanResume (phase_of c) → d ≡ resumed c → too_deep (resumed c).pairs.trees ≡ false → DidPut old new name d r → IsServed old (commands.Resume name) new r
+resume_served old new name c d r has of g is fits did =
+    put_served old new (commands.Resume name) name d r
+    (λ bs all.
+    let f = held_name_has_branch old bs name c all has in
+    let b : Branch = f.0 in
+    record {
+      branch = with_step b;
+      stands = subst (HasPosition (with_step b)) (sym is) (HasPosition-step b c f.2 g);
+      theirs =
+          resume_theirs old bs name b c f.1 f.2 of g ∙ ap (λ (x : Bool). cond x (Err faults.TooDeep) (Ok (replies.Phase (phase_of (resumed c))))) fits
+          ∙ ap (λ (p : Position). Ok (replies.Phase (phase_of p))) (sym is);
+      change = ap (λ (o : Option Branch). with_changed_branch name o with_step bs) f.1;
+    }) (resumed_of c d old.table is of) did
+
+pub deep_served : (old : SessionState) (name : Text) (c : Position) → at_name name old.held ≡ Some c → c.table ≡ old.table → CanResume (phase_of c) → too_deep (resumed c).pairs.trees ≡ true → (bs : Branches) → Represents old bs → answer old.table bs (commands.Resume name) ≡ Err faults.TooDeep
+deep_served old name c has of g deep bs all =
+    let f = held_name_has_branch old bs name c all has in
+    resume_theirs old bs name f.0 c f.1 f.2 of g ∙ ap (λ (x : Bool). cond x (Err faults.TooDeep) (Ok (replies.Phase (phase_of (resumed c))))) deep
+
+pub fork_served : (old new : SessionState) (name fresh : Text) (c d : Position) (r : Answer) → at_name name old.held ≡ Some c → c.table ≡ old.table → at_name fresh old.held ≡ None → d ≡ c → DidPut old new fresh d r → IsServed old (commands.Fork name fresh) new r
+fork_served old new name fresh c d r has of free is did =
+    put_served old new (commands.Fork name fresh) fresh d r
+    (λ bs all.
+    let f = held_name_has_branch old bs name c all has in
+    let b : Branch = f.0 in
+    record {
+      branch = b;
+      stands = subst (HasPosition b) (sym is) f.2;
+      theirs =
+          ap (λ (o : Option Branch). if_name_held o (λ b. if_name_free (at_name fresh bs) (phase_answer old.table b))) f.1 ∙ ap (λ (o : Option Branch). if_name_free o (phase_answer old.table b)) (free_name_has_no_branch old bs fresh all free)
+          ∙ ap (λ (p : Phase). Ok (replies.Phase p)) (phase_is old.table b c f.2 of ∙ ap phase_of (sym is));
+      change = ap (λ (o : Option Branch). with_changed_branch fresh o (λ b. b) bs) f.1;
+    }) (ap (λ (p : Position). p.table) is ∙ of) did
+
+pub forget_served : (old new : SessionState) (name : Text) (c : Position) → at_name name old.held ≡ Some c → ChangesName old name None new → IsServed old (commands.Forget name) new (Ok replies.Forgotten)
+forget_served old new name c has put = (
+  put.table,
+  λ bs all. let f = held_name_has_branch old bs name c all has in ap (λ (o : Option Branch). if_name_held o (λ b. Ok replies.Forgotten)) f.1,
+  λ bs all.
+      let f = held_name_has_branch old bs name c all has in
+      let ok : answer old.table bs (commands.Forget name) ≡ Ok replies.Forgotten = ap (λ (o : Option Branch). if_name_held o (λ b. Ok replies.Forgotten)) f.1 in
+      subst (Represents new) (sym (ap (λ (a : Answer). branches_after_answer a bs (commands.Forget name)) ok)) (removal_fits old new bs name all put),
+)

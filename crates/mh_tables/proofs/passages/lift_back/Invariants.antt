@@ -1,5 +1,0 @@
-use Rattle.std.proofs.Common.{◌≡◌, vec_len}
-use Rattle.mh_tables.proofs.passages.lift_back.Given as goal
-
-abbrev pub invariant-places : goal.invariant-places
-invariant-places l = vec_len l.bounds ≡ vec_len l.fn.bounds

@@ -1,6 +1,0 @@
-use Rattle.std.proofs.Common.{◌<◌, ℕ, None}
-use Rattle.mh_tables_core.specs.Halting.{Clear}
-use Rattle.mh_tables.proofs.relative.first_start.Given as goal
-
-abbrev pub invariant-states : goal.invariant-states
-invariant-states l = (s : ℕ) → s < l.state → Clear l.table None s

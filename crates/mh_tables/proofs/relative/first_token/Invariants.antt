@@ -1,6 +1,0 @@
-use Rattle.std.proofs.Common.{◌<◌, ℕ, Some}
-use Rattle.mh_tables_core.specs.Halting.{Loops}
-use Rattle.mh_tables.proofs.relative.first_token.Given as goal
-
-abbrev pub invariant-tokens : goal.invariant-tokens
-invariant-tokens l = (z : ℕ) → z < l.token → Loops l.table l.below l.state (Some z) → ⊥

@@ -1,7 +1,0 @@
-use Rattle.std.proofs.Common.{inl, inr}
-use Rattle.mh_tables.proofs.Waiting.{not_on}
-use Rattle.mh_tables.proofs.relative.loops_on.Goals as goal
-
-pub returns-in-Shift : goal.returns-in-Shift
-returns-in-Shift c =
-    not_on c.args.table.now c.args.below c.args.state c.args.top c.args.token c.action.result c.requires.waits c.action.ensures (λ p e. elim c.in-Shift.is [ inl is ↦ cc | inr is ↦ cc ])

@@ -1,0 +1,171 @@
+use Rattle.std.proofs.Common.{refl, rules, sym, ap, ap₂, ◌∙◌}
+use Rattle.mh_opts.specs.declared.jobs.Job.TheVariants.{Interpret, Session, CompileErrors, CompareErrors, EchoErrors, UpdateErrors}
+use Rattle.mh_top_drive.proofs.OpenedModes.{ran_read}
+use Rattle.mh_top_plans.specs.Plan.{plan_behavior}
+use Rattle.mh_top_plans.specs.code.Modes.{WritesFinal}
+use Rattle.mh_top_plans.proofs.OpenedAndRan.{of_job, of_plan, opened_followed, opened_read, opened_some, still_followed, still_read}
+use Rattle.mh_top.proofs.modes.run_mode.Goals as goal
+
+-- ---- Modes that read no file, or keep what they read.
+
+pub returns-in-Interpret-clause-ran : goal.returns-in-Interpret-clause-ran
+returns-in-Interpret-clause-ran g c = of_job (g.F.Shelf.files c.args.shelf.now) c.args.prepared.now Interpret c.in-Interpret.is _ _ _ _ c.interpret.result c.interpret.ensures.ran
+
+pub returns-in-Interpret-clause-counts : goal.returns-in-Interpret-clause-counts
+returns-in-Interpret-clause-counts g c = c.interpret.ensures.counts
+
+pub returns-in-Interpret-clause-kept : goal.returns-in-Interpret-clause-kept
+returns-in-Interpret-clause-kept g c = c.interpret.ensures.kept
+
+pub returns-in-Interpret-clause-read : goal.returns-in-Interpret-clause-read
+returns-in-Interpret-clause-read g c = c.interpret.ensures.read
+
+pub returns-in-InterpretError-clause-ran : goal.returns-in-InterpretError-clause-ran
+returns-in-InterpretError-clause-ran g c = of_plan (g.F.Shelf.files c.args.shelf.now) c.args.prepared.now _ c.in-InterpretError.is _ _ _ _ c.explain.result _ refl c.explain.ensures.ran
+
+pub returns-in-InterpretError-clause-counts : goal.returns-in-InterpretError-clause-counts
+returns-in-InterpretError-clause-counts g c = c.explain.ensures.counts
+
+pub returns-in-InterpretError-clause-kept : goal.returns-in-InterpretError-clause-kept
+returns-in-InterpretError-clause-kept g c = refl
+
+pub returns-in-InterpretError-clause-read : goal.returns-in-InterpretError-clause-read
+returns-in-InterpretError-clause-read g c = ran_read plan_behavior _ _ _ _ _ _ c.explain.result c.explain.ensures.ran
+
+pub explain-requires : goal.explain-requires
+explain-requires g c = (search rules, (c.requires.few, c.requires.fit))
+
+pub returns-in-Session-clause-ran : goal.returns-in-Session-clause-ran
+returns-in-Session-clause-ran g c = of_job (g.F.Shelf.files c.args.shelf.now) c.args.prepared.now Session c.in-Session.is _ _ _ _ c.run_session.result (still_followed _ _ _ _ _ _ c.run_session.result c.run_session.ensures.ran)
+
+pub returns-in-Session-clause-counts : goal.returns-in-Session-clause-counts
+returns-in-Session-clause-counts g c = c.run_session.ensures.counts
+
+pub returns-in-Session-clause-kept : goal.returns-in-Session-clause-kept
+returns-in-Session-clause-kept g c = refl
+
+pub returns-in-Session-clause-read : goal.returns-in-Session-clause-read
+returns-in-Session-clause-read g c = still_read _ _ _ _ _ _ c.run_session.result c.run_session.ensures.ran
+
+pub run_session-requires : goal.run_session-requires
+run_session-requires g c = (search rules, (c.requires.few, c.requires.fit))
+
+-- ---- Modes that write only at their end.
+
+pub returns-in-ShowAutomaton-clause-ran : goal.returns-in-ShowAutomaton-clause-ran
+returns-in-ShowAutomaton-clause-ran g c = of_plan (g.F.Shelf.files c.args.shelf.now) c.args.prepared.now _ c.in-ShowAutomaton.is _ _ _ _ c.write_at_end.result _ refl c.write_at_end.ensures.ran
+
+pub returns-in-ShowAutomaton-clause-counts : goal.returns-in-ShowAutomaton-clause-counts
+returns-in-ShowAutomaton-clause-counts g c = c.write_at_end.ensures.counts
+
+pub returns-in-ShowAutomaton-clause-kept : goal.returns-in-ShowAutomaton-clause-kept
+returns-in-ShowAutomaton-clause-kept g c = refl
+
+pub returns-in-ShowAutomaton-clause-read : goal.returns-in-ShowAutomaton-clause-read
+returns-in-ShowAutomaton-clause-read g c = ran_read plan_behavior _ _ _ _ _ _ c.write_at_end.result c.write_at_end.ensures.ran
+
+pub returns-in-WriteTables-clause-ran : goal.returns-in-WriteTables-clause-ran
+returns-in-WriteTables-clause-ran g c = of_plan (g.F.Shelf.files c.args.shelf.now) c.args.prepared.now _ c.in-WriteTables.is _ _ _ _ c.write_at_end-in-WriteTables.result _ refl c.write_at_end-in-WriteTables.ensures.ran
+
+pub returns-in-WriteTables-clause-counts : goal.returns-in-WriteTables-clause-counts
+returns-in-WriteTables-clause-counts g c = c.write_at_end-in-WriteTables.ensures.counts
+
+pub returns-in-WriteTables-clause-kept : goal.returns-in-WriteTables-clause-kept
+returns-in-WriteTables-clause-kept g c = refl
+
+pub returns-in-WriteTables-clause-read : goal.returns-in-WriteTables-clause-read
+returns-in-WriteTables-clause-read g c = ran_read plan_behavior _ _ _ _ _ _ c.write_at_end-in-WriteTables.result c.write_at_end-in-WriteTables.ensures.ran
+
+pub returns-in-ListErrors-clause-ran : goal.returns-in-ListErrors-clause-ran
+returns-in-ListErrors-clause-ran g c = of_plan (g.F.Shelf.files c.args.shelf.now) c.args.prepared.now _ c.in-ListErrors.is _ _ _ _ c.write_at_end-in-ListErrors.result _ refl c.write_at_end-in-ListErrors.ensures.ran
+
+pub returns-in-ListErrors-clause-counts : goal.returns-in-ListErrors-clause-counts
+returns-in-ListErrors-clause-counts g c = c.write_at_end-in-ListErrors.ensures.counts
+
+pub returns-in-ListErrors-clause-kept : goal.returns-in-ListErrors-clause-kept
+returns-in-ListErrors-clause-kept g c = refl
+
+pub returns-in-ListErrors-clause-read : goal.returns-in-ListErrors-clause-read
+returns-in-ListErrors-clause-read g c = ran_read plan_behavior _ _ _ _ _ _ c.write_at_end-in-ListErrors.result c.write_at_end-in-ListErrors.ensures.ran
+
+pub returns-in-Sample-clause-ran : goal.returns-in-Sample-clause-ran
+returns-in-Sample-clause-ran g c = of_plan (g.F.Shelf.files c.args.shelf.now) c.args.prepared.now _ c.in-Sample.is _ _ _ _ c.write_at_end-in-Sample.result _ refl c.write_at_end-in-Sample.ensures.ran
+
+pub returns-in-Sample-clause-counts : goal.returns-in-Sample-clause-counts
+returns-in-Sample-clause-counts g c = c.write_at_end-in-Sample.ensures.counts
+
+pub returns-in-Sample-clause-kept : goal.returns-in-Sample-clause-kept
+returns-in-Sample-clause-kept g c = refl
+
+pub returns-in-Sample-clause-read : goal.returns-in-Sample-clause-read
+returns-in-Sample-clause-read g c = ran_read plan_behavior _ _ _ _ _ _ c.write_at_end-in-Sample.result c.write_at_end-in-Sample.ensures.ran
+
+-- ---- Modes that write a text made from messages files.
+
+pub returns-in-CompileErrors-clause-ran : goal.returns-in-CompileErrors-clause-ran
+returns-in-CompileErrors-clause-ran g c =
+    of_job (g.F.Shelf.files c.args.shelf.now) c.args.prepared.now (CompileErrors c.as_slice.result.now) (c.in-CompileErrors.is ∙ ap CompileErrors (sym c.as_slice.ensures)) _ _ _ _ c.write_made.result
+    (opened_followed WritesFinal _ _ _ _ _ _ c.write_made.result c.compile_errors-made.result c.compile_errors-made.ensures.opens c.write_made.ensures.ran)
+
+pub returns-in-CompileErrors-clause-counts : goal.returns-in-CompileErrors-clause-counts
+returns-in-CompileErrors-clause-counts g c = c.write_made.ensures.counts
+
+pub returns-in-CompileErrors-clause-kept : goal.returns-in-CompileErrors-clause-kept
+returns-in-CompileErrors-clause-kept g c = c.compile_errors-made.ensures.kept
+
+pub returns-in-CompileErrors-clause-read : goal.returns-in-CompileErrors-clause-read
+returns-in-CompileErrors-clause-read g c = opened_read WritesFinal _ _ c.compile_errors-made.result _ _ _ _ _ _ c.write_made.result c.compile_errors-made.ensures.opens c.compile_errors-made.ensures.counts c.write_made.ensures.ran
+
+pub write_made-requires : goal.write_made-requires
+write_made-requires g c = record { some = opened_some WritesFinal _ _ c.compile_errors-made.result c.compile_errors-made.ensures.opens }
+
+pub returns-in-CompareErrors-clause-ran : goal.returns-in-CompareErrors-clause-ran
+returns-in-CompareErrors-clause-ran g c =
+    of_job (g.F.Shelf.files c.args.shelf.now) c.args.prepared.now (CompareErrors c.as_slice-in-CompareErrors.result.now c.as_slice-in-CompareErrors-2.result.now) (c.in-CompareErrors.is ∙ ap₂ CompareErrors (sym c.as_slice-in-CompareErrors.ensures) (sym c.as_slice-in-CompareErrors-2.ensures)) _ _ _ _ c.write_made-in-CompareErrors.result
+    (opened_followed WritesFinal _ _ _ _ _ _ c.write_made-in-CompareErrors.result c.compare_errors-made.result c.compare_errors-made.ensures.opens c.write_made-in-CompareErrors.ensures.ran)
+
+pub returns-in-CompareErrors-clause-counts : goal.returns-in-CompareErrors-clause-counts
+returns-in-CompareErrors-clause-counts g c = c.write_made-in-CompareErrors.ensures.counts
+
+pub returns-in-CompareErrors-clause-kept : goal.returns-in-CompareErrors-clause-kept
+returns-in-CompareErrors-clause-kept g c = c.compare_errors-made.ensures.kept
+
+pub returns-in-CompareErrors-clause-read : goal.returns-in-CompareErrors-clause-read
+returns-in-CompareErrors-clause-read g c = opened_read WritesFinal _ _ c.compare_errors-made.result _ _ _ _ _ _ c.write_made-in-CompareErrors.result c.compare_errors-made.ensures.opens c.compare_errors-made.ensures.counts c.write_made-in-CompareErrors.ensures.ran
+
+pub write_made-requires-in-CompareErrors : goal.write_made-requires-in-CompareErrors
+write_made-requires-in-CompareErrors g c = record { some = opened_some WritesFinal _ _ c.compare_errors-made.result c.compare_errors-made.ensures.opens }
+
+pub returns-in-EchoErrors-clause-ran : goal.returns-in-EchoErrors-clause-ran
+returns-in-EchoErrors-clause-ran g c =
+    of_job (g.F.Shelf.files c.args.shelf.now) c.args.prepared.now (EchoErrors c.as_slice-in-EchoErrors.result.now) (c.in-EchoErrors.is ∙ ap EchoErrors (sym c.as_slice-in-EchoErrors.ensures)) _ _ _ _ c.write_made-in-EchoErrors.result
+    (opened_followed WritesFinal _ _ _ _ _ _ c.write_made-in-EchoErrors.result c.echo_errors-made.result c.echo_errors-made.ensures.opens c.write_made-in-EchoErrors.ensures.ran)
+
+pub returns-in-EchoErrors-clause-counts : goal.returns-in-EchoErrors-clause-counts
+returns-in-EchoErrors-clause-counts g c = c.write_made-in-EchoErrors.ensures.counts
+
+pub returns-in-EchoErrors-clause-kept : goal.returns-in-EchoErrors-clause-kept
+returns-in-EchoErrors-clause-kept g c = c.echo_errors-made.ensures.kept
+
+pub returns-in-EchoErrors-clause-read : goal.returns-in-EchoErrors-clause-read
+returns-in-EchoErrors-clause-read g c = opened_read WritesFinal _ _ c.echo_errors-made.result _ _ _ _ _ _ c.write_made-in-EchoErrors.result c.echo_errors-made.ensures.opens c.echo_errors-made.ensures.counts c.write_made-in-EchoErrors.ensures.ran
+
+pub write_made-requires-in-EchoErrors : goal.write_made-requires-in-EchoErrors
+write_made-requires-in-EchoErrors g c = record { some = opened_some WritesFinal _ _ c.echo_errors-made.result c.echo_errors-made.ensures.opens }
+
+pub returns-in-UpdateErrors-clause-ran : goal.returns-in-UpdateErrors-clause-ran
+returns-in-UpdateErrors-clause-ran g c =
+    of_job (g.F.Shelf.files c.args.shelf.now) c.args.prepared.now (UpdateErrors c.as_slice-in-UpdateErrors.result.now) (c.in-UpdateErrors.is ∙ ap UpdateErrors (sym c.as_slice-in-UpdateErrors.ensures)) _ _ _ _ c.write_made-in-UpdateErrors.result
+    (opened_followed WritesFinal _ _ _ _ _ _ c.write_made-in-UpdateErrors.result c.update_errors-made.result c.update_errors-made.ensures.opens c.write_made-in-UpdateErrors.ensures.ran)
+
+pub returns-in-UpdateErrors-clause-counts : goal.returns-in-UpdateErrors-clause-counts
+returns-in-UpdateErrors-clause-counts g c = c.write_made-in-UpdateErrors.ensures.counts
+
+pub returns-in-UpdateErrors-clause-kept : goal.returns-in-UpdateErrors-clause-kept
+returns-in-UpdateErrors-clause-kept g c = c.update_errors-made.ensures.kept
+
+pub returns-in-UpdateErrors-clause-read : goal.returns-in-UpdateErrors-clause-read
+returns-in-UpdateErrors-clause-read g c = opened_read WritesFinal _ _ c.update_errors-made.result _ _ _ _ _ _ c.write_made-in-UpdateErrors.result c.update_errors-made.ensures.opens c.update_errors-made.ensures.counts c.write_made-in-UpdateErrors.ensures.ran
+
+pub write_made-requires-in-UpdateErrors : goal.write_made-requires-in-UpdateErrors
+write_made-requires-in-UpdateErrors g c = record { some = opened_some WritesFinal _ _ c.update_errors-made.result c.update_errors-made.ensures.opens }

@@ -1,0 +1,313 @@
+-- Each cause with which the work ends is explained by the words, the files or the input; and a file that cannot be read
+-- ends the work with its cause.
+use Rattle.std.proofs.Common.{◌≡◌, ℕ, Bool, true, false, ◌&&◌, List, [], ◌∷◌, ◌++◌, Option, None, Some, refl, sym, ◌∙◌, ap, subst}
+use Rattle.std.specs.Bool.{⊤}
+use Rattle.std.specs.List.{All}
+use Rattle.std.proofs.lemmas.List.Elements.{All-head, All-tail}
+use Rattle.mh_outside.specs.Shelf.{Files, FileFound, NoFile, Long, Bytes}
+use Rattle.mh_rules.specs.declared.modules.Module.{Module}
+use Rattle.mh_sample.specs.Texts.{grammar_text}
+use Rattle.mh_opts.specs.Orders as spelled
+use Rattle.mh_opts.specs.declared.order.Order.{Order}
+use Rattle.mh_opts.specs.declared.order.UsageFault.{UsageFault}
+use Rattle.std.specs.Prelude.{Result, Ok, Err}
+use Rattle.mh_grammar.specs.Text.{Text}
+use Rattle.mh_top_load.specs.Texts.{usage_line}
+use Rattle.mh_top_drive.specs.StageResults.{StageResult, Go, Halt, AfterStage, Then, Gives}
+use Rattle.mh_top_drive.specs.Statuses.{last_line_of}
+use Rattle.mh_top_load.specs.Order.{staged_order, order_result}
+use Rattle.mh_top_drive.specs.FileContents.{AreFileContents, IsFileContent, IsFound, IsLoaded, loaded}
+use Rattle.mh_top_load.specs.GrammarFile.{IsModule}
+use Rattle.mh_top_load.specs.Modules.{AreModules, AreModulesBy, grammar_files, names_to_read, sample_file, sample_of}
+use Rattle.mh_top_drive.specs.NextFile.{HasContent, IsNextFile}
+use Rattle.mh_top_claims.specs.NextTableFile.{IsTableFileNext}
+use Rattle.mh_top_load.specs.GrammarStage.{IsGrammarStage}
+use Rattle.mh_tabfile_form.specs.declared.types.RawTable.{RawTable}
+use Rattle.mh_top_tables.specs.TableFileContent.{IsTableFile}
+use Rattle.mh_top_tables.specs.TableStage.{IsAutomatonStage, IsTableStage, mode_of}
+use Rattle.mh_top_tables.specs.ResolvedStage.{IsResolvedStage}
+use Rattle.mh_top_tables.specs.AutomatonSources.{IsAutomatonSource, IsAutomatonSourceBy}
+use Rattle.mh_top_drive.specs.ModeBehavior.{ModeEnd, AnswersAll, AreAskedLines, EndsAfterAnswers, Outcome, HasOutcome}
+use Rattle.mh_top_plans.specs.Plan.{Plan, EndsWith, asks_of, halts, plan_behavior}
+use Rattle.mh_top_claims.specs.Work.{Work, IsPlanUnlessRefused, IsWork, IsWorkOf}
+use Rattle.mh_top_warnings.specs.Warnings.{has_warning, warnings_of}
+use Rattle.mh_top_load.specs.OrderAndGrammar.{IsOrderAndGrammar}
+use Rattle.mh_top_claims.specs.Preparing.{IsPrepared}
+use Rattle.mh_top_tables.specs.PreparedStage.{IsPreparedFromSource, IsPreparedFromFiles}
+use Rattle.mh_top_claims.specs.Run.{text_on_err, IsNextToRead, OfGrammar, OfTables, OfMode, IsNextAfterWarnings, IsNextUnlessRefused}
+use Rattle.mh_top_claims.specs.Claims.{AsksLines, NextFileIs, IsInputOverLimit}
+use Rattle.mh_top_drive.specs.declared.driving.Asks.{Asks}
+use Rattle.mh_top_drive.specs.declared.driving.Asks.TheVariants.{NoLine, FirstLine, EachLine}
+use Rattle.mh_top_types.specs.declared.front.OrderAndGrammar.{OrderAndGrammar}
+use Rattle.mh_top_types.specs.Shapes.{Prepared, TabledAutomaton}
+use Rattle.mh_top_drive.specs.declared.stop.Cause.{Cause}
+use Rattle.mh_top_drive.specs.declared.stop.Cause.TheVariants.{Refused, Misused, Missing, LongFile, LongInput}
+use Rattle.mh_top_tables.specs.declared.sources.AutomatonSource.{AutomatonSource}
+use Rattle.mh_top_tables.specs.declared.sources.AutomatonSource.TheVariants.{Canonical, File, Merged}
+use Rattle.mh_top_drive.proofs.ReadFilesLoop.{turn_first, turn_later}
+use Rattle.mh_top_claims.proofs.PreparedUnique.{prepared_once}
+use Rattle.mh_top_plans.proofs.IsNextFileOfJob.{nil_not_split}
+use Rattle.mh_top_claims.proofs.EachMode.{EndsAllowed, IsAllowed, answer_right, ends_right, facts_of}
+
+-- The cause is a refusal, which needs no explanation here.
+abbrev IsRefusal : Cause → Type 0
+IsRefusal (Refused line) = ⊤
+IsRefusal _ = ⊥
+
+-- ---- Before the warnings.
+
+module _ (words : List Text) (files : Option Files) where
+  -- The explanation of a cause: the words are misused, or the next file to read is absent or too long.
+  abbrev pub Accounts : Cause → Type 0
+  Accounts (Refused line) = ⊤
+  Accounts (Misused line) = staged_order words ≡ Halt (Misused line)
+  Accounts (Missing name) = NextFileIs words NoFile files
+  Accounts (LongFile name) = NextFileIs words Long files
+  Accounts LongInput = ⊥
+
+  refusal_accounts : (cause : Cause) → IsRefusal cause → Accounts cause
+  refusal_accounts (Refused line) is = tt
+  refusal_accounts (Misused line) is = absurd is
+  refusal_accounts (Missing name) is = absurd is
+  refusal_accounts (LongFile name) is = absurd is
+  refusal_accounts LongInput is = absurd is
+
+  refused_so : (cause : Cause) (line : Text) → cause ≡ Refused line → Accounts cause
+  refused_so cause line is = subst Accounts (sym is) tt
+
+  usage_so : (given : Result Order UsageFault) (cause : Cause) → order_result given ≡ Halt cause → staged_order words ≡ Halt cause → Accounts cause
+  usage_so (Ok order) cause is on = absurd (cc)
+  usage_so (Err fault) cause is on =
+      let same : Misused (usage_line fault) ≡ cause = cc in
+      subst Accounts same (on ∙ ap Halt (sym same))
+
+  module _ (order : Order) (on : staged_order words ≡ Go order) where
+    of_found : (name : Text) → IsNextFile files IsModule (grammar_files order) name → (what : FileFound) → IsFound files name what → (cause : Cause) → Halt cause ≡ loaded name what → Accounts cause
+    of_found name turn NoFile is cause from = let same : Missing name ≡ cause = cc in subst Accounts same ([], name, OfGrammar order on turn refl, is)
+    of_found name turn Long is cause from = let same : LongFile name ≡ cause = cc in subst Accounts same ([], name, OfGrammar order on turn refl, is)
+    of_found name turn (Bytes bytes) is cause from = absurd (cc)
+
+    of_read : (name : Text) → IsNextFile files IsModule (grammar_files order) name → (read : StageResult Text) → IsLoaded files name read → (cause : Cause) → AfterStage read (IsModule name) (Halt cause) → Accounts cause
+    of_read name turn (Go bytes) told cause fault = refused_so cause _ fault.cause_is
+    of_read name turn (Halt cause') told cause is =
+        let same : cause' ≡ cause = cc in subst Accounts same (of_found name turn told.0 told.1 cause' told.2)
+
+    of_files : (names : List Text) → ((name : Text) → IsNextFile files IsModule names name → IsNextFile files IsModule (grammar_files order) name) → (cause : Cause) → AreFileContents files IsModule names (Halt cause) → Accounts cause
+    of_files [] turn cause is = absurd (cc)
+    of_files (name ∷ names) turn cause is = at (λ inner halt are. of_files names inner halt are) is.0 is.1 is.2
+      where
+        behind : (((next : Text) → IsNextFile files IsModule names next → IsNextFile files IsModule (grammar_files order) next) → (halt : Cause) → AreFileContents files IsModule names (Halt halt) → Accounts halt) → (m : Module) → IsFileContent files IsModule name (Go m) → (rest : StageResult (List Module)) → AreFileContents files IsModule names rest → AfterStage rest (λ xs. Gives (m ∷ xs)) (Halt cause) → Accounts cause
+        behind again m spelled (Go xs) are same = absurd (cc)
+        behind again m spelled (Halt cause') are same =
+            let one : cause' ≡ cause = cc in
+            subst Accounts one (again (λ next later. turn next (turn_later files IsModule name names next (m, spelled) later)) cause' are)
+
+        at : (((next : Text) → IsNextFile files IsModule names next → IsNextFile files IsModule (grammar_files order) next) → (halt : Cause) → AreFileContents files IsModule names (Halt halt) → Accounts halt) → (first : StageResult Module) → IsFileContent files IsModule name first → AfterStage first (λ x. Then (AreFileContents files IsModule names) (λ xs. Gives (x ∷ xs))) (Halt cause) → Accounts cause
+        at again (Go m) spelled rest = behind again m spelled rest.0 rest.1 rest.2
+        at again (Halt cause') stage same =
+            let one : cause' ≡ cause = cc in
+            subst Accounts one (of_read name (turn name (turn_first files IsModule name names)) stage.0 stage.1 cause' stage.2)
+
+    of_grammar : (modules : List Module) (s : StageResult _) → IsGrammarStage order.stdlib modules s → (cause : Cause) → AfterStage {B = OrderAndGrammar} s (λ grammar. Gives (record { order = order; grammar = grammar })) (Halt cause) → Accounts cause
+    of_grammar modules (Go g) stage cause same = absurd (cc)
+    of_grammar modules (Halt cause') stage cause same = let one : cause' ≡ cause = cc in subst Accounts one (refused_so cause' _ stage.2)
+
+    -- The causes of the modules of an order, by its sample or its files.
+    by_sample : (sample : Option ℕ) → ((name : Text) → IsNextFile files IsModule (names_to_read sample order.grammars) name → IsNextFile files IsModule (grammar_files order) name) → (cause : Cause) → AreModulesBy sample files order.grammars (Halt cause) → Accounts cause
+    by_sample None turn cause are = of_files order.grammars turn cause are
+    by_sample (Some number) turn cause are = at are.0 are.1 are.2
+      where
+        at : (first : StageResult Module) → IsModule sample_file (grammar_text number) first → AfterStage first (λ m. Gives (m ∷ [])) (Halt cause) → Accounts cause
+        at (Go m) spells same = absurd (cc)
+        at (Halt cause') fault same = let one : cause' ≡ cause = cc in subst Accounts one (refused_so cause' _ fault.cause_is)
+
+    of_modules : (s : StageResult (List Module)) → AreModules files order s → (cause : Cause) → AfterStage {B = OrderAndGrammar} s (λ modules. Then (IsGrammarStage order.stdlib modules) (λ grammar. Gives (record { order = order; grammar = grammar }))) (Halt cause) → Accounts cause
+    of_modules (Go modules) are cause rest = of_grammar modules rest.0 rest.1 cause rest.2
+    of_modules (Halt cause') are cause same = let one : cause' ≡ cause = cc in subst Accounts one (by_sample (sample_of order.job) (λ name turn. turn) cause' are)
+
+  of_front : (cause : Cause) → IsOrderAndGrammar words files (Halt cause) → Accounts cause
+  of_front cause is = at (staged_order words) refl is
+    where
+      at : (s : StageResult Order) → staged_order words ≡ s → AfterStage {B = OrderAndGrammar} s (λ order. Then (AreModules files order) (λ modules. Then (IsGrammarStage order.stdlib modules) (λ grammar. Gives (record { order = order; grammar = grammar })))) (Halt cause) → Accounts cause
+      at (Go order) on rest = of_modules order on rest.0 rest.1 cause rest.2
+      at (Halt cause') on same = let one : cause' ≡ cause = cc in subst Accounts one (usage_so (spelled.order_of words) cause' on on)
+
+  of_automaton : (source : AutomatonSource) (g : _) (s : _) → IsAutomatonStage source g s → (cause : Cause) → AfterStage s (IsResolvedStage (mode_of source) g) (Halt cause) → Accounts cause
+  of_automaton source g (Go a) stage cause first = refused_so cause _ first.cause_is
+  of_automaton Merged g (Halt cause') stage cause same = let one : cause' ≡ cause = cc in subst Accounts one (refused_so cause' _ stage.1)
+  of_automaton Canonical g (Halt cause') stage cause same = let one : cause' ≡ cause = cc in subst Accounts one (refused_so cause' _ stage.1)
+  of_automaton (File name raw) g (Halt cause') stage cause same = let one : cause' ≡ cause = cc in subst Accounts one (refused_so cause' _ stage.cause_is)
+
+  of_table : (front : OrderAndGrammar) (source : AutomatonSource) (s : StageResult TabledAutomaton) → IsTableStage source front.grammar s → (cause : Cause) → AfterStage {B = Prepared} s (λ tabled. Gives (record { order = front.order; grammar = front.grammar; tabled = tabled })) (Halt cause) → Accounts cause
+  of_table front source (Go tabled) stage cause same = absurd (cc)
+  of_table front source (Halt cause') stage cause same = let one : cause' ≡ cause = cc in subst Accounts one (of_automaton source front.grammar stage.0 stage.1 cause' stage.2)
+
+  -- The causes of the table file.
+  of_tables_found : (name : Text) → IsTableFileNext words files name → (what : FileFound) → IsFound files name what → (cause : Cause) → Halt cause ≡ loaded name what → Accounts cause
+  of_tables_found name turn NoFile is cause from = let same : Missing name ≡ cause = cc in subst Accounts same ([], name, OfTables turn refl, is)
+  of_tables_found name turn Long is cause from = let same : LongFile name ≡ cause = cc in subst Accounts same ([], name, OfTables turn refl, is)
+  of_tables_found name turn (Bytes bytes) is cause from = absurd (cc)
+
+  of_tables_read : (name : Text) → IsTableFileNext words files name → (read : StageResult Text) → IsLoaded files name read → (cause : Cause) → AfterStage read (IsTableFile name) (Halt cause) → Accounts cause
+  of_tables_read name turn (Go bytes) told cause fault = refused_so cause _ fault.cause_is
+  of_tables_read name turn (Halt cause') told cause is =
+      let same : cause' ≡ cause = cc in subst Accounts same (of_tables_found name turn told.0 told.1 cause' told.2)
+
+  of_source_by : (tables : Option Text) (canonical : Bool) → ((name : Text) → tables ≡ Some name → IsTableFileNext words files name) → (cause : Cause) → IsAutomatonSourceBy tables canonical files (Halt cause) → Accounts cause
+  of_source_by None canonical turn cause is = absurd (cc)
+  of_source_by (Some name) canonical turn cause is = at is.0 is.1 is.2
+    where
+      at : (s : StageResult RawTable) → IsFileContent files IsTableFile name s → AfterStage s (λ raw. Gives (File name raw)) (Halt cause) → Accounts cause
+      at (Go raw) file same = absurd (cc)
+      at (Halt cause') file same = let one : cause' ≡ cause = cc in subst Accounts one (of_tables_read name (turn name refl) file.0 file.1 cause' file.2)
+
+  of_source : (front : OrderAndGrammar) → IsOrderAndGrammar words files (Go front) → (s : StageResult AutomatonSource) → IsAutomatonSource files front.order s → (cause : Cause) → AfterStage s (IsPreparedFromSource front) (Halt cause) → Accounts cause
+  of_source front here (Go source) from cause rest = of_table front source rest.0 rest.1 cause rest.2
+  of_source front here (Halt cause') from cause same =
+      let one : cause' ≡ cause = cc in
+      subst Accounts one (of_source_by front.order.tables front.order.canonical (λ name named. (front, here, named)) cause' from)
+
+  of_prepared : (cause : Cause) → IsPrepared words files (Halt cause) → Accounts cause
+  of_prepared cause is = at is.0 is.1 is.2
+    where
+      at : (s : StageResult OrderAndGrammar) → IsOrderAndGrammar words files s → AfterStage s (IsPreparedFromFiles files) (Halt cause) → Accounts cause
+      at (Go front) here rest = of_source front here rest.0 rest.1 cause rest.2
+      at (Halt cause') here same = let one : cause' ≡ cause = cc in subst Accounts one (of_front cause' here)
+
+  -- ---- After the warnings.
+
+  of_mode : (p : Prepared) (name : Text) (what : FileFound) (cause : Cause) → IsPrepared words files (Go p) → IsNextAfterWarnings files p name → IsFound files name what → loaded name what ≡ Halt cause → Accounts cause
+  of_mode p name NoFile cause prepared turn found halt = let same : Missing name ≡ cause = cc in subst Accounts same (warnings_of p, name, OfMode p prepared turn refl, found)
+  of_mode p name Long cause prepared turn found halt = let same : LongFile name ≡ cause = cc in subst Accounts same (warnings_of p, name, OfMode p prepared turn refl, found)
+  of_mode p name (Bytes bytes) cause prepared turn found halt = absurd (cc)
+
+  plan_right : (refused : Bool) (p : Prepared) (plan : Plan) → IsPrepared words files (Go p) → refused ≡ (p.order.strict && has_warning p.tabled.conflicts) → IsPlanUnlessRefused refused files p plan → EndsAllowed Accounts plan
+  plan_right true p plan prepared test is = subst (EndsAllowed Accounts) (sym is) tt
+  plan_right false p plan prepared test is = (facts_of p.order.job p).right Accounts (λ line. tt) files plan (λ name what cause turn found halt. of_mode p name what cause prepared (subst (λ (b : Bool). IsNextUnlessRefused b files p name) test turn) found halt) is
+
+  work_right : (s : StageResult Prepared) (w : Work) → IsPrepared words files s → IsWorkOf files s w → EndsAllowed Accounts w.plan
+  work_right (Go p) w prepared is = plan_right (p.order.strict && has_warning p.tabled.conflicts) p w.plan prepared refl is.1
+  work_right (Halt cause) w prepared is = subst (λ (x : Work). EndsAllowed Accounts x.plan) (sym is) (of_prepared cause prepared)
+
+  answers_right : (plan : Plan) (lines : List Text) (text : Text) (next : Plan) → AnswersAll plan_behavior plan lines text next → EndsAllowed Accounts plan → EndsAllowed Accounts next
+  answers_right plan [] text next all right = subst (EndsAllowed Accounts) (sym all.1) right
+  answers_right plan (line ∷ lines) text next all right = answers_right all.2 lines all.1 next all.4 (answer_right Accounts (λ words. tt) plan line all.0 all.2 all.3 right)
+
+  -- The explanation of the cause of an outcome: one of those above, or the input is over a limit.
+  abbrev pub AccountsOn : Work → Option Text → Option Cause → Type 0
+  AccountsOn w input None = ⊤
+  AccountsOn w input (Some LongInput) = AsksLines w.plan × IsInputOverLimit (asks_of w.plan) input
+  AccountsOn w input (Some cause) = Accounts cause
+
+  on_input : (w : Work) (input : Option Text) (cause : Option Cause) → IsAllowed Accounts cause → AccountsOn w input cause
+  on_input w input None is = tt
+  on_input w input (Some (Refused line)) is = is
+  on_input w input (Some (Misused line)) is = is
+  on_input w input (Some (Missing name)) is = is
+  on_input w input (Some (LongFile name)) is = is
+  on_input w input (Some LongInput) is = absurd is
+
+  past_asks : (asks : Asks) (input : Option Text) (lines : List Text) → AreAskedLines asks input lines false → asks ≡ NoLine → ⊥
+  past_asks NoLine input lines is none = let same : false ≡ true = is.1 in absurd (cc)
+  past_asks FirstLine input lines is none = absurd (cc)
+  past_asks EachLine input lines is none = absurd (cc)
+
+  past_input : (asks : Asks) (input : Option Text) (lines : List Text) → AreAskedLines asks input lines false → IsInputOverLimit asks input
+  past_input asks None lines is = tt
+  past_input NoLine (Some input) lines is = let same : false ≡ true = is.1 in absurd (cc)
+  past_input FirstLine (Some input) lines is = is.1
+  past_input EachLine (Some input) lines is = is.1
+
+  outcome_right : (w : Work) (input : Option Text) (lines : List Text) (whole : Bool) (text : Text) (last : Plan) (cause : Option Cause) (out : Text) → AreAskedLines (asks_of w.plan) input lines whole → EndsAllowed Accounts last → EndsAfterAnswers plan_behavior whole last text cause out → AccountsOn w input cause
+  outcome_right w input lines true text last cause out asks right ends = subst (AccountsOn w input) (sym ends.2) (on_input w input ends.0.cause (ends_right Accounts (λ line. tt) last ends.0 right ends.1))
+  outcome_right w input lines false text last cause out asks right ends = subst (AccountsOn w input) (sym ends.0) (past_asks (asks_of w.plan) input lines asks, past_input (asks_of w.plan) input lines asks)
+
+  pub ended : (w : Work) (input : Option Text) (o : Outcome) → IsWork words files w → HasOutcome plan_behavior w.plan input o → AccountsOn w input o.cause
+  ended w input o asked yields =
+      outcome_right w input yields.lines yields.whole yields.text yields.last o.cause o.out yields.asks
+      (answers_right w.plan yields.lines yields.text yields.last yields.answers (work_right asked.0 w asked.1 asked.2)) yields.ends
+
+  -- If the words are misused, there are no warnings before the line that says so.
+  misused_work : (line : Text) → staged_order words ≡ Halt (Misused line) → (s : StageResult Prepared) → IsPrepared words files s → (w : Work) → IsWorkOf files s w → w.warnings ≡ []
+  misused_work line on (Halt cause) prepared w is = ap (λ (x : Work). x.warnings) is
+  misused_work line on (Go p) prepared w is = absurd (no_front prepared.0 prepared.1 prepared.2)
+    where
+      no_order : (s : StageResult Order) → staged_order words ≡ s → (front : OrderAndGrammar) → AfterStage {B = OrderAndGrammar} s (λ order. Then (AreModules files order) (λ modules. Then (IsGrammarStage order.stdlib modules) (λ grammar. Gives (record { order = order; grammar = grammar })))) (Go front) → ⊥
+      no_order (Go order) at front rest = let same : Halt (Misused line) ≡ Go order = sym on ∙ at in absurd (cc)
+      no_order (Halt cause) at front rest = absurd (cc)
+
+      no_front : (s : StageResult OrderAndGrammar) → IsOrderAndGrammar words files s → AfterStage s (IsPreparedFromFiles files) (Go p) → ⊥
+      no_front (Go front) is rest = no_order (staged_order words) refl front is
+      no_front (Halt cause) is rest = absurd (cc)
+
+  pub misused_says : (w : Work) (o : Outcome) (line : Text) → staged_order words ≡ Halt (Misused line) → o.cause ≡ Some (Misused line) → IsWork words files w → text_on_err w o ≡ line
+  misused_says w o line on cause asked =
+      ap (λ (t : Text). t ++ last_line_of o.cause) (misused_work line on asked.0 asked.1 w asked.2) ∙ ap last_line_of cause
+
+-- ---- Files that cannot be read.
+
+-- The outcome of a plan that ends at once has the cause of the plan.
+halts_gives : (cause : Cause) (input : Option Text) (lines : List Text) (whole : Bool) (text : Text) (last : Plan) (given : Option Cause) (out : Text) → AreAskedLines NoLine input lines whole → AnswersAll plan_behavior (halts cause) lines text last → EndsAfterAnswers plan_behavior whole last text given out → given ≡ Some cause
+halts_gives cause input [] true text last given out asks all ends =
+    let end : EndsWith (halts cause) ends.0 = subst (λ (l : Plan). EndsWith l ends.0) all.1 ends.1 in
+    ends.2 ∙ ap (λ (e : ModeEnd). e.cause) end
+halts_gives cause input [] false text last given out asks all ends = let same : false ≡ true = asks.1 in absurd (cc)
+halts_gives cause input (line ∷ lines) whole text last given out asks all ends = let same : line ∷ lines ≡ [] = asks.0 in absurd (cc)
+
+yields_halts : (cause : Cause) (input : Option Text) (o : Outcome) → HasOutcome plan_behavior (halts cause) input o → o.cause ≡ Some cause
+yields_halts cause input o y = halts_gives cause input y.lines y.whole y.text y.last o.cause o.out y.asks y.answers y.ends
+
+module _ (words : List Text) (files : Files) where
+  told : Option Files
+  told = Some files
+
+  files_halt : (name : Text) (after : List Text) (cause : Cause) → IsFileContent (Some files) IsModule name (Halt cause) → (before : List Text) → All (HasContent (Some files) IsModule) before → AreFileContents (Some files) IsModule (before ++ name ∷ after) (Halt cause)
+  files_halt name after cause is [] spelled = (Halt cause, is, refl)
+  files_halt name after cause is (first ∷ before) spelled =
+      let here : HasContent (Some files) IsModule first = All-head (HasContent (Some files) IsModule) first before spelled in
+      (Go here.0, here.1, (Halt cause, files_halt name after cause is before (All-tail (HasContent (Some files) IsModule) first before spelled), refl))
+
+  -- If one of the grammar files stops the work, so do the modules.
+  modules_halt : (sample : Option ℕ) (names : List Text) (name : Text) → IsNextFile (Some files) IsModule (names_to_read sample names) name → (cause : Cause) → IsFileContent (Some files) IsModule name (Halt cause) → AreModulesBy sample (Some files) names (Halt cause)
+  modules_halt None names name turn cause is = subst (λ (l : List Text). AreFileContents (Some files) IsModule l (Halt cause)) (sym turn.names_are) (files_halt name turn.after cause is turn.before turn.spelled)
+  modules_halt (Some number) names name turn cause is = absurd (nil_not_split turn.before turn.after name turn.names_are)
+
+  prepared_halts : (order : Order) → staged_order words ≡ Go order → (name : Text) → IsNextFile (Some files) IsModule (grammar_files order) name → (cause : Cause) → IsFileContent (Some files) IsModule name (Halt cause) → IsPrepared words (Some files) (Halt cause)
+  prepared_halts order on name turn cause is =
+      let are : AreModules (Some files) order (Halt cause) = modules_halt (sample_of order.job) order.grammars name turn cause is in
+      let front : IsOrderAndGrammar words (Some files) (Halt cause) = subst (λ (o : StageResult Order). AfterStage {B = OrderAndGrammar} o (λ x. Then (AreModules (Some files) x) (λ modules. Then (IsGrammarStage x.stdlib modules) (λ grammar. Gives (record { order = x; grammar = grammar })))) (Halt cause)) (sym on) (Halt cause, are, refl) in
+      (Halt cause, front, refl)
+
+  -- If the table file stops the work, so do the stages before the warnings.
+  tables_halt : (name : Text) → IsTableFileNext words (Some files) name → (cause : Cause) → IsFileContent (Some files) IsTableFile name (Halt cause) → IsPrepared words (Some files) (Halt cause)
+  tables_halt name (front, here, named) cause is =
+      let source : IsAutomatonSource (Some files) front.order (Halt cause) = subst (λ (t : Option Text). IsAutomatonSourceBy t front.order.canonical (Some files) (Halt cause)) (sym named) (Halt cause, is, refl) in
+      (Go front, here, (Halt cause, source, refl))
+
+  halted_work : (cause : Cause) (w : Work) (input : Option Text) (o : Outcome) → IsPrepared words (Some files) (Halt cause) → IsWork words (Some files) w → HasOutcome plan_behavior w.plan input o → o.cause ≡ Some cause
+  halted_work cause w input o prepared asked yields =
+      let same : asked.0 ≡ Halt cause = prepared_once words files asked.0 (Halt cause) asked.1 prepared in
+      let work_is : w ≡ record { warnings = []; plan = halts cause } = subst (λ (s : StageResult Prepared). IsWorkOf (Some files) s w) same asked.2 in
+      yields_halts cause input o (subst (λ (x : Work). HasOutcome plan_behavior x.plan input o) work_is yields)
+
+  halted_mode : (refused : Bool) (p : Prepared) (plan : Plan) (name : Text) (what : FileFound) (cause : Cause) → IsNextUnlessRefused refused (Some files) p name → IsFound (Some files) name what → loaded name what ≡ Halt cause → IsPlanUnlessRefused refused (Some files) p plan → plan ≡ halts cause
+  halted_mode true p plan name what cause turn found halt is = absurd turn
+  halted_mode false p plan name what cause turn found halt is = (facts_of p.order.job p).unread files name what cause plan turn found halt is
+
+  -- If the next file to read is missing or too long, this is the cause of the outcome.
+  due_gives : (w : Work) (input : Option Text) (o : Outcome) (front name : Text) (what : FileFound) (cause : Cause) → HasOutcome plan_behavior w.plan input o → IsWork words (Some files) w → IsNextToRead words (Some files) front name → IsFound (Some files) name what → loaded name what ≡ Halt cause → o.cause ≡ Some cause
+  due_gives w input o front name what cause yields asked (OfGrammar order on turn front_is) found halt =
+      halted_work cause w input o (prepared_halts order on name turn cause (Halt cause, (what, found, sym halt), refl)) asked yields
+  due_gives w input o front name what cause yields asked (OfTables turn front_is) found halt =
+      halted_work cause w input o (tables_halt name turn cause (Halt cause, (what, found, sym halt), refl)) asked yields
+  due_gives w input o front name what cause yields asked (OfMode p prepared turn front_is) found halt =
+      let same : asked.0 ≡ Go p = prepared_once words files asked.0 (Go p) asked.1 prepared in
+      let of : IsWorkOf (Some files) (Go p) w = subst (λ (s : StageResult Prepared). IsWorkOf (Some files) s w) same asked.2 in
+      let plan_is : w.plan ≡ halts cause = halted_mode (p.order.strict && has_warning p.tabled.conflicts) p w.plan name what cause turn found halt of.1 in
+      yields_halts cause input o (subst (λ (x : Plan). HasOutcome plan_behavior x input o) plan_is yields)
+
+  pub missing_gives : (w : Work) (input : Option Text) (o : Outcome) → HasOutcome plan_behavior w.plan input o → IsWork words (Some files) w → NextFileIs words NoFile (Some files) → (name : Text) × (o.cause ≡ Some (Missing name))
+  missing_gives w input o yields asked has = (has.1, due_gives w input o has.0 has.1 NoFile (Missing has.1) yields asked has.2 has.3 refl)
+
+  pub long_gives : (w : Work) (input : Option Text) (o : Outcome) → HasOutcome plan_behavior w.plan input o → IsWork words (Some files) w → NextFileIs words Long (Some files) → (name : Text) × (o.cause ≡ Some (LongFile name))
+  long_gives w input o yields asked has = (has.1, due_gives w input o has.0 has.1 Long (LongFile has.1) yields asked has.2 has.3 refl)

@@ -1,0 +1,26 @@
+-- Lemmas on modes that may have failed to open: fault counts of devices that were not used.
+use Rattle.std.proofs.Common.{ℕ, Option, arith, refl}
+use Rattle.std.specs.Prelude.{Result, Ok, Err}
+use Rattle.mh_grammar.specs.Text.{Text}
+use Rattle.mh_top_drive.specs.code.ModeCalls.{ModeRan, InputAndOutCounts, ModeShelfCounts}
+use Rattle.mh_top_drive.specs.code.OpenedModes.{IsOpened}
+use Rattle.mh_top_drive.specs.ModeBehavior.{ModeBehavior}
+use Rattle.mh_top_drive.specs.declared.stop.Stop.{Stop}
+use Rattle.mh_top_drive.specs.declared.stop.Stop.TheVariants.{Halted, ShelfFailed, InputFailed, WriteFailed, OutOfMemory}
+
+-- If no mode was opened, unchanged counts of the input and of out meet the contract.
+pub unopened_counts : {M State : Type 0} (StandsFor : M → State → Type 0) (stop : Stop) (n m : ℕ) → IsOpened {M = M} StandsFor (Err stop) → InputAndOutCounts {T = Unit {0}} n n m m (Err stop)
+unopened_counts StandsFor (Halted cause) n m opened = (refl, refl)
+unopened_counts StandsFor (ShelfFailed name) n m opened = (refl, refl)
+unopened_counts StandsFor OutOfMemory n m opened = (refl, refl)
+unopened_counts StandsFor InputFailed n m opened = absurd opened
+unopened_counts StandsFor WriteFailed n m opened = absurd opened
+
+-- A mode that reads no file leaves the count of the shelf unchanged.
+pub ran_read : {State : Type 0} (way : ModeBehavior State) (plan : State) (in0 in1 out0 out1 : Option Text) (n : ℕ) (r : Result (Unit {0}) Stop) → ModeRan way plan in0 in1 out0 out1 r → ModeShelfCounts n n r
+ran_read way plan in0 in1 out0 out1 n (Ok u) ran = refl
+ran_read way plan in0 in1 out0 out1 n (Err (Halted cause)) ran = refl
+ran_read way plan in0 in1 out0 out1 n (Err (ShelfFailed name)) ran = absurd ran
+ran_read way plan in0 in1 out0 out1 n (Err InputFailed) ran = refl
+ran_read way plan in0 in1 out0 out1 n (Err WriteFailed) ran = refl
+ran_read way plan in0 in1 out0 out1 n (Err OutOfMemory) ran = omega arith

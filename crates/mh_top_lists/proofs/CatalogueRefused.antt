@@ -1,0 +1,52 @@
+-- If the table has no catalogue, the modes that need one end with its refusal, or for lack of memory.
+use Rattle.std.proofs.Common.{◌≡◌, ℕ, [], Option, Some, refl, sym, ap, subst, inl}
+use Rattle.std.proofs.KnownBytes.{Appends-nil}
+use Rattle.std.specs.Prelude.{Err}
+use Rattle.mh_grammar.specs.Text.{Text}
+use Rattle.mh_tables_core.specs.Table.{TableData}
+use Rattle.mh_tables_core.specs.Failing.{TooLongAt}
+use Rattle.mh_catalogue_rows.specs.declared.rows.CatalogueFault.{CatalogueFault}
+use Rattle.mh_catalogue_rows.specs.declared.rows.CatalogueFault.TheVariants as faults
+use Rattle.mh_top_drive.specs.code.StageCalls.{StopsWith}
+use Rattle.mh_top_drive.specs.code.ModeCalls.{EndIsWritten, OutCounts}
+use Rattle.mh_top_drive.specs.ModeBehavior.{ModeEnd}
+use Rattle.mh_top_drive.specs.declared.stop.Cause.TheVariants.{Refused}
+use Rattle.mh_top_drive.specs.declared.stop.Stop.{Stop}
+use Rattle.mh_top_drive.specs.declared.stop.Stop.TheVariants.{Halted, ShelfFailed, InputFailed, WriteFailed, OutOfMemory}
+use Rattle.mh_top_types.specs.Shapes.{Prepared}
+use Rattle.mh_top_plans.specs.Listing.{too_long}
+use Rattle.mh_top_plans.specs.Listing as lists
+use Rattle.mh_top_plans.specs.Plan.{IsFinalOutput, Errors, Sampled}
+use Rattle.mh_top_plans.specs.Sampled as counts
+use Rattle.mh_top_lists.specs.code.CatalogueFaultStops.{IsStopForCatalogueFault}
+
+-- A mode for which the refusal is a possible end (`Is`).
+module _ (t : TableData) (Is : ModeEnd → Type 0) (refuses : (s : ℕ) → TooLongAt t s → (e : ModeEnd) → e.cause ≡ Some (Refused (too_long s)) → e.out ≡ [] → Is e) (out : Option Text) where
+  refused : (s : ℕ) → TooLongAt t s → (stop : Stop) → StopsWith (Refused (too_long s)) stop → EndIsWritten Is out out (Err stop)
+  refused s is (Halted cause) same = let e : ModeEnd = record { cause = Some cause; out = [] } in (e, refuses s is e (ap Some same) refl, refl, Appends-nil out)
+  refused s is OutOfMemory same = inl refl
+  refused s is (ShelfFailed name) same = absurd same
+  refused s is InputFailed same = absurd same
+  refused s is WriteFailed same = absurd same
+
+  stops : (fault : CatalogueFault) (stop : Stop) → IsStopForCatalogueFault fault stop → ((s : ℕ) → fault ≡ faults.TooLong s → TooLongAt t s) → EndIsWritten Is out out (Err stop)
+  stops (faults.TooLong s) stop is long = refused s (long s refl) stop is
+  stops faults.Memory stop is long = subst (λ (x : Stop). EndIsWritten Is out out (Err x)) (sym is) (inl refl)
+
+module _ (p : Prepared) (out : Option Text) (fault : CatalogueFault) (stop : Stop) (is : IsStopForCatalogueFault fault stop) (long : (s : ℕ) → fault ≡ faults.TooLong s → TooLongAt p.tabled.halting s) where
+  pub list_stops : EndIsWritten (IsFinalOutput (Errors p)) out out (Err stop)
+  list_stops = stops p.tabled.halting (IsFinalOutput (Errors p)) (λ s at e cause none. lists.ListsErrors.TooLong s at cause none) out fault stop is long
+
+  pub counts_stop : (number : ℕ) → EndIsWritten (IsFinalOutput (Sampled number p)) out out (Err stop)
+  counts_stop number = stops p.tabled.halting (IsFinalOutput (Sampled number p)) (λ s at e cause none. counts.CountsSample.TooLong s at cause none) out fault stop is long
+
+refusal_counts : (n s : ℕ) (stop : Stop) → StopsWith (Refused (too_long s)) stop → OutCounts {T = Unit {0}} n n (Err stop)
+refusal_counts n s (Halted cause) is = refl
+refusal_counts n s OutOfMemory is = refl
+refusal_counts n s (ShelfFailed name) is = absurd is
+refusal_counts n s InputFailed is = absurd is
+refusal_counts n s WriteFailed is = absurd is
+
+pub catalogue_fault_counts : (n : ℕ) (fault : CatalogueFault) (stop : Stop) → IsStopForCatalogueFault fault stop → OutCounts {T = Unit {0}} n n (Err stop)
+catalogue_fault_counts n (faults.TooLong s) stop is = refusal_counts n s stop is
+catalogue_fault_counts n faults.Memory stop is = subst (λ (x : Stop). OutCounts {T = Unit {0}} n n (Err x)) (sym is) refl

@@ -1,0 +1,14 @@
+-- The reason to stop the work for a fault of the catalogue.
+use Rattle.std.specs.Prelude.{◌≡◌}
+use Rattle.mh_catalogue_rows.specs.declared.rows.CatalogueFault.{CatalogueFault}
+use Rattle.mh_catalogue_rows.specs.declared.rows.CatalogueFault.TheVariants.{TooLong, Memory}
+use Rattle.mh_top_plans.specs.Listing.{too_long}
+use Rattle.mh_top_drive.specs.code.StageCalls.{StopsWith}
+use Rattle.mh_top_drive.specs.declared.stop.Cause.TheVariants.{Refused}
+use Rattle.mh_top_drive.specs.declared.stop.Stop.{Stop}
+use Rattle.mh_top_drive.specs.declared.stop.Stop.TheVariants.{OutOfMemory}
+
+-- The stop for a fault of the catalogue: the refusal with its line, or lack of memory.
+abbrev pub IsStopForCatalogueFault : CatalogueFault → Stop → Type 0
+IsStopForCatalogueFault (TooLong s) stop = StopsWith (Refused (too_long s)) stop
+IsStopForCatalogueFault Memory stop = stop ≡ OutOfMemory
