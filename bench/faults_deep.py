@@ -54,7 +54,7 @@ def messages(text, answer, mode, grammar=HEAD + "s: A B {}\n"):
 
 
 def actuals():
-    yield "999 signs behind a name", interpret(HEAD + "s: A" + "?" * 999 + " {}\n", "", refused("expansion: option"))
+    yield "999 signs after a name", interpret(HEAD + "s: A" + "?" * 999 + " {}\n", "", refused("expansion: option"))
     yield "1,000 signs", interpret(HEAD + "s: A" + "?" * 1000 + " {}\n", "", SYNTAX)
     yield "16 million signs", interpret(HEAD + "s: A" + "?" * 16_000_000 + " {}\n", "", SYNTAX)
     nested = HEAD + "s: {} {{}}\nf(X): X {{}}\n"

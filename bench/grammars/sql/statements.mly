@@ -1,4 +1,4 @@
-// Statements, with `;` behind each.
+// Statements, with `;` after each.
 %start <unit> script
 %%
 
