@@ -3,7 +3,7 @@
 # there are conflicts, verdicts, trees and lists of errors must be the same. Times are printed as ratios. The program's
 # samples must have the counts that follow from their numbers. At the end the script times generated grammars at the
 # limits; none may take ten seconds. For each grammar file in FOLDER the script also compares the building of both
-# automata (states, time, memory) and the list of errors.
+# automata (states, time, memory) and the list of errors, and times the lists of expected tokens.
 # The script ends with status 1 if a comparison fails.
 # Usage: bench/compare.sh PATH-OF-OUR-PROGRAM [FOLDER]
 # (after a run of the gate, the program is crates/menhir/out/menhir)
@@ -48,7 +48,7 @@ their_states() { menhir --base g $1 --interpret -la 2 "${@:2}" 2>&1 </dev/null |
 
 # Compares on 1,000 random sentences of a real grammar in both modes. Every second sentence has one token changed.
 compare_grammar() {
-    local name=$1 sentences=$1.in files file mode
+    local name=$1 sentences=$1.in files file mode seed
     mkdir "$name"
     for file in "$bench/grammars/$name"/*.mly; do
         # Menhir's interpreter appends EOF to each sentence by itself, so the token gets another name here.
@@ -56,7 +56,11 @@ compare_grammar() {
     done
     files=("$name"/*.mly)
     menhir --base "$name" --only-preprocess-u "${files[@]}" 2>/dev/null | python3 "$bench/sentences.py" 1 1000 14 >"$sentences"
-    echo "$name: $(wc -w <"$sentences") tokens in 1,000 sentences"
+    # The program itself draws 20 more sentences.
+    for seed in $(seq 20); do
+        "$ours" --random-sentence "$seed" --length 100 "${files[@]}" 2>err.txt
+    done | cut -d: -f2- >>"$sentences"
+    echo "$name: $(wc -w <"$sentences") tokens in $(wc -l <"$sentences") sentences"
     for mode in "" --canonical; do
         compare_states "$name" "$mode" "${files[@]}"
         compare_conflicts "$name" "$mode" "${files[@]}"
@@ -163,6 +167,19 @@ compare_table() { # FILE MODE SECONDS
     "$ours" --tables g.tables --write-tables "$file" 2>err.txt | cmp -s - g.tables || differs "$file, its table read and written again"
 }
 
+# Times 100,000 refused lines: the sentences of a grammar's list of errors, repeated. With lists of expected tokens they
+# may take at most three times as long.
+compare_expected() { # FILE
+    local name plain listed
+    name=$(basename "$1" .mly)
+    "$ours" --list-errors "$1" >out.txt 2>err.txt
+    yes "$(sed -n '/^[^#<].*:/p' out.txt)" | head -100000 >refused.in
+    plain=$(seconds "$ours" --interpret "$1" <refused.in)
+    listed=$(seconds "$ours" --interpret --show-expected "$1" <refused.in)
+    echo "$name: 100,000 refused lines in $plain s; with lists of expected tokens $(ratio "$listed" "$plain") times as long"
+    python3 -c "import sys; sys.exit($listed > 3 * $plain)" || differs "$name, more than three times as long with lists of expected tokens"
+}
+
 # Checks the counts of the program's sample of a number: a grammar with k levels of operators, its list of errors, and
 # 3,000 sentences. The counts follow from k: each level has one token, two productions, and three states, of which one
 # is in the list (six and two with the canonical automaton).
@@ -212,6 +229,7 @@ if [ -n "$further" ]; then
     for file in "$further"/*.mly; do
         compare_build "$file" ""
         compare_build "$file" --canonical
+        compare_expected "$file"
     done
 fi
 for number in 0 14 29; do

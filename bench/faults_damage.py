@@ -20,8 +20,11 @@ GRAMMAR_WORDS = [
     ["--interpret"],
     ["--show-automaton"],
     ["--canonical", "--show-automaton"],
+    ["--shortest-sentences"],
+    ["--random-sentence", "7", "--length", "50"],
     ["--list-errors"],
     ["--interpret", "--interpret-show-cst"],
+    ["--interpret", "--show-expected"],
     ["--strict", "--no-stdlib", "--list-errors"],
 ]
 MESSAGES_WORDS = [
@@ -33,7 +36,7 @@ MESSAGES_WORDS = [
     lambda name: ["--compare-errors", "whole.messages", "--compare-errors", name],
 ]
 SENTENCE = b"LBRACE STRING COLON LBRACKET NUMBER COMMA NULL RBRACKET RBRACE EOF\n"
-SESSION = b"begin a\noffer a NUMBER\nfork a b\nresume a\nresume a\nshow b\noffer a EOF\nresume a\nresume a\nresume a\ntree a\n"
+SESSION = b"begin a\nexpected a\noffer a NUMBER\nfork a b\nresume a\nresume a\nshow b\noffer a EOF\nresume a\nresume a\nresume a\ntree a\n"
 
 
 def cut(chance, text):

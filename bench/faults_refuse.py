@@ -16,7 +16,7 @@ SENTENCES = {
     "json": b"LBRACE STRING COLON LBRACKET NUMBER COMMA NULL RBRACKET RBRACE EOF\nTRUE\nTRUE COMMA\n",
     "calc": b"INT PLUS LPAREN INT COMMA INT RPAREN EOF\nIF INT INT ELSE INT\nINT COMMA\nINT Z\n",
 }
-SESSION = b"begin a\noffer a %s\nfork a b\nresume a\nresume a\nshow b\noffer a COMMA\nresume a\nresume a\nforget b\nnonsense\n"
+SESSION = b"begin a\nexpected a\noffer a %s\nfork a b\nresume a\nresume a\nshow b\noffer a COMMA\nresume a\nresume a\nforget b\nnonsense\n"
 ALLOC, OPEN, READ, WRITE = range(4)
 
 
@@ -91,6 +91,7 @@ def jobs():
         yield ["--interpret", file], lines
         yield ["--interpret", "--interpret-show-cst", file], lines
         yield ["--interpret", "--messages", messages, file], lines
+        yield ["--interpret", "--show-expected", file], lines
         yield ["--interpret-error", file], b"COMMA\n"
         yield ["--interpret-error", file], lines
         yield ["--list-errors", file], b""
@@ -108,6 +109,8 @@ def jobs():
         table = put(f"{name}.table", run("made", ["--write-tables", file]).out)
         yield ["--tables", table, "--interpret", file], lines
         yield ["--tables", table, "--list-errors", file], b""
+        yield ["--shortest-sentences", file], b""
+        yield ["--random-sentence", "7", "--length", "50", file], b""
     yield ["--sample", "0"], b""
 
 

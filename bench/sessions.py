@@ -5,7 +5,8 @@ Usage: bench/sessions.py MENHIR LISTS SEED
 
 Each reply of `MENHIR --session` on a branch must follow from the history of this branch alone: a start, the tokens
 offered, and the count of resumes. For each reply the script runs this history from the beginning, with the table that
-`MENHIR --show-automaton` prints. It ends with status 1 at the first difference.
+`MENHIR --show-automaton` prints. For a list of expected tokens the script runs the tokens of the branch followed by
+each token. It ends with status 1 at the first difference.
 """
 import random
 import subprocess
@@ -105,6 +106,13 @@ class Sessions:
             run.resume()
         return run
 
+    def shifts(self, start, tokens, last):
+        """True if the run of a start on some tokens and then a last token shifts the last token."""
+        run = Run(self.table, start, tokens + [last])
+        while run.left and run.move()[0] in ("shift", "reduce"):
+            run.resume()
+        return not run.left
+
     def reply(self, name):
         return name + " " + "".join(self.run(name).phase())
 
@@ -139,17 +147,25 @@ class Sessions:
             return self.reply(rest[0])
         elif verb == "tree":
             return name + " " + self.run(name).trees[0] if phase == "accepted" else wrong
+        elif verb == "expected":
+            if phase != "input-needed":
+                return wrong
+            return name + " expected" + "".join(" " + it for it in self.tokens if self.shifts(start, offered, it))
         elif verb == "forget":
             del self.branches[name]
             return name + " forgotten"
         return self.reply(name)
 
 
+# The verbs of random commands, with their weights.
+VERBS = {"begin": 2, "offer": 8, "resume": 14, "fork": 3, "show": 2, "tree": 2, "expected": 3, "forget": 1}
+
+
 def commands_of(tokens, starts, prefix):
     names = [prefix + it for it in ("a", "b", "c")]
     lines = ["begin " + names[0] + " " + starts[0]]
     for _ in range(random.randint(5, 60)):
-        verb = random.choices(["begin", "offer", "resume", "fork", "show", "tree", "forget"], [2, 8, 14, 3, 2, 2, 1])[0]
+        verb = random.choices(list(VERBS), list(VERBS.values()))[0]
         line = verb + " " + random.choice(names)
         if verb == "begin" and random.random() < 0.7:
             line += " " + random.choice(starts + ["w"])

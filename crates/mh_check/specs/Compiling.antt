@@ -1,8 +1,9 @@
 -- The definitions of the results of `compile` and `compare`: the messages of the states in which the sentences of a
 -- file fail, and the states that a second file does not cover (Menhir manual, `--compile-errors`, `--compare-errors`);
 -- details are this project's own.
-use Rattle.std.specs.Prelude.{◌≡◌, ◌↔◌, ℕ, zero, suc, ◌+◌, ◌&&◌, not, Bool, List, [], ◌∷◌, filter, length, slice_get, Option, Some, is_some, option_and_then, Result, Ok, Err, ⊤}
+use Rattle.std.specs.Prelude.{◌≡◌, ◌↔◌, ℕ, ◌&&◌, not, Bool, List, filter, length, slice_get, Option, Some, is_some, option_and_then, Result, Ok, Err, ⊤}
 use Rattle.mh_tables_core.specs.Table.{TableData}
+use Rattle.mh_msgfile.specs.Messages.{numbers_from}
 use Rattle.mh_msgfile.specs.declared.messages.MsgFile.{MsgFile}
 use Rattle.mh_run.specs.Verdicts.{ending_for}
 use Rattle.mh_check.specs.declared.compiling.CheckFault.{CheckFault}
@@ -37,11 +38,6 @@ Compiles t file (Ok compiled) = IsCompiled t file compiled
 Compiles t file (Err fault) = ReportsCheckFault fault (FirstFault t (sentences_of file))
 
 -- ---- Comparison of two files.
-
--- The list of `count` numbers from `number` on.
-abbrev pub numbers_from : ℕ → ℕ → List ℕ
-numbers_from number zero = []
-numbers_from number (suc count) = number ∷ numbers_from (number + 1) count
 
 -- The first file has a message for state s, and the second has none.
 abbrev pub is_missing : List (Option (List ℕ)) → List (Option (List ℕ)) → ℕ → Bool

@@ -1,4 +1,5 @@
 pub mod BranchPosition
+pub mod CellStates
 pub mod OutcomeIsEnding
 pub mod PhaseMoves
 pub mod OneMoreStep

@@ -1,6 +1,6 @@
 //! Checkpoints: immutable positions of a run.
 ghost use Rattle.std.specs.Prelude.{◌≡◌, ◌<◌, ◌∷◌, [], length, true, false, IfOk, IfErr, IfSome, IfNone, OnOk};
-ghost use Rattle.mh_tables_core.specs.Run.{Shifts, Reduces};
+ghost use Rattle.mh_tables_core.specs.Run.{IsRunStack, Shifts, Reduces};
 ghost use Rattle.mh_tables_core.specs.NextActions.{move_for};
 ghost use Rattle.mh_tables_core.specs.TooDeep.{too_deep};
 ghost use Rattle.mh_engine.specs.code.CanReduce.{CanReduce};
@@ -77,6 +77,15 @@ impl<'t> Checkpoint<'t> {
         ensures { result ≡ length self.now.pairs.trees }
     {
         self.stack.count()
+    }
+
+    /// The states of the run's stack from the start state: a path of edges of the table. Fails only if memory runs out.
+    pub fn states(&self, alloc: Global) -> Result<Vec<u32>, Memory>
+        ensures states { IfOk result (λ states. states.items ≡ self.now.pairs.states) }
+        ensures path { IfOk result (λ states. IsRunStack self.now.table states.items) }
+    {
+        let _table = self.table;
+        self.stack.states(alloc)
     }
 
     /// The next move of the run.

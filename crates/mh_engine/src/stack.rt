@@ -183,4 +183,21 @@ impl Stack {
         trees.reverse();
         Ok((below.share()?, trees))
     }
+
+    /// The states of the stack from the start state. Fails only if memory runs out.
+    pub(crate) fn states(&self, alloc: Global) -> Result<Vec<u32>, Memory>
+        ensures { IfOk result (λ states. states.items ≡ self.now.states) }
+    {
+        let mut states = Vec::new(alloc);
+        let mut rest = self;
+        'cells: loop {
+            states.push(rest.top())?;
+            match &rest.link {
+                Link::Bottom(_) => break,
+                Link::Above(cell) => rest = &cell.below,
+            }
+        }
+        states.reverse();
+        Ok(states)
+    }
 }

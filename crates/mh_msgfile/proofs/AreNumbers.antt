@@ -5,7 +5,8 @@ use Rattle.std.proofs.Math.Seq.{take-suc}
 use Rattle.mh_grammar.specs.declared.types.Grammar.{Grammar}
 use Rattle.mh_grammar.specs.declared.types.NontermInfo.{NontermInfo}
 use Rattle.mh_msgfile.specs.code.LineSteps.{AreNumbers, or_else, InsertsName}
-use Rattle.mh_msgfile.specs.Sentences.{number_in, start_symbol_name}
+use Rattle.mh_msgfile.specs.StartNames.{start_symbol_name}
+use Rattle.mh_msgfile.specs.Sentences.{number_in}
 use Rattle.std.specs.List.{position_from, All}
 use Rattle.std.specs.HashMap.{HashMap, UpdatesBy}
 use Rattle.std.specs.Map.{lookup, KeepsOthers}

@@ -10,8 +10,9 @@ use Rattle.mh_grammar.specs.declared.types.Sentence.{Sentence}
 use Rattle.mh_grammar.specs.declared.types.Grammar.{Grammar}
 use Rattle.mh_grammar.specs.Plain.{plain_of}
 use Rattle.mh_grammar.specs.Text.{Text}
-use Rattle.mh_msgfile.specs.Sentences.{Vocabulary, vocabulary_of, is_blank, put_first, fields, has_items, runs, pieces, TokensResult, Tokens, Unknown, StartResult, StartIs, NoSuchStart, NoStart, LineResult, IsSentence, IsUnreadable, NamesNoStart, LacksStart, NamesUnknown, put_token, tokens_of, start_by, with_start, only_word, colon_place, sentence_from, sentence_after_colon, sentence_in}
-use Rattle.mh_msgfile.specs.Messages.{AreLines, NoLine, LastLine, EndedLine, line_at, sentence_at, sentences_of, entries_in, blocks, MsgSpells, ReadsMessages, IsSentenceOf, AreSentencesOf}
+use Rattle.mh_msgfile.specs.Lines.{is_blank, AreLines, NoLine, LastLine, EndedLine, line_at}
+use Rattle.mh_msgfile.specs.Sentences.{Vocabulary, vocabulary_of, put_first, fields, has_items, runs, pieces, TokensResult, Tokens, Unknown, StartResult, StartIs, NoSuchStart, NoStart, LineResult, IsSentence, IsUnreadable, NamesNoStart, LacksStart, NamesUnknown, put_token, tokens_of, start_by, with_start, only_word, colon_place, sentence_from, sentence_after_colon, sentence_in}
+use Rattle.mh_msgfile.specs.Messages.{sentence_at, sentences_of, entries_in, blocks, MsgSpells, ReadsMessages, IsSentenceOf, AreSentencesOf}
 use Rattle.mh_msgfile.specs.declared.messages.MsgSentence.{MsgSentence}
 use Rattle.mh_msgfile.specs.declared.messages.Entry.{Entry}
 use Rattle.mh_msgfile.specs.declared.messages.MsgFile.{MsgFile}

@@ -18,9 +18,10 @@ use Rattle.mh_grammar.specs.declared.types.TokenInfo.{TokenInfo}
 use Rattle.mh_grammar.specs.declared.types.NontermInfo.{NontermInfo}
 use Rattle.mh_grammar.specs.Names.{token_name, start_name, nonterminal_name}
 use Rattle.mh_grammar.specs.Text.{Text}
-use Rattle.mh_msgfile.specs.Sentences.{vocabulary_of, token_names, start_names, start_symbol_name as name_of_start, number_of, put_first, fields, has_items, runs, pieces, is_blank, Tokens, tokens_of, IsSentence, only_word, colon_place, sentence_from, sentence_in}
+use Rattle.mh_msgfile.specs.Lines.{is_blank, HasNoLineFeed, is_ignored_line}
+use Rattle.mh_msgfile.specs.StartNames.{start_names, start_symbol_name as name_of_start}
+use Rattle.mh_msgfile.specs.Sentences.{vocabulary_of, token_names, number_of, put_first, fields, has_items, runs, pieces, Tokens, tokens_of, IsSentence, only_word, colon_place, sentence_from, sentence_in}
 use Rattle.bstr.specs.Text.{no_cr}
-use Rattle.mh_msgfile.specs.Messages.{HasNoLineFeed, is_ignored_line}
 use Rattle.mh_msgfile.specs.FileTexts.{names_after, sentence_text, HasReadableNames}
 
 -- ---- Runs of items that are no separators.

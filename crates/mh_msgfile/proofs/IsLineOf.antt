@@ -9,7 +9,8 @@ use Rattle.mh_lex_bytes.specs.Words.{is_word}
 use Rattle.mh_grammar.specs.declared.types.Grammar.{Grammar}
 use Rattle.mh_grammar.specs.Names.{start_name, token_name}
 use Rattle.mh_grammar.specs.Text.{Text}
-use Rattle.mh_msgfile.specs.Sentences.{vocabulary_of, is_blank, pieces, only_word, colon_place, sentence_from, sentence_in, IsSentence}
+use Rattle.mh_msgfile.specs.Lines.{is_blank}
+use Rattle.mh_msgfile.specs.Sentences.{vocabulary_of, pieces, only_word, colon_place, sentence_from, sentence_in, IsSentence}
 use Rattle.mh_msgfile.specs.FileTexts.{HasReadableNames}
 use Rattle.mh_msgfile.specs.FreeSpacing as spaced
 use Rattle.mh_msgfile.specs.FreeSpacing.{Spaced, IsLineOf}

@@ -1,7 +1,8 @@
 -- Lemmas on the loop that collects the numbers of the lines that are kept.
 use Rattle.std.proofs.Common.{◌≡◌, ◌+◌, ◌-◌, ◌<◌, ◌≤◌, ℕ, suc, Bool, true, false, List, [], ◌∷◌, ◌++◌, filter, length, refl, sym, ap, ◌∙◌, arith, append_assoc, append-nil}
 use Rattle.mh_grammar.specs.Text.{Text}
-use Rattle.mh_msgfile.specs.Messages.{numbers_from, is_kept, kept_lines}
+use Rattle.mh_msgfile.specs.Lines.{is_kept}
+use Rattle.mh_msgfile.specs.Messages.{numbers_from, kept_lines}
 
 numbers_step : (n p : ℕ) → p < n → numbers_from (p + 1) (n - p) ≡ (p + 1) ∷ numbers_from (p + 1 + 1) (n - (p + 1))
 numbers_step n p lt = let e : n - p ≡ suc (n - (p + 1)) = omega arith in ap (numbers_from (p + 1)) e

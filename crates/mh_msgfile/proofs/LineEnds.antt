@@ -7,7 +7,7 @@ use Rattle.std.proofs.Math.Seq.{take-suc}
 use Rattle.std.proofs.lemmas.Bool.Decides.{nat_tests}
 use Rattle.bstr.specs.Text.{no_cr}
 use Rattle.mh_grammar.specs.Text.{Text}
-use Rattle.mh_msgfile.specs.Messages.{HasNoLineFeed, AreLines, NoLine, LastLine, EndedLine}
+use Rattle.mh_msgfile.specs.Lines.{HasNoLineFeed, AreLines, NoLine, LastLine, EndedLine}
 
 abbrev pub with_ends : List Text → Text
 with_ends lines = flat_map (λ line. line ++ 10 ∷ []) lines

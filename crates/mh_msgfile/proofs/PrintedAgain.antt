@@ -7,8 +7,9 @@ use Rattle.std.proofs.lemmas.Grind.{flat_map-append}
 use Rattle.mh_grammar.specs.declared.types.Grammar.{Grammar}
 use Rattle.mh_grammar.proofs.Lists.{contains_here, contains_there, nil_parts, recursion-append}
 use Rattle.mh_grammar.specs.Text.{Text}
-use Rattle.mh_msgfile.specs.Sentences.{vocabulary_of, put_first, fields, has_items, runs, is_blank, LineResult, IsSentence, IsUnreadable, NamesNoStart, LacksStart, NamesUnknown, sentence_in}
-use Rattle.mh_msgfile.specs.Messages.{HasNoLineFeed, AreLines, line_at, numbers_from, is_ignored_line, is_kept, kept_lines, blocks, message_of, BadShape, fault_at, sentence_at, faults_of, sentences_of, first_number, faults_in, entries_in, MsgSpells}
+use Rattle.mh_msgfile.specs.Lines.{is_blank, HasNoLineFeed, AreLines, line_at, is_ignored_line, is_kept}
+use Rattle.mh_msgfile.specs.Sentences.{vocabulary_of, put_first, fields, has_items, runs, LineResult, IsSentence, IsUnreadable, NamesNoStart, LacksStart, NamesUnknown, sentence_in}
+use Rattle.mh_msgfile.specs.Messages.{numbers_from, kept_lines, blocks, message_of, BadShape, fault_at, sentence_at, faults_of, sentences_of, first_number, faults_in, entries_in, MsgSpells}
 use Rattle.mh_msgfile.specs.FileTexts.{sentence_text, sentence_line, sentence_lines, entry_text, file_text, HasReadableNames, content_of, entry_content, HaveSameContent, HasNoCr}
 use Rattle.mh_msgfile.specs.declared.messages.MsgSentence.{MsgSentence}
 use Rattle.mh_msgfile.specs.declared.messages.Entry.{Entry}

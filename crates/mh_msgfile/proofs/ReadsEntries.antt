@@ -5,7 +5,8 @@ use Rattle.mh_grammar.specs.declared.types.Grammar.{Grammar}
 use Rattle.mh_grammar.specs.Text.{Text}
 use Rattle.mh_msgfile.specs.Sentences.{Vocabulary, vocabulary_of, sentence_in}
 use Rattle.mh_msgfile.specs.code.FileSteps.{BeginsWithFault, ReadsBlock, ReadsEntries, with_value, IsFaultOfLastBlock, IsFaultOfLine}
-use Rattle.mh_msgfile.specs.Messages.{AreLines, line_at, message_of, MessagesFault, BadShape, fault_at, first_number, faults_of, sentences_of, faults_in, entries_in, blocks, MsgSpells, HasFault, ReportsFault}
+use Rattle.mh_msgfile.specs.Lines.{AreLines, line_at}
+use Rattle.mh_msgfile.specs.Messages.{message_of, MessagesFault, BadShape, fault_at, first_number, faults_of, sentences_of, faults_in, entries_in, blocks, MsgSpells, HasFault, ReportsFault}
 use Rattle.mh_msgfile.specs.declared.messages.Entry.{Entry}
 use Rattle.mh_msgfile.specs.declared.messages.MsgSentence.{MsgSentence}
 use Rattle.mh_msgfile.specs.declared.messages.MsgFault.{MsgFault}

@@ -12,7 +12,8 @@ use Rattle.mh_grammar.specs.declared.types.Grammar.{Grammar}
 use Rattle.mh_grammar.specs.Plain.{PlainGrammar, plain_of}
 use Rattle.mh_grammar.specs.Text.{Text}
 use Rattle.mh_msgfile.specs.code.LineSteps.{FindsStart, AreTokens, IsUnknownToken, after_unknown, AppendsSentence}
-use Rattle.mh_msgfile.specs.Sentences.{Vocabulary, vocabulary_of, token_names, start_symbol_name, start_names, TokensResult, Tokens, Unknown, StartResult, StartIs, NoSuchStart, NoStart, IsSentence, IsUnreadable, put_token, number_of, only_one, tokens_of, start_or, only_or, start_by, with_start, only_word, colon_place, pieces, sentence_from, sentence_after_colon, sentence_in, NamesUnknown}
+use Rattle.mh_msgfile.specs.StartNames.{start_symbol_name, start_names, only_one}
+use Rattle.mh_msgfile.specs.Sentences.{Vocabulary, vocabulary_of, token_names, TokensResult, Tokens, Unknown, StartResult, StartIs, NoSuchStart, NoStart, IsSentence, IsUnreadable, put_token, number_of, tokens_of, start_or, only_or, start_by, with_start, only_word, colon_place, pieces, sentence_from, sentence_after_colon, sentence_in, NamesUnknown}
 use Rattle.mh_msgfile.specs.declared.sentence.SentenceFault.{SentenceFault}
 use Rattle.mh_msgfile.specs.declared.sentence.SentenceFault.TheVariants as faults
 

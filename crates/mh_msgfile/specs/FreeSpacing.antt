@@ -3,7 +3,7 @@ use Rattle.std.specs.Prelude.{◌≡◌, ℕ, true, List, [], ◌∷◌, ◌++�
 use Rattle.mh_grammar.specs.declared.types.Grammar.{Grammar}
 use Rattle.mh_grammar.specs.Names.{start_name, token_name}
 use Rattle.mh_grammar.specs.Text.{Text}
-use Rattle.mh_msgfile.specs.Sentences.{is_blank}
+use Rattle.mh_msgfile.specs.Lines.{is_blank}
 
 -- The text consists of these names in this order, with at least one blank between two names, and any number of blanks
 -- before and after each.

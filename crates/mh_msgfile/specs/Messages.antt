@@ -4,7 +4,7 @@ use Rattle.std.specs.Prelude.{◌≡◌, ℕ, zero, suc, ◌+◌, ◌^◌, ◌<�
 use Rattle.std.specs.List.{AllByRecursion}
 use Rattle.mh_grammar.specs.declared.types.Grammar.{Grammar}
 use Rattle.mh_grammar.specs.Text.{Text}
-pub use Rattle.mh_msgfile.specs.Lines.{HasNoLineFeed, AreLines, NoLine, LastLine, EndedLine, line_at, is_ignored_line, is_kept, is_blank_line}
+use Rattle.mh_msgfile.specs.Lines.{AreLines, line_at, is_kept, is_blank_line}
 use Rattle.mh_msgfile.specs.Sentences.{Vocabulary, vocabulary_of, LineResult, IsSentence, IsUnreadable, NamesNoStart, LacksStart, NamesUnknown, sentence_in, runs}
 use Rattle.mh_msgfile.specs.declared.messages.MsgSentence.{MsgSentence}
 use Rattle.mh_msgfile.specs.declared.messages.Entry.{Entry}

@@ -9,8 +9,8 @@ use Rattle.mh_grammar.specs.declared.types.Grammar.{Grammar}
 use Rattle.mh_grammar.specs.declared.types.Sentence.{Sentence}
 use Rattle.mh_lex_bytes.specs.Words.{is_word}
 use Rattle.std.specs.declared.alloc.Global.{Global}
-pub use Rattle.mh_msgfile.specs.Lines.{is_blank}
-pub use Rattle.mh_msgfile.specs.StartNames.{start_symbol_name, start_names, only_one}
+use Rattle.mh_msgfile.specs.Lines.{is_blank}
+use Rattle.mh_msgfile.specs.StartNames.{start_names, only_one}
 use Rattle.mh_msgfile.specs.declared.lexicon.Lexicon.{Lexicon}
 use Rattle.mh_msgfile.specs.declared.sentence.SentenceFault.{SentenceFault}
 use Rattle.mh_msgfile.specs.declared.sentence.SentenceFault.TheVariants as faults

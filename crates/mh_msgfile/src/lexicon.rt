@@ -3,7 +3,8 @@ ghost use Rattle.std.specs.Prelude.{◌≡◌, ◌≤◌, [], length, map, IfOk,
 ghost use Rattle.mh_grammar.specs.Plain.{plain_of, IsInRange};
 ghost use Rattle.mh_grammar.specs.declared.types.TheConstants.{MAX_NUMBERED};
 ghost use Rattle.mh_msgfile.specs.code.LineSteps.{AreNumbers, InsertsName};
-ghost use Rattle.mh_msgfile.specs.Sentences.{start_names, only_one, vocabulary_of, vocabulary_in};
+ghost use Rattle.mh_msgfile.specs.StartNames.{start_names, only_one};
+ghost use Rattle.mh_msgfile.specs.Sentences.{vocabulary_of, vocabulary_in};
 
 use mh_grammar::{Grammar, Memory, Token, TokenInfo};
 use std::alloc::Global;

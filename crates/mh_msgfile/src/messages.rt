@@ -5,7 +5,8 @@ ghost use Rattle.mh_grammar.specs.declared.types.Grammar.{Grammar as Grammar'};
 ghost use Rattle.mh_msgfile.specs.code.LineSteps.{blank_count, piece_size};
 ghost use Rattle.mh_msgfile.specs.Sentences.{vocabulary_in, vocabulary_of, LineResult, FirstPiece, runs, ReadsSentence};
 ghost use Rattle.mh_msgfile.specs.code.FileSteps.{ReadsBlock, ReadsEntries, with_value, ReadsEntry, IsFaultOfLastBlock, IsFaultOfLine};
-ghost use Rattle.mh_msgfile.specs.Messages.{is_kept as is_kept_number, kept_lines as kept, is_blank_line as is_blank_number, blocks, first_number, message_of as message_text, AreSentencesOf, ReadsMessages};
+ghost use Rattle.mh_msgfile.specs.Lines.{is_kept as is_kept_number, is_blank_line as is_blank_number};
+ghost use Rattle.mh_msgfile.specs.Messages.{kept_lines as kept, blocks, first_number, message_of as message_text, AreSentencesOf, ReadsMessages};
 
 use crate::lexicon::Lexicon;
 use crate::lines::{is_blank_line, is_kept, line_at, put_lines};

@@ -1,7 +1,8 @@
 //! The pieces of a line: the texts between blanks.
 ghost use Rattle.std.specs.Prelude.{◌≡◌, ◌≤◌, length};
 ghost use Rattle.mh_msgfile.specs.code.LineSteps.{blank_count, piece_size};
-ghost use Rattle.mh_msgfile.specs.Sentences.{is_blank as is_blank_byte, FirstPiece};
+ghost use Rattle.mh_msgfile.specs.Lines.{is_blank as is_blank_byte};
+ghost use Rattle.mh_msgfile.specs.Sentences.{FirstPiece};
 
 use crate::lines::is_blank;
 

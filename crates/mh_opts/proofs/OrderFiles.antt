@@ -1,7 +1,9 @@
 -- Proves that the grammar files of an order are those that the reading by POSIX conventions finds, and that an option
 -- used too often gives no order.
 use Rattle.std.proofs.Common.{◌≡◌, ◌∙◌, ◌+◌, ◌<◌, ◌≤◌, ◌++◌, ◌&&◌, ◌||◌, ℕ, Bool, true, false, not, List, [], ◌∷◌, Option, Some, None, Result, Ok, Err, codes, drop, length, nat_eq, refl, sym, ap, subst, bytes_eq, fold, is_some, if◌then◌else◌, true≢false, arith}
+use Rattle.std.specs.Prelude.{IfOk, nat_le, unwrap_or}
 use Rattle.std.specs.List.{list_all, starts_with}
+use Rattle.std.proofs.lemmas.Bool.{leb-true}
 use Rattle.std.proofs.lemmas.Bool.Decides.{Decides-eqb}
 use Rattle.std.proofs.lemmas.Slice.Eq.{bytes_eq-Decides, starts_is}
 use Rattle.clap.specs.Walk.{Names, Row, Text, Walk, finished, idle, is_empty, nothing_held, settled, walk, walked}
@@ -12,14 +14,17 @@ use Rattle.clap.proofs.SimpleLemmas.{is_nil}
 use Rattle.mh_opts.specs.declared.jobs.JobKind.{JobKind}
 use Rattle.mh_opts.specs.declared.jobs.Opt.{Opt}
 use Rattle.mh_opts.specs.declared.order.Order.{Order}
-use Rattle.mh_opts.specs.declared.jobs.TheConstants.{SAMPLE, TABLES}
+use Rattle.mh_opts.specs.declared.jobs.JobKind.TheVariants as modes
+use Rattle.mh_opts.specs.declared.jobs.TheConstants.{LENGTH, SAMPLE, SHOW_EXPECTED, TABLES}
+use Rattle.mh_opts.specs.declared.numbers.TheConstants.{MAX_LENGTH}
 use Rattle.mh_opts.specs.declared.order.UsageFault.{UsageFault}
 use Rattle.mh_opts.specs.declared.order.UsageFault.TheVariants.{Misplaced, NoGrammar, Number, Parse}
 use Rattle.mh_opts.specs.declared.repeated_option.SeenUses.{SeenUses}
 use Rattle.mh_opts.specs.declared.repeated_option.SeenUses.TheVariants.{Nothing, One, All}
 use Rattle.mh_opts.specs.declared.repeated_option.TheConstants.{AGAIN, ONCE, ONCE_WITH_VALUE}
 use Rattle.mh_opts.specs.App.{menhir_app, options}
-use Rattle.mh_opts.specs.Orders.{clashes, grammars_of, is_sample, lacks_number, misplaced_in, mode_in, needs, order_by, order_for, order_in, order_of, order_renamed, order_with, written}
+use Rattle.mh_opts.specs.Orders.{clashes, file_of, grammars_of, is_sample, job_for, lacks_number, late_needs, lists_nothing, misplaced_in, mode_in, needs, order_by, order_for, order_in, order_late, order_of, order_renamed, order_with, written, EqualsUnlessMemory, IsWithinLimits}
+use Rattle.mh_opts.specs.Numbers.{at_most as up_to, number_in}
 use Rattle.mh_opts.specs.PosixReading.{at_most, awaits, files_from, files_in, is_listed, is_option, is_use_of, occurrences}
 use Rattle.mh_opts.specs.RepeatedOption.{again, is_end, is_reserved, is_use, renamed, renamed_from, seen_after, word_with}
 use Rattle.mh_opts.proofs.FilesInWords.{end_files, walk_files, walk_on}
@@ -75,28 +80,32 @@ found_files words none =
 
 -- The order.
 
-three : (a b c : Bool) (x y z : UsageFault) (o order : Order) → (if a then Err x else (if b then Err y else (if c then Err z else Ok o))) ≡ Ok order → o ≡ order
-three true b c x y z o order e = cc
-three false true c x y z o order e = cc
-three false false true x y z o order e = cc
-three false false false x y z o order e = cc
-
-by_mode : (rows : List Row) (mode : JobKind) (option : Option Text) (order : Order) → order_with rows mode option ≡ Ok order → order.grammars ≡ grammars_of rows
-by_mode rows mode (Some option) order e = cc
-by_mode rows mode None order e =
-    let same = three (clashes rows mode) (is_sample mode && not (is_empty (grammars_of rows))) (not (is_sample mode) && is_empty (grammars_of rows)) (Misplaced (written TABLES.now)) (Misplaced (written SAMPLE.now)) NoGrammar (order_for rows mode) order e in
-    sym (ap (λ (o : Order). o.grammars) same)
-
-by_modes : (rows : List Row) (mode : Result JobKind UsageFault) (order : Order) → order_by rows mode ≡ Ok order → order.grammars ≡ grammars_of rows
-by_modes rows (Err fault) order e = cc
-by_modes rows (Ok mode) order e = by_mode rows mode (misplaced_in rows needs) order e
+three : (a b c : Bool) (x y z : UsageFault) (r : Result Order UsageFault) (order : Order) → (if a then Err x else (if b then Err y else (if c then Err z else r))) ≡ Ok order → r ≡ Ok order
+three true b c x y z r order e = cc
+three false true c x y z r order e = cc
+three false false true x y z r order e = cc
+three false false false x y z r order e = e
 
 -- If a choice between a fault and a result gives an order, the result is this order.
 chosen_order : (b : Bool) (fault : UsageFault) (r : Result Order UsageFault) (order : Order) → (if b then Err fault else r) ≡ Ok order → r ≡ Ok order
 chosen_order true fault r order e = cc
 chosen_order false fault r order e = e
 
-by_rows : (rows : List Row) (order : Order) → order_in rows ≡ Ok order → order.grammars ≡ grammars_of rows
+late_is : (rows : List Row) (mode : JobKind) (option : Option Text) (order : Order) → order_late rows mode option ≡ Ok order → order_for rows mode ≡ order
+late_is rows mode (Some option) order e = cc
+late_is rows mode None order e = let same = chosen_order (not (is_sample mode) && is_empty (grammars_of rows)) NoGrammar (Ok (order_for rows mode)) order e in cc
+
+by_mode : (rows : List Row) (mode : JobKind) (option : Option Text) (order : Order) → order_with rows mode option ≡ Ok order → order_for rows mode ≡ order
+by_mode rows mode (Some option) order e = cc
+by_mode rows mode None order e =
+    let late = three (clashes rows mode) (is_sample mode && not (is_empty (grammars_of rows))) (lists_nothing rows) (Misplaced (written TABLES.now)) (Misplaced (written SAMPLE.now)) (Misplaced (written SHOW_EXPECTED.now)) (order_late rows mode (misplaced_in rows late_needs)) order e in
+    late_is rows mode (misplaced_in rows late_needs) order late
+
+by_modes : (rows : List Row) (mode : Result JobKind UsageFault) (order : Order) → order_by rows mode ≡ Ok order → (one : JobKind) × (order_for rows one ≡ order)
+by_modes rows (Err fault) order e = cc
+by_modes rows (Ok mode) order e = (mode, by_mode rows mode (misplaced_in rows needs) order e)
+
+by_rows : (rows : List Row) (order : Order) → order_in rows ≡ Ok order → (one : JobKind) × (order_for rows one ≡ order)
 by_rows rows order e = by_modes rows (mode_in rows options) order (chosen_order (lacks_number rows) Number (order_by rows (mode_in rows options)) order e)
 
 taken : (b : Bool) (r : Result Order UsageFault) (order : Order) → (if b then r else Err Parse) ≡ Ok order → (b ≡ true) × (r ≡ Ok order)
@@ -106,7 +115,44 @@ taken false r order e = cc
 by_renamed : (words : List Text) (order : Order) → order_renamed words ≡ Ok order → order.grammars ≡ files_in words
 by_renamed words order e =
     let parts = taken (is_empty (fault_of menhir_app words)) (order_in (matches_of menhir_app words)) order e in
-    by_rows (matches_of menhir_app words) order parts.1 ∙ found_files words (is_nil (fault_of menhir_app words) parts.0)
+    let one = by_rows (matches_of menhir_app words) order parts.1 in
+    sym (ap (λ (o : Order). o.grammars) one.1) ∙ found_files words (is_nil (fault_of menhir_app words) parts.0)
+
+-- ---- The limits of the job of an order.
+
+at_most_is : (most : ℕ) (n : Option ℕ) → unwrap_or (up_to most n) 0 ≤ most
+at_most_is most None = omega arith
+at_most_is most (Some n) = go (nat_le n most) refl
+  where
+    go : (b : Bool) → nat_le n most ≡ b → unwrap_or (if b then Some n else None) 0 ≤ most
+    go true e = leb-true n most e
+    go false e = omega arith
+
+job_limits : (rows : List Row) (mode : JobKind) → IsWithinLimits (job_for rows mode)
+job_limits rows modes.RandomSentence = at_most_is MAX_LENGTH (number_in 4 (file_of rows LENGTH.now))
+job_limits rows modes.Interpret = tt
+job_limits rows modes.InterpretError = tt
+job_limits rows modes.Session = tt
+job_limits rows modes.ShowAutomaton = tt
+job_limits rows modes.WriteTables = tt
+job_limits rows modes.ListErrors = tt
+job_limits rows modes.CompileErrors = tt
+job_limits rows modes.CompareErrors = tt
+job_limits rows modes.EchoErrors = tt
+job_limits rows modes.UpdateErrors = tt
+job_limits rows modes.Sample = tt
+job_limits rows modes.ShortestSentences = tt
+
+pub order_limits : (words : List Text) (order : Order) → order_of words ≡ Ok order → IsWithinLimits order.job
+order_limits words order e =
+    let there = chosen_order (is_reserved words) Parse (order_renamed (renamed words)) order e in
+    let rows = matches_of menhir_app (renamed words) in
+    let one = by_rows rows order (taken (is_empty (fault_of menhir_app (renamed words))) (order_in rows) order there).1 in
+    subst (λ (o : Order). IsWithinLimits o.job) one.1 (job_limits rows one.0)
+
+pub answer_limits : (words : List Text) (r : Result Order UsageFault) → EqualsUnlessMemory (order_of words) r → IfOk r (λ (order : Order). IsWithinLimits order.job)
+answer_limits words (Err fault) h = tt
+answer_limits words (Ok order) h = order_limits words order h
 
 -- The option that may occur twice.
 

@@ -1,9 +1,11 @@
--- The definition of numbers among the words: one to four decimal digits. The rule is this project's own.
+-- The definition of numbers among the words: decimal digits, at least one, and at most as many as the option allows.
+-- The rule is this project's own.
 use Rattle.std.specs.Prelude.{ℕ, ◌+◌, ◌-◌, ◌*◌, ◌&&◌, Bool, not, nat_le, List, [], ◌∷◌, length, Option, None, Some, if◌then◌else◌}
 use Rattle.std.specs.Char.{is_ascii_digit}
 use Rattle.std.specs.List.{list_all}
 use Rattle.clap.specs.Walk.{is_empty}
 use Rattle.clap.specs.Words.{Text}
+use Rattle.mh_opts.specs.declared.numbers.TheConstants.{MAX_LENGTH}
 
 -- The value of a number and the digits that follow it.
 abbrev pub value_after : ℕ → Text → ℕ
@@ -13,8 +15,20 @@ value_after n (digit ∷ digits) = value_after (10 * n + (digit - 48)) digits
 abbrev pub value : Text → ℕ
 value digits = value_after 0 digits
 
-abbrev pub is_short : Text → Bool
-is_short text = not (is_empty text) && nat_le (length text) 4
+abbrev pub is_short : ℕ → Text → Bool
+is_short most text = not (is_empty text) && nat_le (length text) most
 
-abbrev pub number_in : Text → Option ℕ
-number_in text = if is_short text && list_all is_ascii_digit text then Some (value text) else None
+abbrev pub is_numeral : ℕ → Text → Bool
+is_numeral most text = is_short most text && list_all is_ascii_digit text
+
+-- The number, if the text consists of at least one and at most `most` decimal digits.
+abbrev pub number_in : ℕ → Text → Option ℕ
+number_in most text = if is_numeral most text then Some (value text) else None
+
+abbrev pub at_most : ℕ → Option ℕ → Option ℕ
+at_most most None = None
+at_most most (Some n) = if nat_le n most then Some n else None
+
+-- The length of a random sentence: one to four decimal digits, with a value of at most `MAX_LENGTH`.
+abbrev pub length_in : Text → Option ℕ
+length_in text = at_most MAX_LENGTH (number_in 4 text)

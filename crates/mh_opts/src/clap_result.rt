@@ -4,8 +4,8 @@ ghost use Rattle.clap.specs.Takes as clap;
 ghost use Rattle.clap.specs.Words.{first_of, found_of, rows_of};
 ghost use Rattle.mh_opts.specs.Orders as orders;
 
-use crate::jobs::SAMPLE;
-use crate::numbers::number_in;
+use crate::jobs::{LENGTH, RANDOM_SENTENCE, SAMPLE};
+use crate::numbers::{length_in, number_in, seed_in};
 use clap::ArgMatches;
 use clap::parser::ValueSource;
 use mh_grammar::{Memory, Name, from_bytes};
@@ -68,6 +68,35 @@ pub(crate) fn sample_number(matches: &ArgMatches<'_>) -> u32
     ensures { result ≡ unwrap_or (orders.number_of (rows_of (found_of matches.now))) 0 }
 {
     number_of(matches).unwrap_or(0)
+}
+
+/// The seed of the random sentence, if the value of `--random-sentence` is a number of its form.
+pub(crate) fn seed_of(matches: &ArgMatches<'_>) -> Option<u64>
+    ensures { result ≡ orders.seed_of (rows_of (found_of matches.now)) }
+{
+    seed_in(text_of(matches, RANDOM_SENTENCE))
+}
+
+/// The seed of the random sentence, or 0 if there is none. An order without a seed is refused before this call.
+pub(crate) fn seed_number(matches: &ArgMatches<'_>) -> u64
+    ensures { result ≡ unwrap_or (orders.seed_of (rows_of (found_of matches.now))) 0 }
+{
+    seed_of(matches).unwrap_or(0)
+}
+
+/// The most tokens of the random sentence, if the value of `--length` is a number of its form.
+pub(crate) fn length_of(matches: &ArgMatches<'_>) -> Option<u32>
+    ensures { result ≡ orders.length_of (rows_of (found_of matches.now)) }
+{
+    length_in(text_of(matches, LENGTH))
+}
+
+/// The most tokens of the random sentence, or 0 if there is none. An order without a length is refused before this
+/// call.
+pub(crate) fn length_number(matches: &ArgMatches<'_>) -> u32
+    ensures { result ≡ unwrap_or (orders.length_of (rows_of (found_of matches.now))) 0 }
+{
+    length_of(matches).unwrap_or(0)
 }
 
 /// Both values, or `Memory`. The function is generic, because dropping values of known types on each way out would take

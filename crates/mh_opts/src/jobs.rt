@@ -8,7 +8,7 @@ ghost use Rattle.mh_opts.specs.declared.jobs.JobKind.TheVariants as mode;
 ghost use Rattle.mh_opts.specs.Orders as orders;
 ghost use Rattle.mh_opts.specs.Orders.{job_for, plain_needs};
 
-use crate::clap_result::{both, file_of, sample_number};
+use crate::clap_result::{both, file_of, length_number, sample_number, seed_number};
 use clap::{ArgAction, ArgMatches};
 use mh_grammar::{Memory, Name};
 use std::alloc::Global;
@@ -19,6 +19,8 @@ pub(crate) const GRAMMARS: &str = "grammars";
 pub(crate) const INTERPRET: &str = "interpret";
 
 pub(crate) const INTERPRET_SHOW_CST: &str = "interpret-show-cst";
+
+pub(crate) const SHOW_EXPECTED: &str = "show-expected";
 
 pub(crate) const CANONICAL: &str = "canonical";
 
@@ -38,6 +40,10 @@ pub(crate) const ECHO_ERRORS: &str = "echo-errors";
 pub(crate) const UPDATE_ERRORS: &str = "update-errors";
 
 pub(crate) const SAMPLE: &str = "sample";
+
+pub(crate) const RANDOM_SENTENCE: &str = "random-sentence";
+
+pub(crate) const LENGTH: &str = "length";
 
 pub(crate) const MESSAGES: &str = "messages";
 
@@ -68,6 +74,10 @@ pub enum Job {
     UpdateErrors { file: Name },
     /// `--sample N`: the counts of a sample, that is of a generated grammar.
     Sample { number: u32 },
+    /// `--shortest-sentences`: the shortest word of each nonterminal.
+    ShortestSentences,
+    /// `--random-sentence SEED` with `--length LENGTH`: the random sentence of a seed, of at most `length` tokens.
+    RandomSentence { seed: u64, length: u32 },
 }
 
 /// A job without its files and its number. The table of options holds modes, because a constant cannot own memory.
@@ -84,6 +94,8 @@ pub enum JobKind {
     EchoErrors,
     UpdateErrors,
     Sample,
+    ShortestSentences,
+    RandomSentence,
 }
 
 /// The job that compares two messages files.
@@ -121,6 +133,11 @@ pub(crate) fn job_of(alloc: Global, matches: &ArgMatches<'_>, mode: JobKind) -> 
         JobKind::Sample => Ok(Job::Sample {
             number: sample_number(matches),
         }),
+        JobKind::ShortestSentences => Ok(Job::ShortestSentences),
+        JobKind::RandomSentence => Ok(Job::RandomSentence {
+            seed: seed_number(matches),
+            length: length_number(matches),
+        }),
     }
 }
 
@@ -141,7 +158,7 @@ pub struct Need<T> {
     pub needs: T,
 }
 
-const OPTIONS: [Opt<&str>; 18] = [
+const OPTIONS: [Opt<&str>; 22] = [
     Opt {
         name: INTERPRET,
         action: ArgAction::SetTrue,
@@ -203,6 +220,21 @@ const OPTIONS: [Opt<&str>; 18] = [
         mode: Some(JobKind::Sample),
     },
     Opt {
+        name: "shortest-sentences",
+        action: ArgAction::SetTrue,
+        mode: Some(JobKind::ShortestSentences),
+    },
+    Opt {
+        name: RANDOM_SENTENCE,
+        action: ArgAction::Set,
+        mode: Some(JobKind::RandomSentence),
+    },
+    Opt {
+        name: LENGTH,
+        action: ArgAction::Set,
+        mode: None,
+    },
+    Opt {
         name: MESSAGES,
         action: ArgAction::Set,
         mode: None,
@@ -214,6 +246,11 @@ const OPTIONS: [Opt<&str>; 18] = [
     },
     Opt {
         name: INTERPRET_SHOW_CST,
+        action: ArgAction::SetTrue,
+        mode: None,
+    },
+    Opt {
+        name: SHOW_EXPECTED,
         action: ArgAction::SetTrue,
         mode: None,
     },
@@ -250,6 +287,18 @@ const NEEDS: [Need<&str>; 3] = [
     },
 ];
 
+/// The options that need another option, checked after the options that clash with another word.
+const LATE_NEEDS: [Need<&str>; 2] = [
+    Need {
+        option: RANDOM_SENTENCE,
+        needs: LENGTH,
+    },
+    Need {
+        option: LENGTH,
+        needs: RANDOM_SENTENCE,
+    },
+];
+
 /// The table of options.
 pub(crate) fn options<'a>() -> &'a [Opt<&'a str>]
     ensures { plain_rows result.now (λ name. name.now) ≡ app.options }
@@ -262,4 +311,11 @@ pub(crate) fn needs<'a>() -> &'a [Need<&'a str>]
     ensures { plain_needs result.now (λ name. name.now) ≡ orders.needs }
 {
     NEEDS.as_slice()
+}
+
+/// The table of the late needs.
+pub(crate) fn late_needs<'a>() -> &'a [Need<&'a str>]
+    ensures { plain_needs result.now (λ name. name.now) ≡ orders.late_needs }
+{
+    LATE_NEEDS.as_slice()
 }

@@ -21,6 +21,8 @@ pub struct Order {
     pub stdlib: bool,
     /// `--interpret-show-cst`: true if the trees of accepted sentences are printed.
     pub show_cst: bool,
+    /// `--show-expected`: true if the tokens expected in place of a refused token are listed.
+    pub show_expected: bool,
     /// `--messages FILE`: the messages file for refused sentences, if given.
     pub messages: Option<Name>,
     /// `--tables FILE`: the table file to use in place of a built table, if given.
@@ -33,7 +35,7 @@ pub enum UsageFault {
     /// Clap does not accept the words.
     #[error("bad words")]
     Parse,
-    /// The value of `--sample` is not one to four decimal digits.
+    /// The value of `--sample`, `--random-sentence` or `--length` is not a number of its form.
     #[error("bad number")]
     Number,
     /// No option selects a mode.

@@ -4,15 +4,16 @@ ghost use Rattle.clap.specs.Walk.{is_empty};
 ghost use Rattle.clap.specs.Words.{first_of, found_of, rows_of};
 ghost use Rattle.mh_opts.specs.Orders as orders;
 ghost use Rattle.mh_opts.specs.code.AllModes.{asked_in, only_of};
-ghost use Rattle.mh_opts.specs.Orders.{EqualsUnlessMemory, grammars_of, lacks, misplaced_in, mode_at, mode_in, needs, order_in, order_of, order_renamed, plain_need, written};
+ghost use Rattle.mh_opts.specs.Orders.{EqualsUnlessMemory, IsWithinLimits, grammars_of, lacks, late_needs, misplaced_in, mode_at, mode_in, needs, order_in, order_of, order_renamed, plain_need, plain_needs, written};
 ghost use Rattle.mh_opts.specs.App.{options, plain};
 ghost use Rattle.mh_opts.specs.declared.jobs.TheConstants as constants;
 
-use crate::clap_result::{both, is_given, number_of, value_of};
+use crate::clap_result::{both, is_given, length_of, number_of, seed_of, value_of};
 use crate::command::menhir_command;
 use crate::jobs::{
-    CANONICAL, GRAMMARS, INTERPRET_SHOW_CST, JobKind, MESSAGES, NO_STDLIB, Need, Opt, SAMPLE,
-    STRICT, TABLES, job_of, needs, options,
+    CANONICAL, GRAMMARS, INTERPRET, INTERPRET_SHOW_CST, JobKind, LENGTH, MESSAGES, NO_STDLIB, Need,
+    Opt, RANDOM_SENTENCE, SAMPLE, SHOW_EXPECTED, STRICT, TABLES, job_of, late_needs, needs,
+    options,
 };
 use crate::modes::{FoundModes, with_next};
 use crate::order::{Order, UsageFault};
@@ -71,10 +72,9 @@ fn is_lacking(matches: &ArgMatches<'_>, need: &Need<&str>) -> bool
 }
 
 /// The first option that is given without the option that it needs.
-fn misplaced<'a>(matches: &ArgMatches<'_>) -> Option<&'a str>
-    ensures { option_map (λ option. option.now) result ≡ misplaced_in (rows_of (found_of matches.now)) needs }
+fn misplaced<'a>(matches: &ArgMatches<'_>, needs: &[Need<&'a str>]) -> Option<&'a str>
+    ensures { option_map (λ option. option.now) result ≡ misplaced_in (rows_of (found_of matches.now)) (plain_needs needs.now (λ name. name.now)) }
 {
-    let needs = needs();
     for need in needs {
         if is_lacking(matches, need) {
             return Some(need.option);
@@ -150,16 +150,19 @@ fn order_for(alloc: Global, matches: &ArgMatches<'_>, mode: JobKind) -> Result<O
         strict: is_given(matches, STRICT),
         stdlib: !is_given(matches, NO_STDLIB),
         show_cst: is_given(matches, INTERPRET_SHOW_CST),
+        show_expected: is_given(matches, SHOW_EXPECTED),
         messages,
         tables,
     })
 }
 
-/// Returns true if `--sample` is there without a number.
+/// Returns true if an option that takes a number is given without a number of its form.
 fn lacks_number(matches: &ArgMatches<'_>) -> bool
     ensures { result ≡ orders.lacks_number (rows_of (found_of matches.now)) }
 {
-    is_given(matches, SAMPLE) && number_of(matches).is_none()
+    (is_given(matches, SAMPLE) && number_of(matches).is_none())
+        || (is_given(matches, RANDOM_SENTENCE) && seed_of(matches).is_none())
+        || (is_given(matches, LENGTH) && length_of(matches).is_none())
 }
 
 /// Returns true if the mode has its own grammar.
@@ -177,11 +180,19 @@ fn clashes(matches: &ArgMatches<'_>, mode: JobKind) -> bool
     is_given(matches, TABLES) && (is_given(matches, CANONICAL) || is_sample(mode))
 }
 
+/// True if `--show-expected` is given without `--interpret`, or with `--messages`.
+fn lists_nothing(matches: &ArgMatches<'_>) -> bool
+    ensures { result ≡ orders.lists_nothing (rows_of (found_of matches.now)) }
+{
+    is_given(matches, SHOW_EXPECTED)
+        && (!is_given(matches, INTERPRET) || is_given(matches, MESSAGES))
+}
+
 /// The order of a mode, or the first fault: a misplaced option, or no grammar.
 fn order_with(alloc: Global, matches: &ArgMatches<'_>, mode: JobKind) -> Result<Order, UsageFault>
     ensures { let rows = rows_of (found_of matches.now) in EqualsUnlessMemory (orders.order_with rows mode (misplaced_in rows needs)) result }
 {
-    if let Some(option) = misplaced(matches) {
+    if let Some(option) = misplaced(matches, needs()) {
         return Err(UsageFault::Misplaced {
             option: written_name(alloc, option)?,
         });
@@ -194,6 +205,23 @@ fn order_with(alloc: Global, matches: &ArgMatches<'_>, mode: JobKind) -> Result<
     if is_sample(mode) && has_grammar(matches) {
         return Err(UsageFault::Misplaced {
             option: written_name(alloc, SAMPLE)?,
+        });
+    }
+    if lists_nothing(matches) {
+        return Err(UsageFault::Misplaced {
+            option: written_name(alloc, SHOW_EXPECTED)?,
+        });
+    }
+    order_late(alloc, matches, mode)
+}
+
+/// Returns the order of the mode, after the checks of the options that clash with another word.
+fn order_late(alloc: Global, matches: &ArgMatches<'_>, mode: JobKind) -> Result<Order, UsageFault>
+    ensures { let rows = rows_of (found_of matches.now) in EqualsUnlessMemory (orders.order_late rows mode (misplaced_in rows late_needs)) result }
+{
+    if let Some(option) = misplaced(matches, late_needs()) {
+        return Err(UsageFault::Misplaced {
+            option: written_name(alloc, option)?,
         });
     }
     if !is_sample(mode) && !has_grammar(matches) {
@@ -220,7 +248,8 @@ fn matched_order(alloc: Global, matches: &ArgMatches<'_>) -> Result<Order, Usage
 /// `NoMode`, `TwoModes`, `Misplaced` with the option, and `NoGrammar`, each exactly if it holds; and with `Memory` only
 /// if memory runs out.
 pub fn read_words(alloc: Global, words: &[String]) -> Result<Order, UsageFault>
-    ensures { EqualsUnlessMemory (order_of (map string_bytes words.now)) result }
+    ensures answers { EqualsUnlessMemory (order_of (map string_bytes words.now)) result }
+    ensures limits { IfOk result (λ order. IsWithinLimits order.job) }
 {
     if is_reserved(words) {
         return Err(UsageFault::Parse);

@@ -9,6 +9,7 @@ use Rattle.mh_items_kernels.specs.Automaton.{kernel_at, edges_at}
 use Rattle.mh_tables_core.specs.Table.{TableData, fallback_of}
 use Rattle.mh_resolve_cells.proofs.AreResolved.{kernel_is, edges_are}
 use Rattle.mh_grammar.specs.Text.{Text}
+use Rattle.mh_report_comments.proofs.CommentParts.{pieces}
 use Rattle.mh_report.specs.Automata.{head_line, kernel_lines, goto_lines, AreActionLines, IsStateText, AreStateTexts, AppendsText}
 
 pub kernel_text_is : (g : Grammar) (a : Automaton) (n : ℕ) (kernel : Kernel) (items : List KernelItem) (old new : Text) → n < length a.kernels → kernel ≡ get_or a.kernels n kernel → items ≡ kernel.items
@@ -19,13 +20,6 @@ kernel_text_is g a n kernel items old new lt e f is =
 pub goto_text_is : (g : Grammar) (a : Automaton) (n : ℕ) (edges row : List Edge) (old new : Text) → n < length a.edges → row ≡ get_or a.edges n row → edges ≡ row
     → new ≡ old ++ goto_lines g edges → new ≡ old ++ goto_lines g (edges_at a n)
 goto_text_is g a n edges row old new lt e f is = is ∙ ap (λ (l : List Edge). old ++ goto_lines g l) (sym (edges_are a n edges row lt e f))
-
--- Four parts appended one after another are appended as a whole.
-pieces : (old a b c d t1 t2 t3 t4 : Text) → t1 ≡ old ++ a → t2 ≡ t1 ++ b → t3 ≡ t2 ++ c → t4 ≡ t3 ++ d → t4 ≡ old ++ (a ++ b ++ c ++ d)
-pieces old a b c d t1 t2 t3 t4 e1 e2 e3 e4 =
-    e4
-    ∙ ap (λ (t : Text). t ++ d) (e3 ∙ ap (λ (t : Text). t ++ c) (e2 ∙ ap (λ (t : Text). t ++ b) e1 ∙ append_assoc old a b) ∙ append_assoc old (a ++ b) c)
-    ∙ append_assoc old (a ++ b ++ c) d
 
 pub state_text_is : (g : Grammar) (a : Automaton) (t : TableData) (s : ℕ) (old t1 t2 t3 t4 : Text) → t1 ≡ old ++ head_line s → t2 ≡ t1 ++ kernel_lines g (kernel_at a s).items
     → AppendsText (AreActionLines g a t s (fallback_of t s)) t2 t3 → t4 ≡ t3 ++ goto_lines g (edges_at a s) → AppendsText (IsStateText g a t s) old t4

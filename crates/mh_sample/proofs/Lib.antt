@@ -1,3 +1,4 @@
 pub mod TextsInParts
 pub mod Verdicts
 pub mod SampleLineUnique
+pub mod ShortestTextUnique

@@ -10,17 +10,17 @@ use Rattle.mh_session.specs.SessionState.{SessionState}
 use Rattle.mh_engine.specs.Positions.{Position}
 use Rattle.mh_grammar.specs.Text.{Text}
 use Rattle.mh_session_branches.specs.Names.{at_name}
-use Rattle.mh_session_branches.specs.Answers.{Branches, Answer, answer, answers, next}
+use Rattle.mh_session_branches.specs.Answers.{Branches, Answer, IsAnswer, AreAnswers, branches_after_answer}
 use Rattle.mh_session.specs.Represents.{FitsBranch, Represents}
 use Rattle.mh_session.specs.Served.{IsServed, IsAnswerOfBranches}
 
--- The invariant of the loop: the answers so far, and then the answers to the remaining commands, are the answers to all
+-- The invariant of the loop: the answers so far, followed by answers to the remaining commands, are answers to all
 -- commands.
 pub record AnswersSoFar (t : TableData) (commands : List Command) (i : ℕ) (session : SessionState) (so_far : List Answer) : Type 0 where
   pub branches : Branches
   pub stands : Represents session branches
   pub table : session.table ≡ t
-  pub rest : so_far ++ answers t branches (drop i commands) ≡ answers t [] commands
+  pub rest : (more : List Answer) → AreAnswers t branches (drop i commands) more → AreAnswers t [] commands (so_far ++ more)
 
 -- The invariant holds at the beginning, with no names and no answers.
 pub answers_begin : (commands : List Command) (session : SessionState) (so_far : List Answer) → session.held ≡ [] → so_far ≡ [] → AnswersSoFar session.table commands 0 session so_far
@@ -28,24 +28,25 @@ answers_begin commands session so_far none empty = record {
   branches = [];
   stands = λ name. subst (λ (held : List (Text × Position)). FitsBranch session.table None (at_name name held)) (sym none) tt;
   table = refl;
-  rest = rw empty refl;
+  rest = λ more h. rw empty h;
 }
 
--- If no command remains, the answers so far are the answers to all commands.
-pub answers_whole : (t : TableData) (commands : List Command) (i : ℕ) (session : SessionState) (so_far : List Answer) → AnswersSoFar t commands i session so_far → length commands ≤ i → so_far ≡ answers t [] commands
-answers_whole t commands i session so_far told le = sym (append-nil so_far) ∙ ap (λ (l : List Command). so_far ++ answers t told.branches l) (sym (drop_of_length-le commands le)) ∙ told.rest
+-- If no command remains, the answers so far are answers to all commands.
+pub answers_whole : (t : TableData) (commands : List Command) (i : ℕ) (session : SessionState) (so_far : List Answer) → AnswersSoFar t commands i session so_far → length commands ≤ i → AreAnswers t [] commands so_far
+answers_whole t commands i session so_far told le =
+    subst (AreAnswers t [] commands) (append-nil so_far) (told.rest [] (subst (λ (l : List Command). AreAnswers t told.branches l []) (sym (drop_of_length-le commands le)) refl))
 
 -- The facts after a command for which memory did not run out.
 pub record AnsweredFacts (old : SessionState) (command : Command) (new : SessionState) (r : Answer) (bs : Branches) : Type 0 where
   pub table_stays : new.table ≡ old.table
-  pub theirs : answer old.table bs command ≡ r
-  pub stands_for : Represents new (next old.table bs command)
+  pub theirs : IsAnswer old.table bs command r
+  pub stands_for : Represents new (branches_after_answer r bs command)
 
 refused_goes : (old new : SessionState) (command : Command) (f : SessionFault) (bs : Branches) → new ≡ old → IsAnswerOfBranches old command (Err f) → Represents old bs → AnsweredFacts old command new (Err f) bs
 refused_goes old new command f bs same theirs all = record {
   table_stays = ap (λ (m : SessionState). m.table) same;
   theirs = theirs bs all;
-  stands_for = subst (λ (m : SessionState). Represents m (next old.table bs command)) (sym same) (rw (theirs bs all) all);
+  stands_for = subst (λ (m : SessionState). Represents m bs) (sym same) all;
 }
 
 pub answered_facts : (old new : SessionState) (command : Command) (r : Answer) (bs : Branches) → IsServed old command new r → (r ≡ Err faults.Memory → ⊥) → Represents old bs → AnsweredFacts old command new r bs
@@ -60,13 +61,13 @@ pub answers_more : (t : TableData) (commands : List Command) (i : ℕ) (old new 
     → (r ≡ Err faults.Memory → ⊥) → more ≡ so_far ++ r ∷ [] → AnswersSoFar t commands (i + 1) new more
 answers_more t commands i old new so_far more command r told lt is s free e =
     let g = answered_facts old new command r told.branches s free told.stands in
-    let theirs : answer t told.branches command ≡ r = ap (λ (u : TableData). answer u told.branches command) (sym told.table) ∙ g.theirs in
+    let theirs : IsAnswer t told.branches command r = subst (λ (u : TableData). IsAnswer u told.branches command r) told.table g.theirs in
     let left : drop i commands ≡ command ∷ drop (i + 1) commands = drop_more commands i command lt ∙ ap (λ (c : Command). c ∷ drop (i + 1) commands) (sym is) in
     record {
-      branches = next t told.branches command;
-      stands = subst (λ (u : TableData). Represents new (next u told.branches command)) told.table g.stands_for;
+      branches = branches_after_answer r told.branches command;
+      stands = g.stands_for;
       table = g.table_stays ∙ told.table;
-      rest =
-          ap (λ (l : List Answer). l ++ answers t (next t told.branches command) (drop (i + 1) commands)) e ∙ append_assoc so_far (r ∷ []) (answers t (next t told.branches command) (drop (i + 1) commands))
-          ∙ ap (λ (a : Answer). so_far ++ a ∷ answers t (next t told.branches command) (drop (i + 1) commands)) (sym theirs) ∙ ap (λ (l : List Command). so_far ++ answers t told.branches l) (sym left) ∙ told.rest;
+      rest = λ last h.
+          let all = told.rest (r ∷ last) (subst (λ (l : List Command). AreAnswers t told.branches l (r ∷ last)) (sym left) (theirs, h)) in
+          subst (AreAnswers t [] commands) (sym (ap (λ (l : List Answer). l ++ last) e ∙ append_assoc so_far (r ∷ []) last)) all;
     }

@@ -10,7 +10,7 @@ use Rattle.mh_session_branches.specs.declared.fault.CommandFault.{CommandFault}
 use Rattle.mh_session_branches.specs.declared.fault.CommandFault.TheVariants as faults
 use Rattle.mh_grammar.specs.Text.{Text}
 use Rattle.mh_session_branches.specs.Names.{same}
-use Rattle.mh_session_branches.specs.LineForms.{Form, BeginOnly, BeginAt, OfferTo, ResumeOf, ForkTo, ShowOf, TreeOf, ForgetOf, words_of, HasForm, meaning_of_form, ReadsCommand}
+use Rattle.mh_session_branches.specs.LineForms.{Form, BeginOnly, BeginAt, OfferTo, ResumeOf, ForkTo, ShowOf, TreeOf, ExpectedOf, ForgetOf, words_of, HasForm, meaning_of_form, ReadsCommand}
 use Rattle.mh_session_branches.specs.FormOfLine.{form_with_one_name, form_with_two_names, form_of_words, form_of}
 use Rattle.mh_session_branches.proofs.OneForm.{form_found}
 use Rattle.mh_session.specs.code.Forms.{IsResultOfMeaning}
@@ -30,7 +30,9 @@ one_words verb name form =
     (pick verb (codes "resume") (ResumeOf name) form (name ∷ []) _ refl
     (pick verb (codes "show") (ShowOf name) form (name ∷ []) _ refl
     (pick verb (codes "tree") (TreeOf name) form (name ∷ []) _ refl
+    (pick verb (codes "expected") (ExpectedOf name) form (name ∷ []) _ refl
     (pick verb (codes "forget") (ForgetOf name) form (name ∷ []) None refl (λ h. cc) (same verb (codes "forget")) refl)
+    (same verb (codes "expected")) refl)
     (same verb (codes "tree")) refl)
     (same verb (codes "show")) refl)
     (same verb (codes "resume")) refl)

@@ -4,13 +4,14 @@ use Rattle.std.proofs.lemmas.List.{length-map}
 use Rattle.mh_grammar.specs.declared.types.Grammar.{Grammar}
 use Rattle.mh_grammar.specs.Plain.{PlainGrammar, plain_of}
 use Rattle.mh_tables_core.specs.Table.{TableData}
-use Rattle.mh_msgfile.specs.Sentences.{Vocabulary, vocabulary_of, start_symbol_name, start_names, token_names}
+use Rattle.mh_msgfile.specs.StartNames.{start_symbol_name, start_names}
+use Rattle.mh_msgfile.specs.Sentences.{Vocabulary, vocabulary_of, token_names}
 use Rattle.mh_msgfile.proofs.SentenceBounds.{bounded}
 use Rattle.mh_session_branches.specs.declared.command.Command.{Command}
 use Rattle.mh_session_branches.specs.declared.command.Command.TheVariants as commands
 use Rattle.mh_grammar.specs.Text.{Text}
 use Rattle.mh_session_branches.specs.Answers.{IsCommandOf}
-use Rattle.mh_session_branches.specs.LineForms.{Form, BeginOnly, BeginAt, OfferTo, ResumeOf, ForkTo, ShowOf, TreeOf, ForgetOf, LineMeaning, Asks, NamesNoStart, LacksStart, NamesNoToken, begin_only_start, begin_named_start, offer_named_token, meaning_of_form, LineMeans}
+use Rattle.mh_session_branches.specs.LineForms.{Form, BeginOnly, BeginAt, OfferTo, ResumeOf, ForkTo, ShowOf, TreeOf, ExpectedOf, ForgetOf, LineMeaning, Asks, NamesNoStart, LacksStart, NamesNoToken, begin_only_start, begin_named_start, offer_named_token, meaning_of_form, LineMeans}
 
 -- The start of the command, if it has one, is below n, and its token below m.
 abbrev IsMeaningBelow : ℕ → ℕ → LineMeaning → Type 0
@@ -20,6 +21,7 @@ IsMeaningBelow n m (Asks (commands.Resume name)) = Unit {0}
 IsMeaningBelow n m (Asks (commands.Fork name fresh)) = Unit {0}
 IsMeaningBelow n m (Asks (commands.Show name)) = Unit {0}
 IsMeaningBelow n m (Asks (commands.Tree name)) = Unit {0}
+IsMeaningBelow n m (Asks (commands.Expected name)) = Unit {0}
 IsMeaningBelow n m (Asks (commands.Forget name)) = Unit {0}
 IsMeaningBelow n m (NamesNoStart name) = Unit {0}
 IsMeaningBelow n m LacksStart = Unit {0}
@@ -45,6 +47,7 @@ form_below g (ResumeOf name) = tt
 form_below g (ForkTo name fresh) = tt
 form_below g (ShowOf name) = tt
 form_below g (TreeOf name) = tt
+form_below g (ExpectedOf name) = tt
 form_below g (ForgetOf name) = tt
 
 known_by : (t : TableData) (p : PlainGrammar) (n m : ℕ) (command : Command) → t.grammar ≡ p → n ≡ length p.starts → m ≡ p.tokens → IsMeaningBelow n m (Asks command) → IsCommandOf t command
@@ -54,6 +57,7 @@ known_by t p n m (commands.Resume name) e f h b = tt
 known_by t p n m (commands.Fork name fresh) e f h b = tt
 known_by t p n m (commands.Show name) e f h b = tt
 known_by t p n m (commands.Tree name) e f h b = tt
+known_by t p n m (commands.Expected name) e f h b = tt
 known_by t p n m (commands.Forget name) e f h b = tt
 
 pub command_known : (g : Grammar) (t : TableData) (line : Text) (command : Command) → t.grammar ≡ plain_of g → LineMeans (vocabulary_of g) line (Asks command) → IsCommandOf t command

@@ -9,21 +9,21 @@ use Rattle.mh_session_branches.specs.declared.command.Command.{Command}
 use Rattle.mh_session_branches.specs.declared.reply.SessionFault.TheVariants as faults
 use Rattle.mh_grammar.specs.Text.{Text}
 use Rattle.mh_session.specs.SessionState.{SessionState}
-use Rattle.mh_session_branches.specs.Answers.{Branches, Answer, next}
+use Rattle.mh_session_branches.specs.Answers.{Branches, Answer, branches_after_command, branches_after_answer}
 use Rattle.mh_session.specs.Represents.{Represents}
 use Rattle.mh_session.specs.Served.{IsServed}
 use Rattle.mh_session_branches.specs.declared.fault.CommandFault.{CommandFault}
 use Rattle.mh_session_branches.specs.declared.fault.CommandFault.TheVariants as refusals
 use Rattle.mh_session_branches.specs.LineForms.{LineMeaning, Asks, NamesNoStart, LacksStart, NamesNoToken, LineMeans, ReadsCommand}
 use Rattle.mh_session.proofs.AnswerAll.{answered_facts}
-use Rattle.mh_session_branches.specs.Replies.{answer_text, replied_name, AnswersLine}
+use Rattle.mh_session_branches.specs.Replies.{replied_name, AnswersLine}
 use Rattle.mh_session.specs.LineAnswers.{IsLineAnswered}
 use Rattle.mh_session.specs.code.AnswerTexts.{IsMeaningAnswered}
 use Rattle.mh_session.specs.code.AnswerTexts.{IsCommandFaultText, IsAnswerText}
 
 -- After a command the session represents some branches.
 served_some : (old new : SessionState) (command : Command) (r : Answer) (bs : Branches) → IsServed old command new r → Represents old bs → (after : Branches) × Represents new after
-served_some old new command (Ok reply) bs s all = (next old.table bs command, s.2 bs all)
+served_some old new command (Ok reply) bs s all = (branches_after_command bs command, s.2 bs all)
 served_some old new command (Err faults.UnknownName) bs s all = (bs, subst (λ (m : SessionState). Represents m bs) (sym s.0) all)
 served_some old new command (Err faults.NameTaken) bs s all = (bs, subst (λ (m : SessionState). Represents m bs) (sym s.0) all)
 served_some old new command (Err (faults.WrongPhase phase)) bs s all = (bs, subst (λ (m : SessionState). Represents m bs) (sym s.0) all)
@@ -31,21 +31,21 @@ served_some old new command (Err faults.TooDeep) bs s all = (bs, subst (λ (m : 
 served_some old new command (Err faults.Memory) bs s all = (bs, subst (λ (m : SessionState). Represents m bs) (sym s) all)
 
 pub meaning_answered : (g : Grammar) (old new : SessionState) (command : Command) (r : Answer) (text : Result (Vec ℕ Global) Memory) → IsServed old command new r → IfOk text (λ v. IsAnswerText g (replied_name command) r v.items) → IsMeaningAnswered g (Asks command) old new text
-meaning_answered g old new command r (Ok v) s told = λ bs all. let w = answered_facts old new command r bs s told.1 all in (next old.table bs command, w.stands_for, (told.0 ∙ ap (answer_text g (replied_name command)) (sym w.theirs), refl))
+meaning_answered g old new command r (Ok v) s told = λ bs all. let w = answered_facts old new command r bs s told.1 all in (branches_after_answer r bs command, w.stands_for, (r, w.theirs, told.0, refl))
 meaning_answered g old new command r (Err e) s told = λ bs all. let after = served_some old new command r bs s all in (after.0, after.1, tt)
 
 -- The answer to the meaning of a line is the answer to the line.
 pub line_answered : (g : Grammar) (line : Text) (old new : SessionState) (said : LineMeaning) (r : Result (Vec ℕ Global) Memory) → LineMeans (vocabulary_of g) line said → IsMeaningAnswered g said old new r → IsLineAnswered g line old new r
-line_answered g line old new said (Ok v) says told = λ bs all. let t = told bs all in (t.0, t.1, inl (said, says, t.2.0, t.2.1))
+line_answered g line old new said (Ok v) says told = λ bs all. let t = told bs all in (t.0, t.1, inl (said, says, t.2))
 line_answered g line old new said (Err e) says told = λ bs all. let t = told bs all in (t.0, t.1, tt)
 
 -- A line that is no command changes nothing, and its answer is the text of the fault.
 module _ (g : Grammar) (line : Text) (old : SessionState) where
   refused : (fault : CommandFault) (text : Text) → ReadsCommand (vocabulary_of g) line (Err fault) → IsCommandFaultText fault text → (bs : Branches) → AnswersLine g old.table bs line text bs
   refused refusals.Unreadable text none is bs = inr (none, is, refl)
-  refused (refusals.UnknownStart name) text says is bs = inl (NamesNoStart name, says, is, refl)
-  refused refusals.MissingStart text says is bs = inl (LacksStart, says, is, refl)
-  refused (refusals.UnknownToken name) text says is bs = inl (NamesNoToken name, says, is, refl)
+  refused (refusals.UnknownStart name) text says is bs = inl (NamesNoStart name, says, (is, refl))
+  refused refusals.MissingStart text says is bs = inl (LacksStart, says, (is, refl))
+  refused (refusals.UnknownToken name) text says is bs = inl (NamesNoToken name, says, (is, refl))
   refused refusals.Memory text says is bs = absurd is
 
   pub refusal_answered : (fault : CommandFault) (r : Result (Vec ℕ Global) Memory) → ReadsCommand (vocabulary_of g) line (Err fault) → IfOk r (λ v. IsCommandFaultText fault v.items) → IsLineAnswered g line old old r

@@ -13,6 +13,7 @@ use Rattle.mh_engine.specs.declared.phase.Phase.{Phase}
 use Rattle.mh_engine.specs.declared.phase.Phase.TheVariants as phases
 use Rattle.mh_engine.proofs.OneMoreStep.{resumed_table}
 use Rattle.mh_engine.proofs.BranchPosition.{HasPosition-start, HasPosition-token, HasPosition-step}
+use Rattle.mh_expected.specs.Expected.{ExpectedTokens}
 use Rattle.mh_session_branches.specs.declared.command.Command.{Command}
 use Rattle.mh_session_branches.specs.declared.command.Command.TheVariants as commands
 use Rattle.mh_session_branches.specs.declared.reply.Reply.{Reply}
@@ -22,10 +23,10 @@ use Rattle.mh_session_branches.specs.declared.reply.SessionFault.TheVariants as 
 use Rattle.mh_grammar.specs.Text.{Text}
 use Rattle.mh_session_branches.specs.Names.{at_name, without_name, with_name}
 use Rattle.mh_session.specs.SessionState.{SessionState}
-use Rattle.mh_session_branches.specs.Answers.{Branches, Answer, answer, branches_after_command, next, branches_after_answer, phase_at, phase_answer, if_name_held, if_name_free, answer_to_offer, answer_to_resume, step_or_deep, with_changed_branch}
+use Rattle.mh_session_branches.specs.Answers.{Branches, Answer, IsAnswer, ListsExpected, IsAnswerIfHeld, branches_after_command, phase_at, phase_answer, if_name_held, if_name_free, answer_to_offer, answer_to_resume, step_or_deep, with_changed_branch}
 use Rattle.mh_session.specs.Represents.{FitsBranch, Represents}
 use Rattle.mh_session.specs.code.ChangesName.{ChangesName, HaveTable}
-use Rattle.mh_session.specs.Served.{IsServed}
+use Rattle.mh_session.specs.Served.{IsServed, IsAnswerOfBranches}
 use Rattle.mh_session.proofs.ChangesName.{held_name_has_branch, free_name_has_no_branch, puts_fit, removal_fits}
 
 -- A lookup that finds no checkpoint finds no position.
@@ -44,18 +45,15 @@ phase_is t b c at e = ap phase_of (position_is t b c at e)
 pub record GivesPosition (old : SessionState) (command : Command) (name : Text) (c : Position) (bs : Branches) : Type 0 where
   pub branch : Branch
   pub stands : HasPosition branch c
-  pub theirs : answer old.table bs command ≡ Ok (replies.Phase (phase_of c))
+  pub theirs : IsAnswer old.table bs command (Ok (replies.Phase (phase_of c)))
   pub change : branches_after_command bs command ≡ with_name name branch bs
 
 put_case : (old new : SessionState) (command : Command) (name : Text) (c : Position) (r : Answer) → ((bs : Branches) → Represents old bs → GivesPosition old command name c bs) → c.table ≡ old.table → IfOk r (λ x. x ≡ replies.Phase (phase_of c)) → IfErr r (λ f. f ≡ faults.Memory)
     → OnOk r (ChangesName old name (Some c) new) → OnErr r (new ≡ old) → IsServed old command new r
 put_case old new command name c (Ok reply) gives is told fault put same = (
   put.table,
-  λ bs all. let g = gives bs all in g.theirs ∙ ap (λ (x : Reply). Ok x) (sym told),
-  λ bs all.
-      let g = gives bs all in
-      let next_is : next old.table bs command ≡ with_name name g.branch bs = ap (λ (a : Answer). branches_after_answer a bs command) g.theirs ∙ g.change in
-      subst (Represents new) (sym next_is) (puts_fit old new bs name g.branch c all put g.stands is),
+  λ bs all. let g = gives bs all in subst (λ (x : Reply). IsAnswer old.table bs command (Ok x)) (sym told) g.theirs,
+  λ bs all. let g = gives bs all in subst (Represents new) (sym g.change) (puts_fit old new bs name g.branch c all put g.stands is),
 )
 put_case old new command name c (Err fault) gives is told f put same = subst (λ (x : SessionFault). IsServed old command new (Err x)) (sym f) same
 
@@ -105,7 +103,7 @@ going_on t b phases.Accepted g = absurd g
 going_on t b phases.Rejected g = absurd g
 
 resume_theirs : (old : SessionState) (bs : Branches) (name : Text) (b : Branch) (c : Position) → at_name name bs ≡ Some b → HasPosition b c → c.table ≡ old.table → CanResume (phase_of c)
-    → answer old.table bs (commands.Resume name) ≡ cond (too_deep (resumed c).pairs.trees) (Err faults.TooDeep) (Ok (replies.Phase (phase_of (resumed c))))
+    → IsAnswer old.table bs (commands.Resume name) (cond (too_deep (resumed c).pairs.trees) (Err faults.TooDeep) (Ok (replies.Phase (phase_of (resumed c)))))
 resume_theirs old bs name b c has at of g =
     ap (λ (o : Option Branch). if_name_held o (λ b. answer_to_resume old.table b (phase_at old.table b))) has
     ∙ going_on old.table b (phase_at old.table b) (subst CanResume (sym (phase_is old.table b c at of)) g)
@@ -129,7 +127,7 @@ resume_served old new name c d r has of g is fits did =
       change = ap (λ (o : Option Branch). with_changed_branch name o with_step bs) f.1;
     }) (resumed_of c d old.table is of) did
 
-pub deep_served : (old : SessionState) (name : Text) (c : Position) → at_name name old.held ≡ Some c → c.table ≡ old.table → CanResume (phase_of c) → too_deep (resumed c).pairs.trees ≡ true → (bs : Branches) → Represents old bs → answer old.table bs (commands.Resume name) ≡ Err faults.TooDeep
+pub deep_served : (old : SessionState) (name : Text) (c : Position) → at_name name old.held ≡ Some c → c.table ≡ old.table → CanResume (phase_of c) → too_deep (resumed c).pairs.trees ≡ true → (bs : Branches) → Represents old bs → IsAnswer old.table bs (commands.Resume name) (Err faults.TooDeep)
 deep_served old name c has of g deep bs all =
     let f = held_name_has_branch old bs name c all has in
     resume_theirs old bs name f.0 c f.1 f.2 of g ∙ ap (λ (x : Bool). cond x (Err faults.TooDeep) (Ok (replies.Phase (phase_of (resumed c))))) deep
@@ -153,8 +151,35 @@ pub forget_served : (old new : SessionState) (name : Text) (c : Position) → at
 forget_served old new name c has put = (
   put.table,
   λ bs all. let f = held_name_has_branch old bs name c all has in ap (λ (o : Option Branch). if_name_held o (λ b. Ok replies.Forgotten)) f.1,
-  λ bs all.
-      let f = held_name_has_branch old bs name c all has in
-      let ok : answer old.table bs (commands.Forget name) ≡ Ok replies.Forgotten = ap (λ (o : Option Branch). if_name_held o (λ b. Ok replies.Forgotten)) f.1 in
-      subst (Represents new) (sym (ap (λ (a : Answer). branches_after_answer a bs (commands.Forget name)) ok)) (removal_fits old new bs name all put),
+  λ bs all. removal_fits old new bs name all put,
 )
+
+-- The answer to `expected` for a name that has a branch.
+expected_of_held : (old : SessionState) (bs : Branches) (name : Text) (c : Position) (a : Answer) → Represents old bs → at_name name old.held ≡ Some c → c.table ≡ old.table → ((b : Branch) → HasPosition b c → ListsExpected old.table b (phase_of c) a) → IsAnswer old.table bs (commands.Expected name) a
+expected_of_held old bs name c a all has of lists =
+    let f = held_name_has_branch old bs name c all has in
+    subst (λ (o : Option Branch). IsAnswerIfHeld o (λ b. ListsExpected old.table b (phase_at old.table b)) a) (sym f.1)
+    (subst (λ (p : Phase). ListsExpected old.table f.0 p a) (sym (phase_is old.table f.0 c f.2 of)) (lists f.0 f.2))
+
+pub expected_served : (old : SessionState) (name : Text) (s : ℕ) (c : Position) (list : List ℕ) → at_name name old.held ≡ Some c → c.table ≡ old.table → phase_of c ≡ phases.InputNeeded s → ((b : Branch) → HasPosition b c → ExpectedTokens old.table b.start b.offered list)
+    → IsServed old (commands.Expected name) old (Ok (replies.Expected list))
+expected_served old name s c list has of asks lists = (
+  refl,
+  λ bs all. expected_of_held old bs name c (Ok (replies.Expected list)) all has of (λ b at. subst (λ (p : Phase). ListsExpected old.table b p (Ok (replies.Expected list))) (sym asks) (list, lists b at, refl)),
+  λ bs all. all,
+)
+
+wrong_lists : (t : TableData) (b : Branch) (p : Phase) → ((s : ℕ) → p ≡ phases.InputNeeded s → ⊥) → ListsExpected t b p (Err (faults.WrongPhase p))
+wrong_lists t b (phases.InputNeeded s) none = absurd (none s refl)
+wrong_lists t b (phases.Shifting s z) none = refl
+wrong_lists t b (phases.AboutToReduce s p) none = refl
+wrong_lists t b (phases.HandlingError s) none = refl
+wrong_lists t b phases.Accepted none = refl
+wrong_lists t b phases.Rejected none = refl
+
+pub wrong_phase_served : (old : SessionState) (name : Text) (c : Position) (p : Phase) → at_name name old.held ≡ Some c → c.table ≡ old.table → p ≡ phase_of c → ((s : ℕ) → p ≡ phases.InputNeeded s → ⊥) → IsAnswerOfBranches old (commands.Expected name) (Err (faults.WrongPhase p))
+wrong_phase_served old name c p has of is none = λ bs all.
+    expected_of_held old bs name c (Err (faults.WrongPhase p)) all has of (λ b at. subst (λ (q : Phase). ListsExpected old.table b q (Err (faults.WrongPhase p))) is (wrong_lists old.table b p none))
+
+pub unknown_served : (old : SessionState) (name : Text) → at_name name old.held ≡ None → IsAnswerOfBranches old (commands.Expected name) (Err faults.UnknownName)
+unknown_served old name none = λ bs all. subst (λ (o : Option Branch). IsAnswerIfHeld o (λ b. ListsExpected old.table b (phase_at old.table b)) (Err faults.UnknownName)) (sym (free_name_has_no_branch old bs name all none)) refl

@@ -5,7 +5,7 @@ use Rattle.mh_session_branches.specs.declared.command.Command.{Command}
 use Rattle.mh_session_branches.specs.declared.reply.SessionFault.{SessionFault}
 use Rattle.mh_session_branches.specs.declared.reply.SessionFault.TheVariants as faults
 use Rattle.mh_session.specs.SessionState.{SessionState}
-use Rattle.mh_session_branches.specs.Answers.{Branches, Answer, answer, next}
+use Rattle.mh_session_branches.specs.Answers.{Branches, Answer, IsAnswer, branches_after_command}
 use Rattle.mh_session.specs.Represents.{Represents}
 use Rattle.mh_session.specs.Served.{IsServed, IsRefusedWith, IsAnswerOfBranches}
 
@@ -24,11 +24,11 @@ module _ (old new : SessionState) (command : Command) where
   refused_theirs faults.TooDeep s = inr s.1
   refused_theirs faults.Memory s = inl refl
 
-  pub served_reply : (r : Answer) → IsServed old command new r → IfOk r (λ x. (bs : Branches) → Represents old bs → answer old.table bs command ≡ Ok x)
+  pub served_reply : (r : Answer) → IsServed old command new r → IfOk r (λ x. (bs : Branches) → Represents old bs → IsAnswer old.table bs command (Ok x))
   served_reply (Ok reply) s = s.1
   served_reply (Err fault) s = tt
 
-  pub served_next : (r : Answer) → IsServed old command new r → OnOk r ((bs : Branches) → Represents old bs → Represents new (next old.table bs command))
+  pub served_next : (r : Answer) → IsServed old command new r → OnOk r ((bs : Branches) → Represents old bs → Represents new (branches_after_command bs command))
   served_next (Ok reply) s = s.2
   served_next (Err fault) s = tt
 
@@ -36,7 +36,7 @@ module _ (old new : SessionState) (command : Command) where
   served_same (Ok reply) s = tt
   served_same (Err fault) s = refused_same fault s
 
-  pub served_fault : (r : Answer) → IsServed old command new r → IfErr r (λ f. (f ≡ faults.Memory) ⊎ ((bs : Branches) → Represents old bs → answer old.table bs command ≡ Err f))
+  pub served_fault : (r : Answer) → IsServed old command new r → IfErr r (λ f. (f ≡ faults.Memory) ⊎ ((bs : Branches) → Represents old bs → IsAnswer old.table bs command (Err f)))
   served_fault (Ok reply) s = tt
   served_fault (Err fault) s = refused_theirs fault s
 

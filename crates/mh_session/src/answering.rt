@@ -25,7 +25,7 @@ fn serve(
     command: &Command,
 ) -> Result<Vec<u8>, Memory>
     requires { IsCommandOf session.old.table command.now }
-    ensures told { IsMeaningAnswered grammar.now (Asks command.now) session.old session.new result }
+    ensures answered { IsMeaningAnswered grammar.now (Asks command.now) session.old session.new result }
     ensures table { session.new.table ≡ session.old.table }
 {
     let answer = session.step(command);
@@ -44,7 +44,7 @@ pub fn answer_line(
 ) -> Result<Vec<u8>, Memory>
     requires names { vocabulary_in lexicon.now ≡ vocabulary_of grammar.now }
     requires same { session.old.table.grammar ≡ plain_of grammar.now }
-    ensures told { IsLineAnswered grammar.now line.now session.old session.new result }
+    ensures answered { IsLineAnswered grammar.now line.now session.old session.new result }
     ensures table { session.new.table ≡ session.old.table }
 {
     match read_command_by(alloc, lexicon, line) {

@@ -16,3 +16,4 @@ pub use mh_session_branches::{Command, CommandFault, Reply, SessionFault, one_an
 pub use reading::read_command;
 pub use run::answer_all;
 pub use session::Session;
+pub use texts::write_names;

@@ -15,6 +15,7 @@ pub(crate) fn replying(command: &Command) -> &[u8]
         Command::Fork { fresh, .. } => fresh.as_slice(),
         Command::Show { name } => name.as_slice(),
         Command::Tree { name } => name.as_slice(),
+        Command::Expected { name } => name.as_slice(),
         Command::Forget { name } => name.as_slice(),
     }
 }

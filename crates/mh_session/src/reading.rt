@@ -24,6 +24,7 @@ enum LineForm<'a> {
     Fork { name: &'a [u8], fresh: &'a [u8] },
     Show { name: &'a [u8] },
     Tree { name: &'a [u8] },
+    Expected { name: &'a [u8] },
     Forget { name: &'a [u8] },
 }
 
@@ -46,6 +47,8 @@ fn with_one<'a>(verb: &[u8], name: &'a [u8]) -> Option<LineForm<'a>>
         Some(LineForm::Show { name })
     } else if is_text(verb, b"tree") {
         Some(LineForm::Tree { name })
+    } else if is_text(verb, b"expected") {
+        Some(LineForm::Expected { name })
     } else if is_text(verb, b"forget") {
         Some(LineForm::Forget { name })
     } else {
@@ -160,6 +163,9 @@ fn command_of(
         LineForm::Tree { name } => Ok(Command::Tree {
             name: from_bytes(alloc, name)?,
         }),
+        LineForm::Expected { name } => Ok(Command::Expected {
+            name: from_bytes(alloc, name)?,
+        }),
         LineForm::Forget { name } => Ok(Command::Forget {
             name: from_bytes(alloc, name)?,
         }),
@@ -181,10 +187,10 @@ pub(crate) fn read_command_by(
 }
 
 /// Reads the command of a line: `begin NAME`, `begin NAME START`, `offer NAME TOKEN`, `resume NAME`, `fork NAME NAME`,
-/// `show NAME`, `tree NAME` or `forget NAME`, with blanks between and around these words. Fails with `Unreadable` for
-/// any other form, with `MissingStart` or `UnknownStart` for the start, with `UnknownToken` for the token, and with
-/// `Memory` only if memory runs out. It collects the names of the grammar on each call; `answer_line` takes a lexicon
-/// that is made once for many lines.
+/// `show NAME`, `tree NAME`, `expected NAME` or `forget NAME`, with blanks between and around these words. Fails with
+/// `Unreadable` for any other form, with `MissingStart` or `UnknownStart` for the start, with `UnknownToken` for the
+/// token, and with `Memory` only if memory runs out. It collects the names of the grammar on each call; `answer_line`
+/// takes a lexicon that is made once for many lines.
 pub fn read_command(alloc: Global, grammar: &Grammar, line: &[u8]) -> Result<Command, CommandFault>
     requires { IsInRange (plain_of grammar.now) }
     ensures { ReadsCommand (vocabulary_of grammar.now) line.now result }

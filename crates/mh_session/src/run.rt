@@ -2,7 +2,7 @@
 ghost use Rattle.std.specs.Prelude.{◌≡◌, ◌↔◌, [], IfOk, OnOk, IsTrue, Err};
 ghost use Rattle.mh_session_branches.specs.declared.reply.SessionFault.TheVariants as faults;
 ghost use Rattle.std.specs.List.{All};
-ghost use Rattle.mh_session_branches.specs.Answers.{IsCommandOf, answers};
+ghost use Rattle.mh_session_branches.specs.Answers.{IsCommandOf, AreAnswers};
 
 use crate::session::Session;
 use mh_grammar::Memory;
@@ -18,7 +18,7 @@ pub fn answer_all(
     commands: &[Command],
 ) -> Result<Vec<Result<Reply, SessionFault>>, Memory>
     requires { All (IsCommandOf table.now) commands.now }
-    ensures { IfOk result (λ v. v.items ≡ answers table.now [] commands.now) }
+    ensures { IfOk result (λ v. AreAnswers table.now [] commands.now v.items) }
 {
     let mut session = Session::new(alloc, table);
     let mut answers = Vec::new(alloc);
@@ -45,7 +45,7 @@ fn answer_each(
     requires known { All (IsCommandOf session.old.table) commands.now }
     requires none { session.old.held ≡ [] }
     requires empty { so_far.old.items ≡ [] }
-    ensures { OnOk result (so_far.new.items ≡ answers session.old.table [] commands.now) }
+    ensures { OnOk result (AreAnswers session.old.table [] commands.now so_far.new.items) }
 {
     for command in commands {
         let answer = session.step(command);

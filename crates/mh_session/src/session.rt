@@ -6,12 +6,13 @@ ghost use Rattle.mh_session_branches.specs.declared.reply.Reply.TheVariants as r
 ghost use Rattle.mh_session_branches.specs.declared.reply.SessionFault.TheVariants as faults;
 ghost use Rattle.mh_session_branches.specs.Names.{at_name};
 ghost use Rattle.mh_session.specs.code.ChangesName.{ChangesName};
-ghost use Rattle.mh_session_branches.specs.Answers.{IsCommandOf, Branches, answer, next};
+ghost use Rattle.mh_session_branches.specs.Answers.{IsCommandOf, Branches, IsAnswer, branches_after_command};
 ghost use Rattle.mh_session.specs.Represents.{Represents};
 ghost use Rattle.mh_session.specs.Served.{IsServed};
 ghost use Rattle.mh_session_branches.specs.declared.command.Command.TheVariants as commands;
 
 use mh_engine::{Checkpoint, Phase, ResumeFault, begin};
+use mh_expected::expected_at;
 use mh_grammar::{Name, Token};
 use mh_session_branches::{Command, Reply, SessionFault};
 use mh_tables_core::Halting;
@@ -82,10 +83,10 @@ impl<'t> Session<'t> {
     pub fn step(&mut self, command: &Command) -> Result<Reply, SessionFault>
         requires { IsCommandOf self.old.table command.now }
         ensures served { IsServed self.old command.now self.new result }
-        ensures reply { IfOk result (λ r. (bs : Branches) → Represents self.old bs → answer self.old.table bs command.now ≡ Ok r) }
-        ensures next { OnOk result ((bs : Branches) → Represents self.old bs → Represents self.new (next self.old.table bs command.now)) }
+        ensures reply { IfOk result (λ r. (bs : Branches) → Represents self.old bs → IsAnswer self.old.table bs command.now (Ok r)) }
+        ensures next { OnOk result ((bs : Branches) → Represents self.old bs → Represents self.new (branches_after_command bs command.now)) }
         ensures same { OnErr result (self.new ≡ self.old) }
-        ensures fault { IfErr result (λ f. (f ≡ faults.Memory) ⊎ ((bs : Branches) → Represents self.old bs → answer self.old.table bs command.now ≡ Err f)) }
+        ensures fault { IfErr result (λ f. (f ≡ faults.Memory) ⊎ ((bs : Branches) → Represents self.old bs → IsAnswer self.old.table bs command.now (Err f))) }
         ensures table { self.new.table ≡ self.old.table }
     {
         self.serve(command)
@@ -103,6 +104,7 @@ impl<'t> Session<'t> {
             Command::Fork { name, fresh } => self.fork(name, fresh),
             Command::Show { name } => self.show(name),
             Command::Tree { name } => self.tree(name),
+            Command::Expected { name } => self.expected(name),
             Command::Forget { name } => self.forget(name),
         }
     }
@@ -184,6 +186,22 @@ impl<'t> Session<'t> {
             None => Err(SessionFault::WrongPhase {
                 phase: checkpoint.phase(),
             }),
+        }
+    }
+
+    fn expected(&mut self, name: &Name) -> Result<Reply, SessionFault>
+        ensures { IsServed self.old (commands.Expected name.now) self.new result }
+    {
+        let Some(checkpoint) = self.find(name) else {
+            return Err(SessionFault::UnknownName);
+        };
+        let phase = checkpoint.phase();
+        match phase {
+            Phase::InputNeeded { state: _ } => {
+                let tokens = expected_at(self.alloc, self.table, checkpoint)?;
+                Ok(Reply::Expected(tokens))
+            }
+            _ => Err(SessionFault::WrongPhase { phase }),
         }
     }
 

@@ -5,7 +5,7 @@ use Rattle.std.specs.List.{list_all}
 use Rattle.mh_lex_bytes.specs.Words.{is_word}
 use Rattle.mh_msgfile.specs.Sentences.{Vocabulary, pieces}
 use Rattle.mh_grammar.specs.Text.{Text}
-use Rattle.mh_session_branches.specs.LineForms.{Form, BeginOnly, BeginAt, OfferTo, ResumeOf, ForkTo, ShowOf, TreeOf, ForgetOf, words_of, HasForm, LineMeaning, meaning_of_form, LineMeans}
+use Rattle.mh_session_branches.specs.LineForms.{Form, BeginOnly, BeginAt, OfferTo, ResumeOf, ForkTo, ShowOf, TreeOf, ExpectedOf, ForgetOf, words_of, HasForm, LineMeaning, meaning_of_form, LineMeans}
 use Rattle.mh_session_branches.specs.FormOfLine.{form_with_one_name, form_with_two_names, form_of_words, form_of}
 
 -- The form found from the words of a form is this form.
@@ -18,6 +18,7 @@ of_its_words (ResumeOf name) = refl
 of_its_words (ForkTo name fresh) = refl
 of_its_words (ShowOf name) = refl
 of_its_words (TreeOf name) = refl
+of_its_words (ExpectedOf name) = refl
 of_its_words (ForgetOf name) = refl
 
 by_bool : (b : Bool) (x : Option Form) → b ≡ true → (if b then x else None) ≡ x

@@ -1,6 +1,6 @@
 -- The definition of the answer to a session command: the run of the branch that the command names is made anew from its
 -- start. The definition is this project's own.
-use Rattle.std.specs.Prelude.{◌<◌, ℕ, List, [], ◌∷◌, length, Option, Some, None, Result, Ok, Err, cond}
+use Rattle.std.specs.Prelude.{◌≡◌, ◌<◌, ℕ, List, [], ◌∷◌, length, Option, Some, None, Result, Ok, Err, cond}
 use Rattle.mh_tables_core.specs.Table.{TableData}
 use Rattle.mh_grammar.specs.Trees.{SyntaxTree, Leaf}
 use Rattle.mh_tables_core.specs.TooDeep.{too_deep}
@@ -8,6 +8,7 @@ use Rattle.mh_engine.specs.Phases.{phase_of}
 use Rattle.mh_engine.specs.Branches.{Branch, new_branch, with_token, with_step, position_of}
 use Rattle.mh_engine.specs.declared.phase.Phase.{Phase}
 use Rattle.mh_engine.specs.declared.phase.Phase.TheVariants as phases
+use Rattle.mh_expected.specs.Expected.{ExpectedTokens}
 use Rattle.mh_session_branches.specs.declared.command.Command.{Command}
 use Rattle.mh_session_branches.specs.declared.command.Command.TheVariants as commands
 use Rattle.mh_session_branches.specs.declared.reply.Reply.{Reply}
@@ -74,14 +75,31 @@ abbrev pub if_name_free : Option Branch → Answer → Answer
 if_name_free None a = a
 if_name_free (Some b) a = Err faults.NameTaken
 
-abbrev pub answer : TableData → Branches → Command → Answer
-answer t bs (commands.Begin name start) = if_name_free (at_name name bs) (phase_answer t (new_branch start))
-answer t bs (commands.Offer name token) = if_name_held (at_name name bs) (λ b. answer_to_offer t b token (phase_at t b))
-answer t bs (commands.Resume name) = if_name_held (at_name name bs) (λ b. answer_to_resume t b (phase_at t b))
-answer t bs (commands.Fork name fresh) = if_name_held (at_name name bs) (λ b. if_name_free (at_name fresh bs) (phase_answer t b))
-answer t bs (commands.Show name) = if_name_held (at_name name bs) (phase_answer t)
-answer t bs (commands.Tree name) = if_name_held (at_name name bs) (λ b. answer_to_tree t b (phase_at t b))
-answer t bs (commands.Forget name) = if_name_held (at_name name bs) (λ b. Ok replies.Forgotten)
+-- The answer to `expected` for a branch in this phase: the list of the tokens that are expected after the tokens of the
+-- branch, or the fault of a wrong phase.
+abbrev pub ListsExpected : TableData → Branch → Phase → Answer → Type 0
+ListsExpected t b (phases.InputNeeded s) a = (list : List ℕ) × ExpectedTokens t b.start b.offered list × (Ok (replies.Expected list) ≡ a)
+ListsExpected t b (phases.Shifting s y) a = Err (faults.WrongPhase (phases.Shifting s y)) ≡ a
+ListsExpected t b (phases.AboutToReduce s p) a = Err (faults.WrongPhase (phases.AboutToReduce s p)) ≡ a
+ListsExpected t b (phases.HandlingError s) a = Err (faults.WrongPhase (phases.HandlingError s)) ≡ a
+ListsExpected t b phases.Accepted a = Err (faults.WrongPhase phases.Accepted) ≡ a
+ListsExpected t b phases.Rejected a = Err (faults.WrongPhase phases.Rejected) ≡ a
+
+-- If the name has no branch, the answer is the fault `UnknownName`; otherwise the branch and the answer are related.
+abbrev pub IsAnswerIfHeld : Option Branch → (Branch → Answer → Type 0) → Answer → Type 0
+IsAnswerIfHeld None Is a = Err faults.UnknownName ≡ a
+IsAnswerIfHeld (Some b) Is a = Is b a
+
+-- The answer to a command.
+abbrev pub IsAnswer : TableData → Branches → Command → Answer → Type 0
+IsAnswer t bs (commands.Begin name start) a = if_name_free (at_name name bs) (phase_answer t (new_branch start)) ≡ a
+IsAnswer t bs (commands.Offer name token) a = if_name_held (at_name name bs) (λ b. answer_to_offer t b token (phase_at t b)) ≡ a
+IsAnswer t bs (commands.Resume name) a = if_name_held (at_name name bs) (λ b. answer_to_resume t b (phase_at t b)) ≡ a
+IsAnswer t bs (commands.Fork name fresh) a = if_name_held (at_name name bs) (λ b. if_name_free (at_name fresh bs) (phase_answer t b)) ≡ a
+IsAnswer t bs (commands.Show name) a = if_name_held (at_name name bs) (phase_answer t) ≡ a
+IsAnswer t bs (commands.Tree name) a = if_name_held (at_name name bs) (λ b. answer_to_tree t b (phase_at t b)) ≡ a
+IsAnswer t bs (commands.Expected name) a = IsAnswerIfHeld (at_name name bs) (λ b. ListsExpected t b (phase_at t b)) a
+IsAnswer t bs (commands.Forget name) a = if_name_held (at_name name bs) (λ b. Ok replies.Forgotten) ≡ a
 
 -- The branches after the branch of a name, if there is one, is changed by f and given to a name.
 abbrev pub with_changed_branch : Text → Option Branch → (Branch → Branch) → Branches → Branches
@@ -95,15 +113,13 @@ branches_after_command bs (commands.Resume name) = with_changed_branch name (at_
 branches_after_command bs (commands.Fork name fresh) = with_changed_branch fresh (at_name name bs) (λ b. b) bs
 branches_after_command bs (commands.Show name) = bs
 branches_after_command bs (commands.Tree name) = bs
+branches_after_command bs (commands.Expected name) = bs
 branches_after_command bs (commands.Forget name) = without_name name bs
 
 -- The branches after a command with this answer; a refused command changes nothing.
 abbrev pub branches_after_answer : Answer → Branches → Command → Branches
 branches_after_answer (Ok reply) bs command = branches_after_command bs command
 branches_after_answer (Err fault) bs command = bs
-
-abbrev pub next : TableData → Branches → Command → Branches
-next t bs command = branches_after_answer (answer t bs command) bs command
 
 -- The start or token of the command is one of the table.
 abbrev pub IsCommandOf : TableData → Command → Type 0
@@ -113,9 +129,11 @@ IsCommandOf t (commands.Resume name) = Unit {0}
 IsCommandOf t (commands.Fork name fresh) = Unit {0}
 IsCommandOf t (commands.Show name) = Unit {0}
 IsCommandOf t (commands.Tree name) = Unit {0}
+IsCommandOf t (commands.Expected name) = Unit {0}
 IsCommandOf t (commands.Forget name) = Unit {0}
 
 -- The answers to a list of commands, one after another.
-abbrev pub answers : TableData → Branches → List Command → List Answer
-answers t bs [] = []
-answers t bs (command ∷ rest) = answer t bs command ∷ answers t (next t bs command) rest
+abbrev pub AreAnswers : TableData → Branches → List Command → List Answer → Type 0
+AreAnswers t bs [] more = more ≡ []
+AreAnswers t bs (command ∷ rest) [] = ⊥
+AreAnswers t bs (command ∷ rest) (a ∷ more) = IsAnswer t bs command a × AreAnswers t (branches_after_answer a bs command) rest more

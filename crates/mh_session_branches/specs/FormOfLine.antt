@@ -5,7 +5,7 @@ use Rattle.mh_lex_bytes.specs.Words.{is_word}
 use Rattle.mh_msgfile.specs.Sentences.{pieces}
 use Rattle.mh_grammar.specs.Text.{Text}
 use Rattle.mh_session_branches.specs.Names.{same}
-use Rattle.mh_session_branches.specs.LineForms.{Form, BeginOnly, BeginAt, OfferTo, ResumeOf, ForkTo, ShowOf, TreeOf, ForgetOf}
+use Rattle.mh_session_branches.specs.LineForms.{Form, BeginOnly, BeginAt, OfferTo, ResumeOf, ForkTo, ShowOf, TreeOf, ExpectedOf, ForgetOf}
 
 -- The form of a line of two words: a verb and a name.
 unfoldable pub form_with_one_name : Text → Text → Option Form
@@ -14,6 +14,7 @@ form_with_one_name verb name =
     else if same verb (codes "resume") then Some (ResumeOf name)
     else if same verb (codes "show") then Some (ShowOf name)
     else if same verb (codes "tree") then Some (TreeOf name)
+    else if same verb (codes "expected") then Some (ExpectedOf name)
     else if same verb (codes "forget") then Some (ForgetOf name)
     else None
 

@@ -18,6 +18,7 @@ pub data Form : Type 0 where
   ForkTo : (name fresh : Text) → Form
   ShowOf : (name : Text) → Form
   TreeOf : (name : Text) → Form
+  ExpectedOf : (name : Text) → Form
   ForgetOf : (name : Text) → Form
 
 abbrev pub words_of : Form → List Text
@@ -28,6 +29,7 @@ words_of (ResumeOf name) = codes "resume" ∷ name ∷ []
 words_of (ForkTo name fresh) = codes "fork" ∷ name ∷ fresh ∷ []
 words_of (ShowOf name) = codes "show" ∷ name ∷ []
 words_of (TreeOf name) = codes "tree" ∷ name ∷ []
+words_of (ExpectedOf name) = codes "expected" ∷ name ∷ []
 words_of (ForgetOf name) = codes "forget" ∷ name ∷ []
 
 -- The line has this form: its pieces between blanks are exactly the words of the form, and each piece is a word of
@@ -65,6 +67,7 @@ meaning_of_form v (ResumeOf name) = Asks (commands.Resume name)
 meaning_of_form v (ForkTo name fresh) = Asks (commands.Fork name fresh)
 meaning_of_form v (ShowOf name) = Asks (commands.Show name)
 meaning_of_form v (TreeOf name) = Asks (commands.Tree name)
+meaning_of_form v (ExpectedOf name) = Asks (commands.Expected name)
 meaning_of_form v (ForgetOf name) = Asks (commands.Forget name)
 
 -- The line has a form with this meaning.

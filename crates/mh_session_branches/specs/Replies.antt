@@ -7,6 +7,7 @@ use Rattle.mh_grammar.specs.Trees.{tree_text}
 use Rattle.mh_grammar_texts.specs.Productions.{production_text}
 use Rattle.mh_engine.specs.declared.phase.Phase.{Phase}
 use Rattle.mh_engine.specs.declared.phase.Phase.TheVariants as phases
+use Rattle.mh_msgfile.specs.FileTexts.{names_after}
 use Rattle.mh_msgfile.specs.Sentences.{vocabulary_of}
 use Rattle.mh_session_branches.specs.declared.command.Command.{Command}
 use Rattle.mh_session_branches.specs.declared.command.Command.TheVariants as commands
@@ -14,7 +15,7 @@ use Rattle.mh_session_branches.specs.declared.reply.Reply.{Reply}
 use Rattle.mh_session_branches.specs.declared.reply.Reply.TheVariants as replies
 use Rattle.mh_session_branches.specs.declared.reply.SessionFault.{SessionFault}
 use Rattle.mh_session_branches.specs.declared.reply.SessionFault.TheVariants as faults
-use Rattle.mh_session_branches.specs.Answers.{Branches, Answer, answer, next}
+use Rattle.mh_session_branches.specs.Answers.{Branches, Answer, IsAnswer, branches_after_answer}
 use Rattle.mh_session_branches.specs.LineForms.{Form, HasForm, LineMeaning, Asks, NamesNoStart, LacksStart, NamesNoToken, LineMeans}
 use Rattle.mh_grammar.specs.Text.{Text}
 
@@ -39,6 +40,7 @@ phase_details g phases.Rejected = []
 abbrev pub reply_text : Grammar → Text → Reply → Text
 reply_text g name (replies.Phase p) = name ++ codes " " ++ phase_word p ++ phase_details g p ++ codes "\n"
 reply_text g name (replies.Tree tree) = name ++ codes " " ++ tree_text g tree ++ codes "\n"
+reply_text g name (replies.Expected tokens) = name ++ codes " expected" ++ names_after g tokens ++ codes "\n"
 reply_text g name replies.Forgotten = name ++ codes " forgotten\n"
 
 -- The text of a fault. If memory runs out the session ends, so that fault has no text.
@@ -57,28 +59,22 @@ replied_name (commands.Resume name) = name
 replied_name (commands.Fork name fresh) = fresh
 replied_name (commands.Show name) = name
 replied_name (commands.Tree name) = name
+replied_name (commands.Expected name) = name
 replied_name (commands.Forget name) = name
 
 abbrev pub answer_text : Grammar → Text → Answer → Text
 answer_text g name (Ok reply) = reply_text g name reply
 answer_text g name (Err fault) = fault_text fault
 
--- The text that answers a line with this meaning, for these branches.
-abbrev pub meaning_text : Grammar → TableData → Branches → LineMeaning → Text
-meaning_text g t bs (Asks command) = answer_text g (replied_name command) (answer t bs command)
-meaning_text g t bs (NamesNoStart name) = codes "error: unknown start " ++ name ++ codes "\n"
-meaning_text g t bs LacksStart = codes "error: missing start\n"
-meaning_text g t bs (NamesNoToken name) = codes "error: unknown token " ++ name ++ codes "\n"
-
--- The branches after a line with this meaning.
-abbrev pub branches_after_meaning : TableData → Branches → LineMeaning → Branches
-branches_after_meaning t bs (Asks command) = next t bs command
-branches_after_meaning t bs (NamesNoStart name) = bs
-branches_after_meaning t bs LacksStart = bs
-branches_after_meaning t bs (NamesNoToken name) = bs
+-- The text that answers a line with this meaning, for these branches, and the branches after the line.
+abbrev pub AnswersMeaning : Grammar → TableData → Branches → LineMeaning → Text → Branches → Type 0
+AnswersMeaning g t bs (Asks command) text after = (a : Answer) × IsAnswer t bs command a × (text ≡ answer_text g (replied_name command) a) × (after ≡ branches_after_answer a bs command)
+AnswersMeaning g t bs (NamesNoStart name) text after = (text ≡ codes "error: unknown start " ++ name ++ codes "\n") × (after ≡ bs)
+AnswersMeaning g t bs LacksStart text after = (text ≡ codes "error: missing start\n") × (after ≡ bs)
+AnswersMeaning g t bs (NamesNoToken name) text after = (text ≡ codes "error: unknown token " ++ name ++ codes "\n") × (after ≡ bs)
 
 -- The line is answered by this text, and the branches after the line are `after`.
 abbrev pub AnswersLine : Grammar → TableData → Branches → Text → Text → Branches → Type 0
 AnswersLine g t bs line text after =
-    ((said : LineMeaning) × LineMeans (vocabulary_of g) line said × (text ≡ meaning_text g t bs said) × (after ≡ branches_after_meaning t bs said))
+    ((said : LineMeaning) × LineMeans (vocabulary_of g) line said × AnswersMeaning g t bs said text after)
     ⊎ (((form : Form) → HasForm line form → ⊥) × (text ≡ codes "error: unreadable\n") × (after ≡ bs))

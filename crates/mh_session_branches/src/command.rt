@@ -16,6 +16,8 @@ pub enum Command {
     Show { name: Name },
     /// Asks for the tree of a branch that accepts.
     Tree { name: Name },
+    /// Asks for the tokens that are expected at a branch that asks for a token.
+    Expected { name: Name },
     /// Removes a name and its branch.
     Forget { name: Name },
 }

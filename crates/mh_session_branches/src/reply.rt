@@ -3,6 +3,7 @@ ghost use Rattle.std.specs.Prelude.{◌≡◌};
 ghost use Rattle.mh_session_branches.specs.declared.reply.SessionFault.TheVariants as faults;
 
 use mh_engine::Phase;
+use mh_expected::TokenList;
 use mh_grammar::Memory;
 use mh_tree::Tree;
 use std::alloc::{AllocError, AllocFailed};
@@ -13,6 +14,8 @@ pub enum Reply {
     /// The phase of the branch: after a fork that of the fresh branch, else that of the named branch.
     Phase(Phase),
     Tree(Tree),
+    /// The tokens that are expected at the branch, in rising order.
+    Expected(TokenList),
     Forgotten,
 }
 

@@ -12,7 +12,7 @@ use crate::checkpoints_and_sessions::{
     checkpoints, lines_of_a_session, unknown_token, whole_session,
 };
 use crate::from_text_to_verdict::{automaton_of, grammar_of, is_small, table_of, traces, verdicts};
-use crate::small_rooms::derivations;
+use crate::small_rooms::{derivations, sentences};
 use crate::tables_and_validation::{
     automata, automaton_as_text, cells, items, read_and_tested, warnings, written,
 };
@@ -77,6 +77,7 @@ fn with_grammar(rt: &impl Abort, alloc: Global, grammar: &Grammar) -> Result<(),
     requires costs { HaveCosts grammar.now.tokens }
 {
     derivations(rt, alloc, grammar)?;
+    sentences(rt, alloc, grammar)?;
     made_by_hand(rt, alloc, grammar)?;
     unknown_token(rt, alloc, grammar)?;
     lines(rt, alloc, grammar)?;

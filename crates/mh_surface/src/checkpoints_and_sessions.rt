@@ -1,12 +1,14 @@
 //! Runs in steps: checkpoints, which are immutable; and sessions, which store checkpoints by name.
-ghost use Rattle.std.specs.Prelude.{◌≡◌, ◌<◌, ◌↔◌, length, All, IfOk, IsTrue};
+ghost use Rattle.std.specs.Prelude.{◌≡◌, ◌<◌, ◌↔◌, ◌^◌, length, All, IfOk, IsTrue};
 ghost use Rattle.mh_engine.specs.Phases.{CanResume};
 ghost use Rattle.mh_grammar.specs.Plain.{plain_of, IsInRange};
 ghost use Rattle.mh_session_branches.specs.Answers.{IsCommandOf};
 
 use crate::from_text_to_verdict::{A, EOF};
 use mh_engine::{Checkpoint, Phase, ResumeFault, begin};
+use mh_expected::{TokenList, expected, expected_at};
 use mh_grammar::{Grammar, Token};
+use mh_run::{Verdict, verdict};
 use mh_session::{
     Command, CommandFault, Reply, Session, SessionFault, answer_all, one_answer, read_command,
 };
@@ -111,6 +113,51 @@ fn check_refusal(rt: &impl Abort, alloc: Global, checkpoint: &Checkpoint<'_>) ->
     Ok(())
 }
 
+/// After `A` the states of the stack are 0 and 1, and only `EOF` is expected.
+fn check_expected(
+    rt: &impl Abort,
+    alloc: Global,
+    table: &Halting,
+    checkpoint: &Checkpoint<'_>,
+) -> Result<(), Fail>
+    requires { table.now ≡ checkpoint.now.table }
+{
+    let Phase::InputNeeded { state: _ } = checkpoint.phase() else {
+        return Err(Fail::from("no token is asked for"));
+    };
+    let states = checkpoint.states(alloc)?;
+    let is_stack = matches!(states.as_slice(), [0, 1]);
+    drop(states);
+    let tokens = expected_at(alloc, table, checkpoint)?;
+    let is_end = tokens.get(0) == Some(EOF) && tokens.get(1).is_none();
+    drop(tokens);
+    assert!(rt; is_stack && is_end);
+    Ok(())
+}
+
+/// The tokens that are expected after a sentence, whose verdict must be `Overshoot`.
+fn expected_after(alloc: Global, table: &Halting, sentence: &[Token]) -> Result<TokenList, Fail>
+    requires start { 0 < length table.now.grammar.starts }
+    requires tokens { All (λ z. z < table.now.grammar.tokens) sentence.now }
+    requires few { length sentence.now < 2 ^ 32 }
+{
+    match verdict(alloc, table, 0, sentence)? {
+        Verdict::Overshoot { state: _ } => Ok(expected(alloc, table, 0, sentence)?),
+        _ => Err(Fail::from("the sentence does not overshoot")),
+    }
+}
+
+/// Before any token, only `A` is expected.
+fn check_first(rt: &impl Abort, alloc: Global, table: &Halting) -> Result<(), Fail>
+    requires { 0 < length table.now.grammar.starts }
+{
+    let tokens = expected_after(alloc, table, &[])?;
+    let is_first = tokens.get(0) == Some(A) && tokens.get(1).is_none();
+    drop(tokens);
+    assert!(rt; is_first);
+    Ok(())
+}
+
 /// The checkpoint after `A` is not changed by the steps of its branches.
 fn check_branches(rt: &impl Abort, alloc: Global, checkpoint: &Checkpoint<'_>) -> Result<(), Fail>
     requires { 1 < checkpoint.now.table.grammar.tokens }
@@ -128,11 +175,15 @@ pub fn checkpoints(rt: &impl Abort, alloc: Global, table: &Halting) -> Result<()
     if table.table().starts() < 1 || table.table().tokens() < 2 {
         return Err(Fail::from("a start and two tokens"));
     }
+    check_first(rt, alloc, table)?;
     let first = begin(table, 0);
     let after = shifted(alloc, &first, A);
     drop(first);
     let after = after?;
-    let result = check_branches(rt, alloc, &after);
+    let result = match check_branches(rt, alloc, &after) {
+        Ok(()) => check_expected(rt, alloc, table, &after),
+        Err(fail) => Err(fail),
+    };
     drop(after);
     result
 }
@@ -148,6 +199,7 @@ fn is_known(table: &Halting, command: &Command) -> bool
         Command::Fork { name: _, fresh: _ } => true,
         Command::Show { name: _ } => true,
         Command::Tree { name: _ } => true,
+        Command::Expected { name: _ } => true,
         Command::Forget { name: _ } => true,
     }
 }
@@ -167,6 +219,14 @@ fn put_phase(text: &mut String, phase: Phase) {
     };
 }
 
+/// Appends expected tokens as text.
+fn put_tokens(text: &mut String, tokens: &TokenList) {
+    let _ = text.push_str("expected");
+    for token in tokens.as_slice() {
+        let _ = write!(text, " {token}");
+    }
+}
+
 /// Appends a reply as text.
 fn put_reply(
     alloc: Global,
@@ -181,6 +241,7 @@ fn put_reply(
             let _ = text.push_str(str::from_utf8(&bytes).unwrap_or("no text"));
             drop(bytes);
         }
+        Reply::Expected(tokens) => put_tokens(text, tokens),
         Reply::Forgotten => {
             let _ = text.push_str("forgotten");
         }
@@ -330,6 +391,14 @@ fn begun_and_forked(
         table,
         session,
         "resume a = input needed in 1",
+    )?;
+    check_line(
+        rt,
+        alloc,
+        grammar,
+        table,
+        session,
+        "expected a = expected 1",
     )
 }
 

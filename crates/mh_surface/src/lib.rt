@@ -17,4 +17,6 @@ mod small_rooms;
 #[cfg(test)]
 mod tables_and_validation;
 #[cfg(test)]
+mod tables_by_hand;
+#[cfg(test)]
 mod trees;

@@ -11,7 +11,7 @@ use mh_outside::{
     read_line, write_whole,
 };
 use mh_reader::read_module;
-use mh_sample::{Sample, sample};
+use mh_sample::{Sample, Shortest, random_sentence, sample, shortest_words};
 use mh_sets::{TokenSet, with_width};
 use mh_top::menhir;
 use std::alloc::Global;
@@ -44,6 +44,35 @@ pub fn derivations(rt: &impl Abort, alloc: Global, grammar: &Grammar) -> Result<
     };
     drop(rows);
     assert!(rt; is_wanted);
+    Ok(())
+}
+
+/// The shortest word of the only nonterminal is the only sentence.
+fn shortest(rt: &impl Abort, alloc: Global, grammar: &Grammar) -> Result<(), Fail>
+    requires { IsInRange (plain_of grammar.now) }
+{
+    let words = shortest_words(alloc, grammar)?;
+    let is_wanted = match words.as_slice() {
+        [Shortest::Word(word)] => word.as_slice() == [0, 1].as_slice(),
+        _ => false,
+    };
+    drop(words);
+    assert!(rt; is_wanted);
+    Ok(())
+}
+
+/// The random sentence of at most two tokens is the only sentence.
+pub fn sentences(rt: &impl Abort, alloc: Global, grammar: &Grammar) -> Result<(), Fail>
+    requires { IsInRange (plain_of grammar.now) }
+{
+    shortest(rt, alloc, grammar)?;
+    if grammar.starts.is_empty() {
+        return Err(Fail::from("no start"));
+    }
+    let Ok(word) = random_sentence(alloc, grammar, 7, 2) else {
+        return Err(Fail::from("no sentence"));
+    };
+    assert!(rt; word.as_slice() == [0, 1].as_slice());
     Ok(())
 }
 
@@ -162,9 +191,15 @@ fn words_in(alloc: Global, text: &str) -> Result<Vec<String>, Fail> {
 
 fn is_strict_list(order: &Order) -> bool {
     let is_list = matches!(order.job, Job::ListErrors);
-    let marks = [order.strict, order.stdlib, order.canonical, order.show_cst];
+    let marks = [
+        order.strict,
+        order.stdlib,
+        order.canonical,
+        order.show_cst,
+        order.show_expected,
+    ];
     let files = order.messages.is_none() && order.tables.is_none() && order.grammars.len() == 1;
-    is_list && files && marks == [true, true, false, false]
+    is_list && files && marks == [true, true, false, false, false]
 }
 
 /// The order that the words of the command line spell.

@@ -12,6 +12,7 @@ use crate::from_text_to_verdict::{A, EOF};
 use mh_canon::canonical;
 use mh_grammar::{Edge, Grammar, Look, Memory, Symbol};
 use mh_items::{Automaton, Kernel, closure, firsts, moved, start_kernel};
+use mh_pager::weakly_compatible;
 use mh_report::{automaton_text, warning_text};
 use mh_resolve::{Conflict, ConflictKind, Mode};
 use mh_tabfile::{RawCells, RawTable, TabFault, read_tables, write_tables};
@@ -45,6 +46,15 @@ fn closed_of(alloc: Global, grammar: &Grammar, kernel: &Kernel<1>) -> Result<Ker
     closed
 }
 
+/// Returns true if a kernel is weakly compatible with itself; every kernel is.
+fn fits_itself(grammar: &Grammar, kernel: &Kernel<1>) -> bool
+    requires kernel { IsItemList (plain_of grammar.now) kernel.now }
+{
+    // Only the contract uses the grammar.
+    let _grammar = grammar;
+    weakly_compatible(kernel, kernel)
+}
+
 /// The closure of the start kernel `s' -> . s` adds `s -> . A EOF`, and on `A` this item moves to `s -> A . EOF`.
 fn check_closure(
     rt: &impl Abort,
@@ -55,7 +65,7 @@ fn check_closure(
     requires fits { FitsSets 1 grammar.now }
     requires kernel { IsItemList (plain_of grammar.now) kernel.now }
 {
-    assert!(rt; has_pairs(kernel, &[(0, 0)]));
+    assert!(rt; has_pairs(kernel, &[(0, 0)]) && fits_itself(grammar, kernel));
     let closed = closed_of(alloc, grammar, kernel)?;
     let next = moved(alloc, grammar, &closed, Symbol::T(A));
     let is_closed = has_pairs(&closed, &[(0, 0), (1, 0)]);

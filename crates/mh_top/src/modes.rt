@@ -12,8 +12,8 @@ use mh_outside::{Shelf, Sink, Source};
 use mh_top_drive::Stop;
 use mh_top_lists::{ErrorList, SampleCounts};
 use mh_top_modes::{
-    AutomatonText, TableFile, compare_errors, compile_errors, echo_errors, explain, interpret,
-    run_session, update_errors,
+    AutomatonText, RandomSentence, ShortestWords, TableFile, compare_errors, compile_errors,
+    echo_errors, explain, interpret, run_session, update_errors,
 };
 use mh_top_plans::{write_at_end, write_made};
 use mh_top_types::Prepared;
@@ -48,6 +48,16 @@ pub(crate) fn run_mode<F: Shelf, I: Source, O: Sink, const W: usize>(
         Job::Sample { number } => {
             let number = *number;
             write_at_end(alloc, SampleCounts { prepared, number }, input, out)
+        }
+        Job::ShortestSentences => write_at_end(alloc, ShortestWords { prepared }, input, out),
+        Job::RandomSentence { seed, length } => {
+            let (seed, length) = (*seed, *length);
+            let writer = RandomSentence {
+                prepared,
+                seed,
+                length,
+            };
+            write_at_end(alloc, writer, input, out)
         }
         Job::CompileErrors { file } => {
             let made = compile_errors(alloc, prepared, shelf, file.as_slice());

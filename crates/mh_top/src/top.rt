@@ -1,8 +1,9 @@
 //! The top call: the whole tool as one function.
-ghost use Rattle.std.specs.Prelude.{◌≡◌, ◌≤◌, List, length, map, string_bytes};
+ghost use Rattle.std.specs.Prelude.{◌≡◌, ◌<◌, ◌≤◌, List, length, map, string_bytes};
 ghost use Rattle.std.specs.List.{All};
 ghost use Rattle.mh_grammar.specs.Costs.{HaveCosts};
 ghost use Rattle.mh_grammar.specs.Plain.{plain_of, IsInRange};
+ghost use Rattle.mh_opts.specs.Orders.{IsWithinLimits};
 ghost use Rattle.mh_rules.specs.declared.joined.TheConstants.{MAX_TOKENS};
 ghost use Rattle.mh_validate_valid.specs.Valid.{AreTokenNamesDistinct};
 ghost use Rattle.mh_grammar.specs.Text.{Text};
@@ -67,6 +68,8 @@ fn work_on<F: Shelf, I: Source, O: Sink, E: Sink, const W: usize>(
     err: &mut E,
 ) -> Result<(), Stop>
     requires fits { FitsSets W front.grammar }
+    requires start { 0 < length front.grammar.starts }
+    requires limits { IsWithinLimits front.order.job }
     requires costs { HaveCosts front.grammar.tokens }
     requires apart { AreTokenNamesDistinct front.grammar }
     requires tables { MayAskForTables front.order (F.MayAsk shelf.old) }
@@ -100,6 +103,8 @@ fn work_at_width<F: Shelf, I: Source, O: Sink, E: Sink>(
 ) -> Result<(), Stop>
     requires tokens { length front.grammar.tokens ≤ MAX_TOKENS }
     requires range { IsInRange (plain_of front.grammar) }
+    requires start { 0 < length front.grammar.starts }
+    requires limits { IsWithinLimits front.order.job }
     requires costs { HaveCosts front.grammar.tokens }
     requires apart { AreTokenNamesDistinct front.grammar }
     requires tables { MayAskForTables front.order (F.MayAsk shelf.old) }

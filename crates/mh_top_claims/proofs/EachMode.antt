@@ -1,9 +1,9 @@
 -- All lemmas that have one case for each job, for each end and for each plan.
-use Rattle.std.proofs.Common.{◌≡◌, ◌∷◌, List, Option, None, Some, [], sym, ◌∙◌, ap, subst, refl}
+use Rattle.std.proofs.Common.{◌≡◌, ◌∷◌, ℕ, List, Option, None, Some, [], sym, ◌∙◌, ap, subst, refl}
 use Rattle.std.specs.Bool.{⊤}
 use Rattle.mh_grammar.specs.declared.types.Grammar.{Grammar}
 use Rattle.mh_opts.specs.declared.jobs.Job.{Job}
-use Rattle.mh_opts.specs.declared.jobs.Job.TheVariants.{Interpret, InterpretError, Session, ShowAutomaton, WriteTables, ListErrors, CompareErrors, CompileErrors, EchoErrors, UpdateErrors, Sample}
+use Rattle.mh_opts.specs.declared.jobs.Job.TheVariants.{Interpret, InterpretError, Session, ShowAutomaton, WriteTables, ListErrors, CompareErrors, CompileErrors, EchoErrors, UpdateErrors, Sample, ShortestSentences, RandomSentence}
 use Rattle.mh_outside.specs.Shelf.{Files, FileFound}
 use Rattle.mh_report.proofs.OneAutomatonText.{text_once}
 use Rattle.mh_session_branches.proofs.OneAnswer.{answer_once as line_once}
@@ -12,6 +12,7 @@ use Rattle.mh_tables_core.specs.Table.{TableData}
 use Rattle.mh_check.specs.Compiling.{missing}
 use Rattle.mh_check.specs.Texts.{compiled_text}
 use Rattle.mh_msgfile.specs.FileTexts.{echo_text}
+use Rattle.mh_sample.proofs.ShortestTextUnique.{shortest_text_once}
 use Rattle.mh_grammar.specs.Text.{Text}
 use Rattle.mh_top_drive.specs.StageResults.{StageResult, Go, Halt}
 use Rattle.mh_top_drive.specs.ModeBehavior.{ModeEnd}
@@ -25,7 +26,7 @@ use Rattle.mh_top_plans.specs.Compared.{comparison_result}
 use Rattle.mh_top_plans.specs.Files.{files_of_job, optional_file}
 use Rattle.mh_top_plans.specs.Listing.{ListsErrors, Lists, TooLong, too_long}
 use Rattle.mh_top_plans.specs.MessagesFiles.{AreMessagesOfBoth, AreMessages, IsMessagesFile, IsUpdatedFile, Messages}
-use Rattle.mh_top_plans.specs.Plan.{Answers, Automaton, FinalOutput, Ends, IsFinalOutput, EndsWith, Errors, Explains, IsPlanOfJob, Judges, Known, AreOptionalMessages, Plan, Serves, halts, judging_plan, plan_of_stage, table_file_text, writing_plan, Sampled}
+use Rattle.mh_top_plans.specs.Plan.{Answers, Automaton, FinalOutput, Ends, IsFinalOutput, EndsWith, Errors, Explains, IsPlanOfJob, Judges, Known, AreOptionalMessages, Plan, Serves, halts, judging_plan, plan_of_stage, table_file_text, writing_plan, Sampled, Shortest, Random}
 use Rattle.mh_top_plans.specs.Verdicts.{VerdictContext}
 use Rattle.mh_top_plans.specs.declared.at_end.FinalText.{FinalText}
 use Rattle.mh_top_plans.specs.declared.at_end.FinalText.TheVariants.{Written, Refusal}
@@ -36,6 +37,7 @@ use Rattle.mh_top_claims.proofs.IsUpdatedFile.{one_updated}
 use Rattle.mh_top_plans.proofs.FilesOfMode.{ReadFacts, PreparedFacts, StopsAllowed, one_file}
 use Rattle.mh_top_plans.proofs.IsNextFileOfJob.{IsNextOfMode, no_turn, turn_of_named}
 use Rattle.mh_top_claims.proofs.ErrorListUnique.{list_cause_once, list_out_once}
+use Rattle.mh_top_claims.proofs.IsDrawn.{drawn_once}
 use Rattle.mh_top_claims.proofs.IsExplained.{final_once}
 use Rattle.mh_top_claims.proofs.CountsSample.{counts_cause_once, counts_out_once, counts_right}
 
@@ -104,7 +106,7 @@ module _ (p : Prepared) where
     judged_by x by e has = let same : x ≡ by = cc in subst (λ (y : VerdictContext). Has y.grammar y.table) same has
 
     judges_has : (s : StageResult (Option Messages)) (by : VerdictContext) → Judges by ≡ plan_of_stage (judging_plan p) s → Has p.grammar p.tabled.halting → Has by.grammar by.table
-    judges_has (Go messages) by is has = judged_by (record { trees = p.order.show_cst; grammar = p.grammar; table = p.tabled.halting; messages = messages }) by is has
+    judges_has (Go messages) by is has = judged_by (record { trees = p.order.show_cst; expected = p.order.show_expected; grammar = p.grammar; table = p.tabled.halting; messages = messages }) by is has
     judges_has (Halt cause) by is has = absurd (cc)
 
   judges_right : (Right : Cause → Type 0) (s : StageResult (Option Messages)) → StopsAllowed Right s → EndsAllowed Right (plan_of_stage (judging_plan p) s)
@@ -133,6 +135,8 @@ facts_of ShowAutomaton p = fixed p (Ends (Automaton p)) (λ by is. cc) (λ Right
 facts_of WriteTables p = fixed p (writing_plan (Written (table_file_text p))) (λ by is. cc) (λ Right. tt)
 facts_of ListErrors p = fixed p (Ends (Errors p)) (λ by is. cc) (λ Right. tt)
 facts_of (Sample number) p = fixed p (Ends (Sampled number p)) (λ by is. cc) (λ Right. tt)
+facts_of ShortestSentences p = fixed p (Ends (Shortest p)) (λ by is. cc) (λ Right. tt)
+facts_of (RandomSentence seed n) p = fixed p (Ends (Random seed n p)) (λ by is. cc) (λ Right. tt)
 facts_of (CompileErrors file) p = reading p (file ∷ []) (λ files. IsFileContent files (AreMessages p.grammar p.tabled.halting) file) (one_checked p file) (λ messages. writing_plan (Written (compiled_text messages))) (λ messages by is. cc) (λ Right may messages. tt)
 facts_of (EchoErrors file) p =
     reading p (file ∷ []) (λ files. IsFileContent files (IsMessagesFile p.grammar) file) (one_file p file (IsMessagesFile p.grammar) (spelling p.grammar) (λ runs name bytes short. some_spelled p.grammar name bytes)) (λ spelled. writing_plan (Written (echo_text p.grammar spelled))) (λ spelled by is. cc)
@@ -151,6 +155,9 @@ pub record EndFacts (end : FinalOutput) : Type 1 where
 list_right : (p : Prepared) (Right : Cause → Type 0) → ((line : Text) → Right (Refused line)) → (e : ModeEnd) → ListsErrors p.grammar p.tabled.automaton p.tabled.halting e.cause e.out → IsAllowed Right e.cause
 list_right p Right may e (Lists none cause list) = subst (IsAllowed Right) (sym cause) tt
 list_right p Right may e (TooLong s long cause out) = subst (IsAllowed Right) (sym cause) (may (too_long s))
+
+random_once : (p : Prepared) (seed n : ℕ) (x y : ModeEnd) → IsFinalOutput (Random seed n p) x → IsFinalOutput (Random seed n p) y → x ≡ y
+random_once p seed n x y is so = is.2 ∙ ap end_of_final_text (drawn_once p.grammar seed n is.0 so.0 is.1 so.1) ∙ sym so.2
 
 pub end_facts : (end : FinalOutput) → EndFacts end
 end_facts (Known end) = record {
@@ -172,6 +179,16 @@ end_facts (Sampled number p) = record {
   cause = λ x y is so. counts_cause_once p.grammar p.tabled.halting number x.cause y.cause x.out y.out is so;
   out = λ x y is so. counts_out_once p.grammar p.tabled.halting number x.cause y.cause x.out y.out is so;
   right = λ Right may e right is. counts_right p.grammar p.tabled.halting number (IsAllowed Right) may tt e.cause e.out is;
+}
+end_facts (Shortest p) = record {
+  cause = λ x y is so. is.0 ∙ sym so.0;
+  out = λ x y is so. shortest_text_once p.grammar x.out y.out is.1 so.1;
+  right = λ Right may e right is. subst (IsAllowed Right) (sym is.0) tt;
+}
+end_facts (Random seed n p) = record {
+  cause = λ x y is so. ap (λ (e : ModeEnd). e.cause) (random_once p seed n x y is so);
+  out = λ x y is so. ap (λ (e : ModeEnd). e.out) (random_once p seed n x y is so);
+  right = λ Right may e right is. subst (IsAllowed Right) (sym (ap (λ (x : ModeEnd). x.cause) is.2)) (final_right Right may is.0);
 }
 
 -- ---- The answer to a line and the end of a mode are unique.

@@ -1,5 +1,6 @@
 pub mod ErrorListUnique
 pub mod CountsSample
+pub mod IsDrawn
 pub mod IsAnswerToLine
 pub mod IsExplained
 pub mod AreMessagesOfBoth
@@ -20,3 +21,4 @@ pub mod ErrorLists
 pub mod MergedHasNoConflict
 pub mod WorkBeforeLastLine
 pub mod Ran
+pub mod AcceptsRandom

@@ -1,5 +1,6 @@
 -- The prepared table has a source, and the prepared grammar meets the preconditions of the table.
 use Rattle.std.proofs.Common.{◌≡◌, List, Option, None, sym, subst}
+use Rattle.mh_opts.specs.Orders.{IsWithinLimits}
 use Rattle.mh_opts.specs.declared.order.Order.{Order}
 use Rattle.mh_outside.specs.Shelf.{Files}
 use Rattle.mh_grammar.specs.Text.{Text}
@@ -7,7 +8,7 @@ use Rattle.mh_top_drive.specs.StageResults.{StageResult, Go, Halt, AfterStage, G
 use Rattle.mh_top_load.specs.Order.{staged_order}
 use Rattle.mh_top_load.specs.OrderAndGrammar.{IsOrderAndGrammar}
 use Rattle.mh_top_types.specs.declared.front.OrderAndGrammar.{OrderAndGrammar}
-use Rattle.mh_top_claims.proofs.IsGrammarReady.{IsGrammarReady, front_order, front_ready}
+use Rattle.mh_top_claims.proofs.IsGrammarReady.{IsGrammarReady, front_limits, front_order, front_ready}
 use Rattle.mh_top_types.specs.Shapes.{Prepared, TabledAutomaton}
 use Rattle.mh_top_claims.specs.Preparing.{IsPrepared}
 use Rattle.mh_top_tables.specs.PreparedStage.{IsPreparedFromSource, IsPreparedFromFiles}
@@ -24,6 +25,7 @@ module _ (words : List Text) (files : Option Files) where
     pub numbered : HasNumberedStates source
     pub built : ((order : Order) → staged_order words ≡ Go order → order.tables ≡ None) → IsBuilt source
     pub ready : IsGrammarReady p.grammar
+    pub limits : IsWithinLimits p.order.job
     pub stage : IsTableStage source p.grammar (Go p.tabled)
 
   pub made : (p : Prepared) → IsPrepared words files (Go p) → IsMade p
@@ -39,6 +41,7 @@ module _ (words : List Text) (files : Option Files) where
             numbered = source_numbered files front.order.tables front.order.canonical source from;
             built = λ none. source_built files front.order.tables front.order.canonical source (none front.order (front_order words files front here)) from;
             ready = front_ready words files front here;
+            limits = front_limits words files front here;
             stage = stage;
           })
 

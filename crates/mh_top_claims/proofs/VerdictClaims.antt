@@ -1,5 +1,5 @@
 -- Proves the claims on the answers to sentence lines from the laws on runs and automata.
-use Rattle.std.proofs.Common.{◌≡◌, ◌⊎◌, ◌↔◌, ℕ, ◌+◌, ◌<◌, ◌≤◌, List, [], ◌∷◌, ◌++◌, length, take, get_or, Bool, true, false, ◌&&◌, Option, sym, ◌∙◌, ap, subst, arith, inl, inr, refl}
+use Rattle.std.proofs.Common.{◌≡◌, ◌⊎◌, ◌↔◌, ℕ, ◌+◌, ◌<◌, ◌≤◌, List, [], ◌∷◌, ◌++◌, length, take, get_or, Bool, true, false, ◌&&◌, Option, sym, ◌∙◌, ap, subst, arith, inl, inr, refl, append_assoc}
 use Rattle.std.specs.Prelude.{codes}
 use Rattle.std.proofs.lemmas.Bool.{cases_lt}
 use Rattle.std.proofs.lemmas.Option.{slice_get_within, slice_get-get_or}
@@ -45,7 +45,7 @@ use Rattle.mh_validate_valid.proofs.ValidIsAutomaton.{automaton_of}
 use Rattle.mh_resolve_cells.specs.declared.kinds.Mode.{Mode}
 use Rattle.mh_msgfile.specs.Sentences.{LineResult}
 use Rattle.mh_msgfile.proofs.SentenceBounds.{sentence_start}
-use Rattle.mh_top_plans.specs.Verdicts.{VerdictContext, IsAnswerToFound, IsSentenceAnswer, text_after_refusal, verdict_text, outcome_text}
+use Rattle.mh_top_plans.specs.Verdicts.{VerdictContext, IsAnswerToFound, IsSentenceAnswer, IsAnswerWithTrees, IsRefusalWithTokens, IsEndingText, IsTreeText, text_after_refusal, expected_line}
 use Rattle.mh_top_plans.specs.MessagesFiles.{Messages}
 use Rattle.mh_top_plans.specs.Plan.{Judges, halts}
 use Rattle.mh_top_claims.specs.Work.{Work, IsPlanUnlessRefused, IsWork, IsWorkOf}
@@ -87,22 +87,22 @@ prepared_tabled words files p is = let m = made words files p is in at m m.stage
         record { range = m.ready.range; costs = m.ready.costs; table = record { source = m.source; numbered = m.numbered; built = m.built; automaton = a; stage = stage; table = is.table }; halts = is.halts }
     at m (Halt cause) stage is = absurd (cc)
 
-abbrev by : Bool → Grammar → TableData → Option Messages → VerdictContext
-by trees g t messages = record { trees = trees; grammar = g; table = t; messages = messages }
+abbrev by : Bool → Bool → Grammar → TableData → Option Messages → VerdictContext
+by trees expected g t messages = record { trees = trees; expected = expected; grammar = g; table = t; messages = messages }
 
-module _ (warnings : Text) (trees : Bool) (g : Grammar) (t : TableData) (messages : Option Messages) where
+module _ (warnings : Text) (trees expected : Bool) (g : Grammar) (t : TableData) (messages : Option Messages) where
   abbrev work : Work
-  work = record { warnings = warnings; plan = Judges (by trees g t messages) }
+  work = record { warnings = warnings; plan = Judges (by trees expected g t messages) }
 
-  of_plan : (words : List Text) (refused : Bool) (files : Option Files) (p : Prepared) → IsTabled words p.grammar p.tabled.halting → IsPlanUnlessRefused refused files p (Judges (by trees g t messages)) → IsTabled words g t
+  of_plan : (words : List Text) (refused : Bool) (files : Option Files) (p : Prepared) → IsTabled words p.grammar p.tabled.halting → IsPlanUnlessRefused refused files p (Judges (by trees expected g t messages)) → IsTabled words g t
   of_plan words true files p has is = absurd (cc)
-  of_plan words false files p has is = (job_facts p.order.job p).judged (IsTabled words) files (by trees g t messages) has is
+  of_plan words false files p has is = (job_facts p.order.job p).judged (IsTabled words) files (by trees expected g t messages) has is
 
   pub asked_tabled : (words : List Text) (files : Option Files) → IsWork words files work → IsTabled words g t
   asked_tabled words files asked = at asked.0 asked.1 asked.2
     where
       no_halt : (cause : Cause) → work ≡ record { warnings = []; plan = halts cause } → ⊥
-      no_halt cause e = let same : Judges (by trees g t messages) ≡ halts cause = ap (λ (w : Work). w.plan) e in absurd (cc)
+      no_halt cause e = let same : Judges (by trees expected g t messages) ≡ halts cause = ap (λ (w : Work). w.plan) e in absurd (cc)
 
       at : (s : StageResult Prepared) → IsPrepared words files s → IsWorkOf files s work → IsTabled words g t
       at (Go p) prepared is = of_plan words (p.order.strict && has_warning p.tabled.conflicts) files p (prepared_tabled words files p prepared) is.1
@@ -188,6 +188,8 @@ prepared_fit words files p is = let m = made words files p is in at m m.stage.0 
     at : (m : IsMade words files p) → (s : StageResult Automaton) → IsAutomatonStage m.source p.grammar s → AfterStage s (IsResolvedStage (mode_of m.source) p.grammar) (Go p.tabled) → IsConsistent p
     at m (Go a) stage is = record {
       range = m.ready.range;
+      start = m.ready.start;
+      limits = m.limits;
       automaton = subst (IsAutomaton (plain_of p.grammar)) (sym is.automaton) (automaton_so m.source p.grammar a m.ready.range m.numbered stage);
       table = subst (λ (b : Automaton). IsTableOf p.grammar b p.tabled.mode p.tabled.halting) (sym is.automaton) (subst (λ (mode : Mode). IsTableOf p.grammar a mode p.tabled.halting) (sym is.resolved_in) is.table);
     }
@@ -226,28 +228,35 @@ data Shown (trees : Bool) (g : Grammar) (t : TableData) (s : Sentence) (text : T
   Reject : (at state : ℕ) (rest : Text) → VerdictOf t s.start s.tokens (Rejected at state) → text ≡ codes "REJECT\n" ++ rest → Shown trees g t s text
   TooDeep : IsTooDeepText trees text → Shown trees g t s text
 
+-- The text of a refusal begins with `REJECT`.
+refused_rest : (b : Bool) (how : VerdictContext) (s : Sentence) (at state : ℕ) (text : Text) → IsRefusalWithTokens b how s at state text → (rest : Text) × (text ≡ codes "REJECT\n" ++ rest)
+refused_rest false how s at state text is = (text_after_refusal how.messages state, is)
+refused_rest true how s at state text is =
+    (text_after_refusal how.messages state ++ expected_line how.grammar is.0, is.2 ∙ append_assoc (codes "REJECT\n") (text_after_refusal how.messages state) (expected_line how.grammar is.0))
+
+module _ (how : VerdictContext) (s : Sentence) (text : Text) where
+  of_verdict : (ended : Ended) → VerdictOf how.table s.start s.tokens ended → IsEndingText how s ended text → Shown false how.grammar how.table s text
+  of_verdict (Accepted read) verdict e = Accept read verdict e tt
+  of_verdict (Overshot state) verdict e = Overshoot state verdict e
+  of_verdict (Rejected at state) verdict e = let r = refused_rest how.expected how s at state text e in Reject at state r.0 verdict r.1
+
+  of_outcome : (outcome : TreeEnding) → IsTreeEnding how.table s.start s.tokens outcome → IsTreeText how s outcome text → Shown true how.grammar how.table s text
+  of_outcome (AcceptedTree read tree) is e = Accept read (is.0.left.steps, is.0.left.ends) (tree, e) (tree, e, is.0)
+  of_outcome (OvershotTree state) is e = Overshoot state is.0 e
+  of_outcome (RejectedTree at state) is e = let r = refused_rest how.expected how s at state text e in Reject at state r.0 is.0 r.1
+  of_outcome DeepTree is e = TooDeep e
+
+  shown : (trees : Bool) → IsAnswerWithTrees trees how s text → Shown trees how.grammar how.table s text
+  shown false said = of_verdict said.0 said.1 said.2
+  shown true said = of_outcome said.0 said.1 said.2
+
+  deep_so : (outcome : TreeEnding) → IsTreeEnding how.table s.start s.tokens outcome → IsTreeText how s outcome text → (text ≡ codes "TOODEEP\n") ↔ IsTooDeep how.table s.start s.tokens
+  deep_so (AcceptedTree read tree) is e = (λ deep. absurd (differ text 65 84 (ap first e) (ap first deep) (omega arith)), λ deep. absurd (is.1 deep))
+  deep_so (OvershotTree state) is e = (λ deep. absurd (differ text 79 84 (ap first e) (ap first deep) (omega arith)), λ deep. absurd (is.1 deep))
+  deep_so (RejectedTree at state) is e = (λ deep. absurd (differ text 82 84 (ap first (refused_rest how.expected how s at state text e).1) (ap first deep) (omega arith)), λ deep. absurd (is.1 deep))
+  deep_so DeepTree is e = (λ deep. is, λ deep. e)
+
 module _ (g : Grammar) (t : TableData) (s : Sentence) (text : Text) where
-  of_verdict : (messages : Option Messages) (how : Ended) → VerdictOf t s.start s.tokens how → text ≡ verdict_text messages how → Shown false g t s text
-  of_verdict messages (Accepted read) verdict e = Accept read verdict e tt
-  of_verdict messages (Overshot state) verdict e = Overshoot state verdict e
-  of_verdict messages (Rejected at state) verdict e = Reject at state (text_after_refusal messages state) verdict e
-
-  of_outcome : (messages : Option Messages) (outcome : TreeEnding) → IsTreeEnding t s.start s.tokens outcome → text ≡ outcome_text g messages outcome → Shown true g t s text
-  of_outcome messages (AcceptedTree read tree) is e = Accept read (is.0.left.steps, is.0.left.ends) (tree, e) (tree, e, is.0)
-  of_outcome messages (OvershotTree state) is e = Overshoot state is.0 e
-  of_outcome messages (RejectedTree at state) is e = Reject at state (text_after_refusal messages state) is.0 e
-  of_outcome messages DeepTree is e = TooDeep e
-
-  shown : (trees : Bool) (messages : Option Messages) → IsSentenceAnswer trees g t messages s text → Shown trees g t s text
-  shown false messages said = of_verdict messages said.0 said.1 said.2
-  shown true messages said = of_outcome messages said.0 said.1 said.2
-
-  deep_so : (messages : Option Messages) (outcome : TreeEnding) → IsTreeEnding t s.start s.tokens outcome → text ≡ outcome_text g messages outcome → (text ≡ codes "TOODEEP\n") ↔ IsTooDeep t s.start s.tokens
-  deep_so messages (AcceptedTree read tree) is e = (λ deep. absurd (differ text 65 84 (ap first e) (ap first deep) (omega arith)), λ deep. absurd (is.1 deep))
-  deep_so messages (OvershotTree state) is e = (λ deep. absurd (differ text 79 84 (ap first e) (ap first deep) (omega arith)), λ deep. absurd (is.1 deep))
-  deep_so messages (RejectedTree at state) is e = (λ deep. absurd (differ text 82 84 (ap first e) (ap first deep) (omega arith)), λ deep. absurd (is.1 deep))
-  deep_so messages DeepTree is e = (λ deep. is, λ deep. e)
-
   module _ (trees : Bool) where
     accepted : Shown trees g t s text → IsAcceptText trees g text → (read : ℕ) × VerdictOf t s.start s.tokens (Accepted read) × Leaves trees g t s read text
     accepted (Accept read verdict e leaves) is = (read, verdict, leaves)
@@ -284,16 +293,19 @@ shows_tree words g t is s text true read leaves =
 
 module _ (words : List Text) (files : Option Files) (trees : Bool) (g : Grammar) (s : Sentence) (text : Text) (by : AnswersSentence words files trees g s text) where
   is : IsTabled words g by.table
-  is = asked_tabled by.warnings trees g by.table by.messages words files by.asked
+  is = asked_tabled by.warnings trees by.expected g by.table by.messages words files by.asked
 
   known : s.start < length g.starts
   known = sentence_start g by.line s by.sentence
 
-  said : IsSentenceAnswer trees g by.table by.messages s text
-  said = subst (λ (f : LineResult). IsAnswerToFound (IsSentenceAnswer trees g by.table by.messages) f text) by.sentence by.answer
+  abbrev answering : VerdictContext
+  answering = record { trees = trees; expected = by.expected; grammar = g; table = by.table; messages = by.messages }
+
+  said : IsSentenceAnswer answering s text
+  said = subst (λ (f : LineResult). IsAnswerToFound (IsSentenceAnswer answering) f text) by.sentence by.answer
 
   how : Shown trees g by.table s text
-  how = shown g by.table s text trees by.messages said
+  how = shown answering s text trees said
 
   accepts_read : IsConflictFree words g by.table → IsAcceptText trees g text → (read : ℕ) × IsPrefixSentence (plain_of g) s.start s.tokens read
   accepts_read lr1 e = let p = accepted g by.table s text trees how e in (p.0, (accepts words g by.table is s.start known lr1 s.tokens p.0).0 p.1)
@@ -328,7 +340,7 @@ module _ (words : List Text) (files : Option Files) where
   all_rightly trees g s text by e = rightly words files trees g s text by e
 
   pub deep_exactly : TooDeepIsExact words files
-  deep_exactly g s text by = let text_is = said words files true g s text by in deep_so g by.table s text by.messages text_is.0 text_is.1 text_is.2
+  deep_exactly g s text by = let text_is = said words files true g s text by in deep_so (answering words files true g s text by) s text text_is.0 text_is.1 text_is.2
 
 -- ---- Grammars without warnings.
 
@@ -345,25 +357,25 @@ prepared_has_no_conflict words files p is none silent = let m = made words files
     }
     at m (Halt cause) stage is = absurd (cc)
 
-module _ (warnings : Text) (trees : Bool) (g : Grammar) (t : TableData) (messages : Option Messages) (silent : warnings ≡ []) where
+module _ (warnings : Text) (trees expected : Bool) (g : Grammar) (t : TableData) (messages : Option Messages) (silent : warnings ≡ []) where
   -- If the grammar has no levels of precedence, the table is that of an automaton without conflicts.
   abbrev IsClearUnleveled : Grammar → TableData → Type 0
   IsClearUnleveled h u = HasNoLevels h → IsConflictFreeTable h u
 
-  unwarned_plan : (refused : Bool) (files : Option Files) (p : Prepared) → IsClearUnleveled p.grammar p.tabled.halting → IsPlanUnlessRefused refused files p (Judges (by trees g t messages)) → IsClearUnleveled g t
+  unwarned_plan : (refused : Bool) (files : Option Files) (p : Prepared) → IsClearUnleveled p.grammar p.tabled.halting → IsPlanUnlessRefused refused files p (Judges (by trees expected g t messages)) → IsClearUnleveled g t
   unwarned_plan true files p has is = absurd (cc)
-  unwarned_plan false files p has is = (job_facts p.order.job p).judged IsClearUnleveled files (by trees g t messages) has is
+  unwarned_plan false files p has is = (job_facts p.order.job p).judged IsClearUnleveled files (by trees expected g t messages) has is
 
-  unwarned_work : (words : List Text) (files : Option Files) → IsWork words files (work warnings trees g t messages) → IsClearUnleveled g t
+  unwarned_work : (words : List Text) (files : Option Files) → IsWork words files (work warnings trees expected g t messages) → IsClearUnleveled g t
   unwarned_work words files asked = at asked.0 asked.1 asked.2
     where
-      no_halt : (cause : Cause) → work warnings trees g t messages ≡ record { warnings = []; plan = halts cause } → ⊥
-      no_halt cause e = let same : Judges (by trees g t messages) ≡ halts cause = ap (λ (w : Work). w.plan) e in absurd (cc)
+      no_halt : (cause : Cause) → work warnings trees expected g t messages ≡ record { warnings = []; plan = halts cause } → ⊥
+      no_halt cause e = let same : Judges (by trees expected g t messages) ≡ halts cause = ap (λ (w : Work). w.plan) e in absurd (cc)
 
-      at : (s : StageResult Prepared) → IsPrepared words files s → IsWorkOf files s (work warnings trees g t messages) → IsClearUnleveled g t
+      at : (s : StageResult Prepared) → IsPrepared words files s → IsWorkOf files s (work warnings trees expected g t messages) → IsClearUnleveled g t
       at (Go p) prepared is = unwarned_plan (p.order.strict && has_warning p.tabled.conflicts) files p (λ none. prepared_has_no_conflict words files p prepared none (sym is.0 ∙ silent)) is.1
       at (Halt cause) prepared is = absurd (no_halt cause is)
 
 pub conflict_free_if_unwarned : (words : List Text) (files : Option Files) → UnwarnedIsConflictFree words files
 conflict_free_if_unwarned words files trees g s text answers none silent =
-    inr (unwarned_work answers.warnings trees g answers.table answers.messages silent words files answers.asked none)
+    inr (unwarned_work answers.warnings trees answers.expected g answers.table answers.messages silent words files answers.asked none)

@@ -13,6 +13,7 @@ use Rattle.mh_resolve_cells.specs.declared.kinds.Mode.{Mode}
 use Rattle.mh_resolve_cells.specs.NoConflicts.{HasNoConflicts}
 use Rattle.mh_tables_core.specs.Table.{TableData}
 use Rattle.mh_grammar.specs.Trees.{SyntaxTree, IsTreeFor, tree_text, yield_of}
+use Rattle.mh_sample_random.specs.Random.{IsRandom}
 use Rattle.mh_run_exact.specs.Exactness.{IsPrefixSentence, AllProductive}
 use Rattle.mh_tables_core.specs.TreeRuns.{IsTooDeep}
 use Rattle.mh_opts.specs.declared.order.Order.{Order}
@@ -56,15 +57,16 @@ abbrev pub HasNoLevels : Grammar → Type 0
 HasNoLevels g = All (λ t. t.level ≡ None) g.tokens
 
 -- The words ask for verdicts by a table of the grammar, and the text answers a line that is this sentence. Trees are
--- shown or not, and a messages file may be given.
+-- shown or not, expected tokens are listed or not, and a messages file may be given.
 pub record AnswersSentence (words : List Text) (files : Option Files) (trees : Bool) (g : Grammar) (s : Sentence) (text : Text) : Type 0 where
   pub table : TableData
+  pub expected : Bool
   pub messages : Option Messages
   pub warnings : Text
-  pub asked : IsWork words files (record { warnings = warnings; plan = Judges (record { trees = trees; grammar = g; table = table; messages = messages }) })
+  pub asked : IsWork words files (record { warnings = warnings; plan = Judges (record { trees = trees; expected = expected; grammar = g; table = table; messages = messages }) })
   pub line : Text
   pub sentence : sentence_in (vocabulary_of g) line ≡ IsSentence s
-  pub answer : IsAnswerToLine (record { trees = trees; grammar = g; table = table; messages = messages }) line text
+  pub answer : IsAnswerToLine (record { trees = trees; expected = expected; grammar = g; table = table; messages = messages }) line text
 
 -- The text is ACCEPT. With trees it has a second line, the text of some tree.
 abbrev pub IsAcceptText : Bool → Grammar → Text → Type 0
@@ -93,6 +95,11 @@ abbrev pub AcceptIsExact : List Text → Option Files → Type 0
 AcceptIsExact words files = (trees : Bool) (g : Grammar) (s : Sentence) (text : Text) → (answers : AnswersSentence words files trees g s text) → IsConflictFree words g answers.table →
     (IsAcceptText trees g text → (read : ℕ) × IsPrefixSentence (plain_of g) s.start s.tokens read)
     × ((read : ℕ) → IsPrefixSentence (plain_of g) s.start s.tokens read → IsAcceptText trees g text ⊎ IsTooDeepText trees text)
+
+-- Claim, for a table without conflicts and without trees: the line of a random sentence is accepted.
+abbrev pub AcceptsRandom : List Text → Option Files → Type 0
+AcceptsRandom words files = (g : Grammar) (s : Sentence) (text : Text) → (answers : AnswersSentence words files false g s text) → IsConflictFree words g answers.table →
+    (seed n : ℕ) → IsRandom (plain_of g) seed n s.tokens → s.start ≡ 0 → text ≡ codes "ACCEPT\n"
 
 -- Claim, for a table without conflicts: if a line is rejected, some prefix of its tokens begins no sentence of the
 -- grammar.

@@ -3,7 +3,7 @@
 ghost use Rattle.std.specs.Prelude.{◌≡◌, ◌∷◌, ◌++◌, List, Option, Some};
 ghost use Rattle.mh_outside.specs.Shelf.{Files};
 ghost use Rattle.mh_top_claims.specs.AnswerAtLine.{IsAnsweredAt, HasVerdictAt};
-ghost use Rattle.mh_top_claims.specs.VerdictClaims.{UnwarnedIsConflictFree};
+ghost use Rattle.mh_top_claims.specs.VerdictClaims.{AcceptsRandom, UnwarnedIsConflictFree};
 ghost use Rattle.mh_top_drive.specs.StageResults.{StageResult};
 ghost use Rattle.mh_top_plans.specs.Plan.{Plan, Judges, plan_behavior};
 ghost use Rattle.mh_top_drive.specs.ModeBehavior.{AnswersAll, Outcome, HasOutcome};
@@ -50,4 +50,9 @@ pub fn lines_are_answered()
 /// and rejection is true.
 pub fn unwarned_is_clear()
     ensures { (words : List Text) (files : Option Files) → UnwarnedIsConflictFree words files }
+{}
+
+/// The program accepts its own random sentences if the grammar is LR(1) or the table has no conflict.
+pub fn random_sentences_are_accepted()
+    ensures { (words : List Text) (files : Option Files) → AcceptsRandom words files }
 {}

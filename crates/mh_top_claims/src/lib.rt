@@ -6,5 +6,6 @@
 mod laws;
 
 pub use laws::{
-    lines_are_answered, runs_are_one, some_work_is_asked, unwarned_is_clear, work_is_one,
+    lines_are_answered, random_sentences_are_accepted, runs_are_one, some_work_is_asked,
+    unwarned_is_clear, work_is_one,
 };

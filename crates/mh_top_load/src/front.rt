@@ -1,8 +1,9 @@
 //! From the words of the command line to the grammar: the order that the words spell, its modules, and their grammar.
 //! Nothing is written, and nothing of the input is read.
-ghost use Rattle.std.specs.Prelude.{◌≡◌, ◌≤◌, List, ℕ, length, map, string_bytes, IfOk};
+ghost use Rattle.std.specs.Prelude.{◌≡◌, ◌<◌, ◌≤◌, List, ℕ, length, map, string_bytes, IfOk};
 ghost use Rattle.mh_grammar.specs.Costs.{HaveCosts};
 ghost use Rattle.mh_grammar.specs.Plain.{plain_of, IsInRange};
+ghost use Rattle.mh_opts.specs.Orders.{IsWithinLimits};
 ghost use Rattle.mh_rules.specs.declared.joined.TheConstants.{MAX_TOKENS};
 ghost use Rattle.mh_top_drive.specs.StageResults.{Go};
 ghost use Rattle.mh_top_load.specs.OrderAndGrammar.{IsOrderAndGrammar};
@@ -30,6 +31,8 @@ pub fn front_of<F: Shelf>(
         (IsNextGrammarFile (map string_bytes words.now) (F.files shelf.old)) result }
     ensures order { IfOk result (λ front. staged_order (map string_bytes words.now) ≡ Go front.order) }
     ensures range { IfOk result (λ front. IsInRange (plain_of front.grammar)) }
+    ensures start { IfOk result (λ front. 0 < length front.grammar.starts) }
+    ensures limits { IfOk result (λ front. IsWithinLimits front.order.job) }
     ensures costs { IfOk result (λ front. HaveCosts front.grammar.tokens) }
     ensures tokens { IfOk result (λ front. length front.grammar.tokens ≤ MAX_TOKENS) }
     ensures apart { IfOk result (λ front. AreTokenNamesDistinct front.grammar) }

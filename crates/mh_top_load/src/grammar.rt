@@ -1,5 +1,5 @@
 //! Makes the grammar of modules, or the refusal of modules with a fault.
-ghost use Rattle.std.specs.Prelude.{◌≤◌, length, IfOk};
+ghost use Rattle.std.specs.Prelude.{◌<◌, ◌≤◌, length, IfOk};
 ghost use Rattle.mh_grammar.specs.Costs.{HaveCosts};
 ghost use Rattle.mh_grammar.specs.Plain.{plain_of, IsInRange};
 ghost use Rattle.std.specs.List.{All};
@@ -49,6 +49,7 @@ pub(crate) fn grammar_in(
     requires capitals { All HasCapitalTokens modules.items }
     ensures grammar { StageGives (IsGrammarStage prelude modules.items) result }
     ensures range { IfOk result (λ grammar. IsInRange (plain_of grammar)) }
+    ensures start { IfOk result (λ grammar. 0 < length grammar.starts) }
     ensures costs { IfOk result (λ grammar. HaveCosts grammar.tokens) }
     ensures tokens { IfOk result (λ grammar. length grammar.tokens ≤ MAX_TOKENS) }
     ensures apart { IfOk result AreTokenNamesDistinct }

@@ -1,5 +1,6 @@
 //! Gives the order that the words of the command line spell, or the line on their usage fault.
-ghost use Rattle.std.specs.Prelude.{◌≡◌, ◌++◌, map, string_bytes};
+ghost use Rattle.std.specs.Prelude.{◌≡◌, ◌++◌, map, string_bytes, IfOk};
+ghost use Rattle.mh_opts.specs.Orders.{IsWithinLimits};
 ghost use Rattle.mh_top_load.specs.Order.{staged_order};
 ghost use Rattle.mh_top_load.specs.code.UsageFaultStops.{IsStopForUsageFault};
 ghost use Rattle.mh_top_drive.specs.code.StageCalls.{StopsWith, StageGives};
@@ -43,7 +44,8 @@ fn usage(alloc: Global, fault: &UsageFault) -> Stop
 
 /// The order that the words spell, or the stop for their usage fault.
 pub(crate) fn order_in(alloc: Global, words: &[String]) -> Result<Order, Stop>
-    ensures { StageGives (λ s. staged_order (map string_bytes words.now) ≡ s) result }
+    ensures order { StageGives (λ s. staged_order (map string_bytes words.now) ≡ s) result }
+    ensures limits { IfOk result (λ order. IsWithinLimits order.job) }
 {
     match read_words(alloc, words) {
         Ok(order) => Ok(order),

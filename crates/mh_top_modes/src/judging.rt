@@ -1,10 +1,11 @@
 //! The mode of `--interpret`: each line of the input is a sentence, and the answer is its verdict.
-ghost use Rattle.std.specs.Prelude.{◌≡◌, ◌<◌, ◌≤◌, ◌^◌, ◌++◌, List, ℕ, length, IfOk, OnOk};
+ghost use Rattle.std.specs.Prelude.{◌≡◌, ◌<◌, ◌≤◌, ◌^◌, ◌++◌, List, ℕ, length, take, IfOk, OnOk};
 ghost use Rattle.std.specs.List.{All};
-ghost use Rattle.mh_grammar.specs.Plain.{plain_of};
+ghost use Rattle.mh_tables_core.specs.Run.{VerdictOf, Rejected};
+ghost use Rattle.mh_tables_core.specs.TreeRuns.{IsTreeEnding};
 ghost use Rattle.mh_engine.specs.Outcomes.{tree_ending_for};
+ghost use Rattle.mh_expected.specs.Expected.{ExpectedTokens, Overshoots};
 ghost use Rattle.mh_run.specs.Verdicts.{ending_for};
-ghost use Rattle.mh_msgfile.specs.Sentences.{vocabulary_in, vocabulary_of};
 ghost use Rattle.mh_check.specs.Compiling.{message_at};
 ghost use Rattle.mh_top_plans.specs.code.Modes.{OpenedAndRan, Opens};
 ghost use Rattle.mh_opts.specs.declared.jobs.Job.TheVariants.{Interpret as Interpret'};
@@ -13,35 +14,25 @@ ghost use Rattle.mh_top_plans.specs.Files.{IsNextFileOfJob, optional_file};
 ghost use Rattle.mh_top_drive.specs.code.StageCalls.{FileStageGives, StageShelfCounts};
 ghost use Rattle.mh_top_drive.specs.code.ModeCalls.{InputAndOutCounts, ModeShelfCounts};
 ghost use Rattle.mh_top_types.specs.code.Prepared.{IsConsistent};
-ghost use Rattle.mh_top_plans.specs.Verdicts.{IsAnswerToLine, IsOutcomeText, IsVerdictText, IsSentenceAnswer, message_or_none, outcome_text as outcome_line, refusal_text as refusal_line, verdict_text as verdict_line};
+ghost use Rattle.mh_top_plans.specs.Verdicts.{IsAnswerToLine, IsEndingText, IsOutcomeText, IsRefusalText, IsTreeText, IsVerdictText, IsSentenceAnswer, expected_line, message_or_none, refusal_text as refusal_line};
+ghost use Rattle.mh_top_modes.specs.JudgingContext.{context_of};
 
+use crate::judge::Judging;
 use mh_check::Compiled;
 use mh_engine::{TreeOutcome, run_with_trees};
+use mh_expected::expected;
 use mh_grammar::{Grammar, Memory, Sentence};
 use mh_msgfile::{Lexicon, SentenceFault};
 use mh_outside::{Shelf, Sink, Source};
 use mh_report::write_number;
 use mh_run::{Verdict, verdict};
+use mh_session::write_names;
 use mh_tables_core::Halting;
 use mh_top_drive::{Asks, Mode, Stop, drive_opened, joined};
 use mh_top_plans::read_messages_file;
 use mh_top_types::Prepared;
 use mh_tree::print_tree;
 use std::alloc::Global;
-
-/// The mode of `--interpret`: all that the answer to a line depends on.
-#[derive(Drop)]
-struct Judging<'a> {
-    /// True if an accepted sentence is shown with its tree.
-    trees: bool,
-    grammar: &'a Grammar,
-    lexicon: Lexicon,
-    halting: &'a Halting,
-    /// The messages for refused sentences, if the order has a messages file.
-    messages: Option<Compiled>,
-    ghost numbers: { vocabulary_in lexicon ≡ vocabulary_of grammar.now },
-    ghost same: { halting.now.grammar ≡ plain_of grammar.now },
-}
 
 /// Appends the message of a state, or the line for a state without a message.
 fn write_message(
@@ -63,7 +54,32 @@ fn write_message(
     Ok(())
 }
 
-/// The answer to a sentence that is refused in a state.
+/// Appends the line of the tokens that are expected after the first `at` tokens of a sentence. The run on these tokens
+/// must overshoot.
+fn write_expected(
+    alloc: Global,
+    text: &mut Vec<u8>,
+    by: &Judging<'_>,
+    sentence: &Sentence,
+    at: u32,
+) -> Result<(), Memory>
+    requires start { sentence.now.start < length by.now.halting.now.grammar.starts }
+    requires tokens { All (λ z. z < by.now.halting.now.grammar.tokens) sentence.now.tokens }
+    requires few { length sentence.now.tokens < 2 ^ 32 }
+    requires at { at ≤ length sentence.now.tokens }
+    requires overshoots { Overshoots by.now.halting.now sentence.now.start (take at sentence.now.tokens) }
+    ensures { OnOk result ((tokens : List ℕ) × ExpectedTokens by.now.halting.now sentence.now.start (take at sentence.now.tokens) tokens
+        × (text.new.items ≡ text.old.items ++ expected_line by.now.grammar.now tokens)) }
+{
+    let before = &sentence.tokens.as_slice()[..at as usize];
+    let tokens = expected(alloc, by.halting, sentence.start, before)?;
+    text.extend_from_slice(b"expected:")?;
+    write_names(text, by.grammar, tokens.as_slice())?;
+    text.push(b'\n')?;
+    Ok(())
+}
+
+/// The answer to a sentence that is refused in a state, with the message of that state if there is a messages file.
 fn refusal_text(alloc: Global, messages: &Option<Compiled>, state: u32) -> Result<Vec<u8>, Memory>
     ensures { IfOk result (λ text. text.items ≡ refusal_line messages.now state) }
 {
@@ -74,18 +90,47 @@ fn refusal_text(alloc: Global, messages: &Option<Compiled>, state: u32) -> Resul
     Ok(text)
 }
 
+/// The answer to a sentence that is refused at this index, in this state. The list of expected tokens follows if the
+/// order asks for the list.
+fn refused_answer(
+    alloc: Global,
+    by: &Judging<'_>,
+    sentence: &Sentence,
+    at: u32,
+    state: u32,
+) -> Result<Vec<u8>, Memory>
+    requires start { sentence.now.start < length by.now.halting.now.grammar.starts }
+    requires tokens { All (λ z. z < by.now.halting.now.grammar.tokens) sentence.now.tokens }
+    requires few { length sentence.now.tokens < 2 ^ 32 }
+    requires refused { VerdictOf by.now.halting.now sentence.now.start sentence.now.tokens (Rejected at state) }
+    ensures { IfOk result (λ text. IsRefusalText (context_of by.now) sentence.now at state text.items) }
+{
+    let _rows = by.halting.table();
+    let mut text = refusal_text(alloc, &by.messages, state)?;
+    if !by.expected {
+        return Ok(text);
+    }
+    write_expected(alloc, &mut text, by, sentence, at)?;
+    Ok(text)
+}
+
 /// The answer to a sentence with this verdict.
 fn verdict_text(
     alloc: Global,
-    messages: &Option<Compiled>,
+    by: &Judging<'_>,
+    sentence: &Sentence,
     verdict: Verdict,
 ) -> Result<Vec<u8>, Memory>
-    ensures { IfOk result (λ text. text.items ≡ verdict_line messages.now (ending_for verdict)) }
+    requires start { sentence.now.start < length by.now.halting.now.grammar.starts }
+    requires tokens { All (λ z. z < by.now.halting.now.grammar.tokens) sentence.now.tokens }
+    requires few { length sentence.now.tokens < 2 ^ 32 }
+    requires verdict { VerdictOf by.now.halting.now sentence.now.start sentence.now.tokens (ending_for verdict) }
+    ensures { IfOk result (λ text. IsEndingText (context_of by.now) sentence.now (ending_for verdict) text.items) }
 {
     match verdict {
         Verdict::Accept { .. } => Ok(b"ACCEPT\n".to_vec(alloc)?),
         Verdict::Overshoot { .. } => Ok(b"OVERSHOOT\n".to_vec(alloc)?),
-        Verdict::Reject { state, .. } => refusal_text(alloc, messages, state),
+        Verdict::Reject { at, state } => refused_answer(alloc, by, sentence, at, state),
     }
 }
 
@@ -94,7 +139,7 @@ fn verdict_answer(alloc: Global, by: &Judging<'_>, sentence: &Sentence) -> Resul
     requires start { sentence.now.start < length by.now.halting.now.grammar.starts }
     requires tokens { All (λ z. z < by.now.halting.now.grammar.tokens) sentence.now.tokens }
     requires few { length sentence.now.tokens < 2 ^ 32 }
-    ensures { IfOk result (λ text. IsVerdictText by.now.halting.now by.now.messages sentence.now text.items) }
+    ensures { IfOk result (λ text. IsVerdictText (context_of by.now) sentence.now text.items) }
 {
     let verdict = verdict(
         alloc,
@@ -102,12 +147,21 @@ fn verdict_answer(alloc: Global, by: &Judging<'_>, sentence: &Sentence) -> Resul
         sentence.start,
         sentence.tokens.as_slice(),
     )?;
-    verdict_text(alloc, &by.messages, verdict)
+    verdict_text(alloc, by, sentence, verdict)
 }
 
 /// The answer to a sentence whose run with trees has this outcome.
-fn outcome_text(alloc: Global, by: &Judging<'_>, outcome: &TreeOutcome) -> Result<Vec<u8>, Memory>
-    ensures { IfOk result (λ text. text.items ≡ outcome_line by.now.grammar.now by.now.messages (tree_ending_for outcome.now)) }
+fn outcome_text(
+    alloc: Global,
+    by: &Judging<'_>,
+    sentence: &Sentence,
+    outcome: &TreeOutcome,
+) -> Result<Vec<u8>, Memory>
+    requires start { sentence.now.start < length by.now.halting.now.grammar.starts }
+    requires tokens { All (λ z. z < by.now.halting.now.grammar.tokens) sentence.now.tokens }
+    requires few { length sentence.now.tokens < 2 ^ 32 }
+    requires outcome { IsTreeEnding by.now.halting.now sentence.now.start sentence.now.tokens (tree_ending_for outcome.now) }
+    ensures { IfOk result (λ text. IsTreeText (context_of by.now) sentence.now (tree_ending_for outcome.now) text.items) }
 {
     match outcome {
         TreeOutcome::Accept { tree, .. } => {
@@ -116,7 +170,7 @@ fn outcome_text(alloc: Global, by: &Judging<'_>, outcome: &TreeOutcome) -> Resul
             Ok(text.into_vec())
         }
         TreeOutcome::Overshoot { .. } => Ok(b"OVERSHOOT\n".to_vec(alloc)?),
-        TreeOutcome::Reject { state, .. } => refusal_text(alloc, &by.messages, *state),
+        TreeOutcome::Reject { at, state } => refused_answer(alloc, by, sentence, *at, *state),
         TreeOutcome::TooDeep => Ok(b"TOODEEP\n".to_vec(alloc)?),
     }
 }
@@ -126,7 +180,7 @@ fn tree_answer(alloc: Global, by: &Judging<'_>, sentence: &Sentence) -> Result<V
     requires start { sentence.now.start < length by.now.halting.now.grammar.starts }
     requires tokens { All (λ z. z < by.now.halting.now.grammar.tokens) sentence.now.tokens }
     requires few { length sentence.now.tokens < 2 ^ 32 }
-    ensures { IfOk result (λ text. IsOutcomeText by.now.grammar.now by.now.halting.now by.now.messages sentence.now text.items) }
+    ensures { IfOk result (λ text. IsOutcomeText (context_of by.now) sentence.now text.items) }
 {
     let outcome = run_with_trees(
         alloc,
@@ -134,7 +188,7 @@ fn tree_answer(alloc: Global, by: &Judging<'_>, sentence: &Sentence) -> Result<V
         sentence.start,
         sentence.tokens.as_slice(),
     )?;
-    outcome_text(alloc, by, &outcome)
+    outcome_text(alloc, by, sentence, &outcome)
 }
 
 /// The answer to a sentence, with trees or without.
@@ -142,8 +196,7 @@ fn sentence_text(alloc: Global, by: &Judging<'_>, sentence: &Sentence) -> Result
     requires start { sentence.now.start < length by.now.halting.now.grammar.starts }
     requires tokens { All (λ z. z < by.now.halting.now.grammar.tokens) sentence.now.tokens }
     requires few { length sentence.now.tokens < 2 ^ 32 }
-    ensures { IfOk result (λ text.
-        IsSentenceAnswer by.now.trees by.now.grammar.now by.now.halting.now by.now.messages sentence.now text.items) }
+    ensures { IfOk result (λ text. IsSentenceAnswer (context_of by.now) sentence.now text.items) }
 {
     if by.trees {
         tree_answer(alloc, by, sentence)
@@ -155,9 +208,7 @@ fn sentence_text(alloc: Global, by: &Judging<'_>, sentence: &Sentence) -> Result
 /// The text that answers a line.
 fn line_text(alloc: Global, by: &Judging<'_>, line: &[u8]) -> Result<Vec<u8>, Memory>
     requires short { length line.now < 2 ^ 32 }
-    ensures { IfOk result (λ text. IsAnswerToLine
-        (record { trees = by.now.trees; grammar = by.now.grammar.now; table = by.now.halting.now; messages = by.now.messages })
-        line.now text.items) }
+    ensures { IfOk result (λ text. IsAnswerToLine (context_of by.now) line.now text.items) }
 {
     match by.lexicon.read(alloc, line) {
         Ok(sentence) => sentence_text(alloc, by, &sentence),
@@ -183,7 +234,9 @@ impl<'a> Mode for Judging<'a> {
 
     ghost way = { plan_behavior };
 
-    ghost Is = { λ s plan. plan ≡ Judges (record { trees = s.trees; grammar = s.grammar.now; table = s.halting.now; messages = s.messages }) };
+    ghost use Rattle.mh_top_modes.specs.JudgingContext.{context_of};
+
+    ghost Is = { λ s plan. plan ≡ Judges (context_of s) };
 
     fn asks(&self) -> Asks {
         Asks::EachLine
@@ -230,7 +283,7 @@ fn judge_by<'a, F: Shelf, const W: usize>(
     requires few { W ≤ 8 }
     requires fit { IsConsistent prepared.now }
     requires asked { All (F.MayAsk shelf.old) (optional_file prepared.now.order.messages) }
-    ensures opens { Opens (λ by plan. plan ≡ Judges (record { trees = by.trees; grammar = by.grammar.now; table = by.halting.now; messages = by.messages }))
+    ensures opens { Opens (λ by plan. plan ≡ Judges (context_of by))
         (IsPlanOfJob Interpret' (F.files shelf.old) prepared.now)
         (IsNextFileOfJob Interpret' (F.files shelf.old) prepared.now) result }
     ensures counts { StageShelfCounts (F.faults shelf.old) (F.faults shelf.new) result }
@@ -246,6 +299,7 @@ fn judge_by<'a, F: Shelf, const W: usize>(
     match Lexicon::new(alloc, grammar) {
         Ok(lexicon) => Ok(Judging {
             trees: prepared.order.show_cst,
+            expected: prepared.order.show_expected,
             grammar,
             lexicon,
             halting,

@@ -1,5 +1,6 @@
 //! The modes that make no catalogue: verdicts and sessions on the lines of the input, the entry of the first line, the
-//! automaton as text and as a table file, and the four modes on messages files.
+//! automaton as text and as a table file, the four modes on messages files, and the two modes on sentences of the
+//! grammar.
 #![tactic(auto)]
 
 mod comparing;
@@ -7,7 +8,9 @@ mod compiling;
 mod echoing;
 mod explaining;
 mod exporting;
+mod judge;
 mod judging;
+mod sentences;
 mod serving;
 mod showing;
 mod updating;
@@ -18,6 +21,7 @@ pub use echoing::echo_errors;
 pub use explaining::explain;
 pub use exporting::TableFile;
 pub use judging::interpret;
+pub use sentences::{RandomSentence, ShortestWords};
 pub use serving::run_session;
 pub use showing::AutomatonText;
 pub use updating::update_errors;

@@ -5,6 +5,7 @@ pub mod Explained
 pub mod MessagesFiles
 pub mod Listing
 pub mod Sampled
+pub mod Drawn
 pub mod Plan
 pub mod Files
 pub mod code

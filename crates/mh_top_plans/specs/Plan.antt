@@ -3,9 +3,10 @@
 -- this project's own).
 use Rattle.std.specs.Prelude.{◌≡◌, ℕ, [], Option, None, Some}
 use Rattle.mh_opts.specs.declared.jobs.Job.{Job}
-use Rattle.mh_opts.specs.declared.jobs.Job.TheVariants.{Interpret, InterpretError, Session, ShowAutomaton, WriteTables, ListErrors, CompileErrors, CompareErrors, EchoErrors, UpdateErrors, Sample}
+use Rattle.mh_opts.specs.declared.jobs.Job.TheVariants.{Interpret, InterpretError, Session, ShowAutomaton, WriteTables, ListErrors, CompileErrors, CompareErrors, EchoErrors, UpdateErrors, Sample, ShortestSentences, RandomSentence}
 use Rattle.mh_outside.specs.Shelf.{Files}
 use Rattle.mh_report.specs.Automata.{IsAutomatonText}
+use Rattle.mh_sample.specs.Sentences.{IsShortestText}
 use Rattle.mh_grammar.specs.declared.types.Grammar.{Grammar}
 use Rattle.mh_tabfile_form.specs.Form.{table_text}
 use Rattle.mh_tabfile_form.specs.TableContent.{raw_of}
@@ -30,6 +31,7 @@ use Rattle.mh_top_plans.specs.Explained.{IsExplained}
 use Rattle.mh_top_plans.specs.FinalText.{end_of_final_text}
 use Rattle.mh_top_plans.specs.Listing.{ListsErrors}
 use Rattle.mh_top_plans.specs.Sampled.{CountsSample}
+use Rattle.mh_top_plans.specs.Drawn.{IsDrawn}
 use Rattle.mh_top_plans.specs.Verdicts.{VerdictContext, IsAnswerToLine}
 use Rattle.mh_top_plans.specs.declared.at_end.FinalText.{FinalText}
 use Rattle.mh_top_plans.specs.declared.at_end.FinalText.TheVariants.{Written}
@@ -44,6 +46,10 @@ pub data FinalOutput : Type 0 where
   Errors : Prepared → FinalOutput
   -- The counts of the sample with this number.
   Sampled : ℕ → Prepared → FinalOutput
+  -- The shortest word of each nonterminal.
+  Shortest : Prepared → FinalOutput
+  -- The random sentence of a seed, of at most the given number of tokens.
+  Random : ℕ → ℕ → Prepared → FinalOutput
 
 -- The cause and the text on out are possible for a mode that writes this at its end.
 abbrev pub IsFinalOutput : FinalOutput → ModeEnd → Type 0
@@ -51,6 +57,8 @@ IsFinalOutput (Known end) e = e ≡ end
 IsFinalOutput (Automaton p) e = (e.cause ≡ None) × IsAutomatonText p.grammar p.tabled.automaton p.tabled.mode p.tabled.halting e.out
 IsFinalOutput (Errors p) e = ListsErrors p.grammar p.tabled.automaton p.tabled.halting e.cause e.out
 IsFinalOutput (Sampled number p) e = CountsSample p.grammar p.tabled.halting number e.cause e.out
+IsFinalOutput (Shortest p) e = (e.cause ≡ None) × IsShortestText p.grammar e.out
+IsFinalOutput (Random seed n p) e = (made : FinalText) × IsDrawn p.grammar seed n made × (e ≡ end_of_final_text made)
 
 -- A plan: the state of a mode between two lines of the input.
 pub data Plan : Type 0 where
@@ -113,7 +121,7 @@ AreOptionalMessages (Some name) files p s = Then (IsFileContent files (AreMessag
 
 -- The plan that answers each line with its verdict, with optional messages for refusals.
 abbrev pub judging_plan : Prepared → Option Messages → Plan
-judging_plan p messages = Judges (record { trees = p.order.show_cst; grammar = p.grammar; table = p.tabled.halting; messages = messages })
+judging_plan p messages = Judges (record { trees = p.order.show_cst; expected = p.order.show_expected; grammar = p.grammar; table = p.tabled.halting; messages = messages })
 
 -- The plan for a job, by the prepared grammar and table and by the files that the mode reads.
 abbrev pub IsPlanOfJob : Job → Option Files → Prepared → Plan → Type 0
@@ -124,6 +132,8 @@ IsPlanOfJob ShowAutomaton files p plan = plan ≡ Ends (Automaton p)
 IsPlanOfJob WriteTables files p plan = plan ≡ writing_plan (Written (table_file_text p))
 IsPlanOfJob ListErrors files p plan = plan ≡ Ends (Errors p)
 IsPlanOfJob (Sample number) files p plan = plan ≡ Ends (Sampled number p)
+IsPlanOfJob ShortestSentences files p plan = plan ≡ Ends (Shortest p)
+IsPlanOfJob (RandomSentence seed n) files p plan = plan ≡ Ends (Random seed n p)
 IsPlanOfJob (CompileErrors file) files p plan = (s : StageResult Messages) × IsFileContent files (AreMessages p.grammar p.tabled.halting) file s × (plan ≡ plan_of_stage (λ messages. writing_plan (Written (compiled_text messages))) s)
 IsPlanOfJob (EchoErrors file) files p plan = (s : StageResult MsgFile) × IsFileContent files (IsMessagesFile p.grammar) file s × (plan ≡ plan_of_stage (λ spelled. writing_plan (Written (echo_text p.grammar spelled))) s)
 IsPlanOfJob (UpdateErrors file) files p plan = (s : StageResult Text) × IsUpdatedFile files p file s × (plan ≡ plan_of_stage (λ text. writing_plan (Written text)) s)

@@ -1,11 +1,13 @@
 -- The answers of `--interpret` to the lines of the input (Menhir manual; the exact words are this project's own).
-use Rattle.std.specs.Prelude.{◌≡◌, ℕ, Bool, true, false, [], ◌++◌, Option, None, Some, codes, decimal}
+use Rattle.std.specs.Prelude.{◌≡◌, ℕ, Bool, true, false, List, [], ◌++◌, take, Option, None, Some, codes, decimal}
 use Rattle.mh_grammar.specs.declared.types.Grammar.{Grammar}
 use Rattle.mh_grammar.specs.declared.types.Sentence.{Sentence}
 use Rattle.mh_tables_core.specs.Table.{TableData}
 use Rattle.mh_tables_core.specs.Run.{Ending, Accepted, Overshot, Rejected, VerdictOf}
 use Rattle.mh_grammar.specs.Trees.{tree_text}
 use Rattle.mh_tables_core.specs.TreeRuns.{TreeEnding, AcceptedTree, OvershotTree, RejectedTree, DeepTree, IsTreeEnding}
+use Rattle.mh_expected.specs.Expected.{ExpectedTokens}
+use Rattle.mh_msgfile.specs.FileTexts.{names_after}
 use Rattle.mh_check.specs.Compiling.{message_at}
 use Rattle.mh_grammar.specs.Text.{Text}
 use Rattle.mh_top_plans.specs.MessagesFiles.{Messages}
@@ -27,32 +29,58 @@ text_after_refusal (Some messages) state = message_or_none state (message_at mes
 abbrev pub refusal_text : Option Messages → ℕ → Text
 refusal_text messages state = codes "REJECT\n" ++ text_after_refusal messages state
 
--- The answer to a sentence whose run ends in this way.
-abbrev pub verdict_text : Option Messages → Ending → Text
-verdict_text messages (Accepted read) = codes "ACCEPT\n"
-verdict_text messages (Overshot state) = codes "OVERSHOOT\n"
-verdict_text messages (Rejected at state) = refusal_text messages state
+-- The line with the names of the expected tokens, each after one space.
+abbrev pub expected_line : Grammar → List ℕ → Text
+expected_line g tokens = codes "expected:" ++ names_after g tokens ++ codes "\n"
 
--- The answer to a sentence whose run with trees ends in this way. An accepted sentence has a second line with the tree
--- of the tokens that were read.
-abbrev pub outcome_text : Grammar → Option Messages → TreeEnding → Text
-outcome_text g messages (AcceptedTree read tree) = codes "ACCEPT\n" ++ tree_text g tree ++ codes "\n"
-outcome_text g messages (OvershotTree state) = codes "OVERSHOOT\n"
-outcome_text g messages (RejectedTree at state) = refusal_text messages state
-outcome_text g messages DeepTree = codes "TOODEEP\n"
+-- The data by which lines are answered: whether accepted sentences are shown with trees, whether expected tokens are
+-- listed, the grammar and its table, and optional messages for refusals.
+pub record VerdictContext : Type 0 where
+  pub trees : Bool
+  pub expected : Bool
+  pub grammar : Grammar
+  pub table : TableData
+  pub messages : Option Messages
+
+-- The text is the answer to a sentence that is refused at this index, in this state, with the list of expected tokens
+-- or without.
+abbrev pub IsRefusalWithTokens : Bool → VerdictContext → Sentence → ℕ → ℕ → Text → Type 0
+IsRefusalWithTokens false by s at state text = text ≡ refusal_text by.messages state
+IsRefusalWithTokens true by s at state text =
+    (tokens : List ℕ) × ExpectedTokens by.table s.start (take at s.tokens) tokens × (text ≡ refusal_text by.messages state ++ expected_line by.grammar tokens)
+
+abbrev pub IsRefusalText : VerdictContext → Sentence → ℕ → ℕ → Text → Type 0
+IsRefusalText by = IsRefusalWithTokens by.expected by
+
+-- The text is the answer to a sentence whose run ends in this way.
+abbrev pub IsEndingText : VerdictContext → Sentence → Ending → Text → Type 0
+IsEndingText by s (Accepted read) text = text ≡ codes "ACCEPT\n"
+IsEndingText by s (Overshot state) text = text ≡ codes "OVERSHOOT\n"
+IsEndingText by s (Rejected at state) text = IsRefusalText by s at state text
+
+-- The text is the answer to a sentence whose run with trees ends in this way. An accepted sentence has a second line
+-- with the tree of the tokens that were read.
+abbrev pub IsTreeText : VerdictContext → Sentence → TreeEnding → Text → Type 0
+IsTreeText by s (AcceptedTree read tree) text = text ≡ codes "ACCEPT\n" ++ tree_text by.grammar tree ++ codes "\n"
+IsTreeText by s (OvershotTree state) text = text ≡ codes "OVERSHOOT\n"
+IsTreeText by s (RejectedTree at state) text = IsRefusalText by s at state text
+IsTreeText by s DeepTree text = text ≡ codes "TOODEEP\n"
 
 -- The text is the answer to the sentence by its verdict.
-abbrev pub IsVerdictText : TableData → Option Messages → Sentence → Text → Type 0
-IsVerdictText t messages s text = (how : Ending) × VerdictOf t s.start s.tokens how × (text ≡ verdict_text messages how)
+abbrev pub IsVerdictText : VerdictContext → Sentence → Text → Type 0
+IsVerdictText by s text = (how : Ending) × VerdictOf by.table s.start s.tokens how × IsEndingText by s how text
 
 -- The text is the answer to the sentence by its run with trees.
-abbrev pub IsOutcomeText : Grammar → TableData → Option Messages → Sentence → Text → Type 0
-IsOutcomeText g t messages s text = (outcome : TreeEnding) × IsTreeEnding t s.start s.tokens outcome × (text ≡ outcome_text g messages outcome)
+abbrev pub IsOutcomeText : VerdictContext → Sentence → Text → Type 0
+IsOutcomeText by s text = (outcome : TreeEnding) × IsTreeEnding by.table s.start s.tokens outcome × IsTreeText by s outcome text
 
 -- The text is the answer to the sentence, with trees or without.
-abbrev pub IsSentenceAnswer : Bool → Grammar → TableData → Option Messages → Sentence → Text → Type 0
-IsSentenceAnswer false g t messages = IsVerdictText t messages
-IsSentenceAnswer true g t messages = IsOutcomeText g t messages
+abbrev pub IsAnswerWithTrees : Bool → VerdictContext → Sentence → Text → Type 0
+IsAnswerWithTrees false by = IsVerdictText by
+IsAnswerWithTrees true by = IsOutcomeText by
+
+abbrev pub IsSentenceAnswer : VerdictContext → Sentence → Text → Type 0
+IsSentenceAnswer by = IsAnswerWithTrees by.trees by
 
 -- ---- A line.
 
@@ -67,14 +95,6 @@ IsAnswerToFound Says (NamesUnknown name) text = text ≡ codes "ERROR unknown to
 
 -- ---- The lines.
 
--- The data by which lines are answered: whether accepted sentences are shown with trees, the grammar and its table, and
--- optional messages for refusals.
-pub record VerdictContext : Type 0 where
-  pub trees : Bool
-  pub grammar : Grammar
-  pub table : TableData
-  pub messages : Option Messages
-
 -- The text is the answer to a line.
 abbrev pub IsAnswerToLine : VerdictContext → Text → Text → Type 0
-IsAnswerToLine by line text = IsAnswerToFound (IsSentenceAnswer by.trees by.grammar by.table by.messages) (sentence_in (vocabulary_of by.grammar) line) text
+IsAnswerToLine by line text = IsAnswerToFound (IsSentenceAnswer by) (sentence_in (vocabulary_of by.grammar) line) text

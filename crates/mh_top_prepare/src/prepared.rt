@@ -1,6 +1,7 @@
 //! Adds the table to the order and its grammar. Nothing is written, and nothing of the input is read.
-ghost use Rattle.std.specs.Prelude.{◌≡◌, List, ℕ, IfOk, Some};
+ghost use Rattle.std.specs.Prelude.{◌≡◌, ◌<◌, List, ℕ, length, IfOk, Some};
 ghost use Rattle.mh_grammar.specs.Costs.{HaveCosts};
+ghost use Rattle.mh_opts.specs.Orders.{IsWithinLimits};
 ghost use Rattle.mh_top_types.specs.code.Prepared.{IsConsistent};
 ghost use Rattle.mh_top_tables.specs.MayAskForTables.{MayAskForTables};
 ghost use Rattle.mh_top_drive.specs.code.StageCalls.{FileStageGives, StageShelfCounts, StageGives};
@@ -25,6 +26,8 @@ fn prepare_from<const W: usize>(
     source: &AutomatonSource,
 ) -> Result<Prepared<W>, Stop>
     requires fits { FitsSets W front.grammar }
+    requires start { 0 < length front.grammar.starts }
+    requires limits { IsWithinLimits front.order.job }
     requires costs { HaveCosts front.grammar.tokens }
     requires apart { AreTokenNamesDistinct front.grammar }
     requires numbered { HasNumberedStates source.now }
@@ -52,6 +55,8 @@ pub fn prepare<F: Shelf, const W: usize>(
     shelf: &mut F,
 ) -> Result<Prepared<W>, Stop>
     requires fits { FitsSets W front.grammar }
+    requires start { 0 < length front.grammar.starts }
+    requires limits { IsWithinLimits front.order.job }
     requires costs { HaveCosts front.grammar.tokens }
     requires apart { AreTokenNamesDistinct front.grammar }
     requires asked { MayAskForTables front.order (F.MayAsk shelf.old) }

@@ -5,4 +5,3 @@ pub mod SameContent
 pub mod GeneratedText
 pub mod UpdatedAgain
 pub mod UpdatedOrUnfit
-pub mod EarlyOrLast

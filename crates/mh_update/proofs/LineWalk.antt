@@ -8,8 +8,8 @@ use Rattle.std.proofs.lemmas.Bool.{and_parts, eqb-true}
 use Rattle.std.proofs.lemmas.Grind.{flat_map-append}
 use Rattle.std.proofs.lemmas.List.{drop-drop}
 use Rattle.mh_grammar.proofs.Lists.{recursion-append}
-use Rattle.mh_msgfile.specs.Sentences.{Vocabulary, is_blank, LineResult, IsSentence, IsUnreadable, NamesNoStart, LacksStart, NamesUnknown, sentence_in}
-use Rattle.mh_msgfile.specs.Messages.{is_ignored_line}
+use Rattle.mh_msgfile.specs.Lines.{is_blank, is_ignored_line}
+use Rattle.mh_msgfile.specs.Sentences.{Vocabulary, LineResult, IsSentence, IsUnreadable, NamesNoStart, LacksStart, NamesUnknown, sentence_in}
 use Rattle.mh_msgfile.specs.declared.messages.MsgSentence.{MsgSentence}
 use Rattle.mh_msgfile.proofs.PrintedAgain.{filter_on, is_kept_text}
 use Rattle.mh_msgfile.proofs.LineEnds.{with_ends, IsReadUnchanged}

@@ -4,8 +4,9 @@ use Rattle.std.proofs.Common.{◌≡◌, ℕ, Bool, true, false, List, [], ◌�
 use Rattle.std.specs.List.{list_all, AllZip}
 use Rattle.mh_grammar.proofs.Lists.{nil_parts}
 use Rattle.mh_grammar.specs.Text.{Text}
-use Rattle.mh_msgfile.specs.Sentences.{Vocabulary, put_first, fields, has_items, runs, is_blank, LineResult, IsSentence, IsUnreadable, NamesNoStart, LacksStart, NamesUnknown, sentence_in}
-use Rattle.mh_msgfile.specs.Messages.{line_at, is_ignored_line, kept_lines, is_blank_line, blocks, message_of, MessagesFault, BadShape, fault_at, sentence_at, faults_of, sentences_of, first_number, faults_in, entries_in}
+use Rattle.mh_msgfile.specs.Lines.{is_blank, line_at, is_ignored_line, is_blank_line}
+use Rattle.mh_msgfile.specs.Sentences.{Vocabulary, put_first, fields, has_items, runs, LineResult, IsSentence, IsUnreadable, NamesNoStart, LacksStart, NamesUnknown, sentence_in}
+use Rattle.mh_msgfile.specs.Messages.{kept_lines, blocks, message_of, MessagesFault, BadShape, fault_at, sentence_at, faults_of, sentences_of, first_number, faults_in, entries_in}
 use Rattle.mh_msgfile.specs.FileTexts.{content_of, entry_content}
 use Rattle.std.proofs.lemmas.List.{map-append}
 use Rattle.mh_update.proofs.SentencesByLine.{kept_texts}

@@ -5,8 +5,9 @@ use Rattle.std.specs.List.{list_all}
 use Rattle.std.proofs.lemmas.Grind.{flat_map-append}
 use Rattle.mh_grammar.specs.declared.types.Grammar.{Grammar}
 use Rattle.mh_grammar.specs.Text.{Text}
-use Rattle.mh_msgfile.specs.Sentences.{Vocabulary, vocabulary_of, put_first, fields, has_items, is_blank, LineResult, IsSentence, IsUnreadable, NamesNoStart, LacksStart, NamesUnknown, sentence_in}
-use Rattle.mh_msgfile.specs.Messages.{line_at, numbers_from, is_ignored_line, is_kept, is_blank_line, blocks, MessagesFault, BadShape, sentence_at, faults_of, sentences_of, first_number, faults_in, entries_in, MsgSpells}
+use Rattle.mh_msgfile.specs.Lines.{is_blank, line_at, is_ignored_line, is_kept, is_blank_line}
+use Rattle.mh_msgfile.specs.Sentences.{Vocabulary, vocabulary_of, put_first, fields, has_items, LineResult, IsSentence, IsUnreadable, NamesNoStart, LacksStart, NamesUnknown, sentence_in}
+use Rattle.mh_msgfile.specs.Messages.{numbers_from, blocks, MessagesFault, BadShape, sentence_at, faults_of, sentences_of, first_number, faults_in, entries_in, MsgSpells}
 use Rattle.mh_msgfile.proofs.PrintedAgain.{drop_parts, filter_on}
 use Rattle.mh_msgfile.specs.declared.messages.MsgSentence.{MsgSentence}
 use Rattle.mh_msgfile.specs.declared.messages.Entry.{Entry}

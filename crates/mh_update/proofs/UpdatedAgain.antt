@@ -8,7 +8,8 @@ use Rattle.mh_items_kernels.specs.KernelTypes.{Automaton}
 use Rattle.mh_tables_core.specs.Table.{TableData}
 use Rattle.mh_tables_core.specs.Facts.{Facts}
 use Rattle.mh_msgfile.specs.Sentences.{Vocabulary, vocabulary_of, sentence_in}
-use Rattle.mh_msgfile.specs.Messages.{HasNoLineFeed, AreLines, blocks, entries_in, MsgSpells}
+use Rattle.mh_msgfile.specs.Lines.{HasNoLineFeed, AreLines}
+use Rattle.mh_msgfile.specs.Messages.{blocks, entries_in, MsgSpells}
 use Rattle.mh_msgfile.specs.FileTexts.{entry_content, HaveSameContent}
 use Rattle.mh_msgfile.specs.declared.messages.MsgSentence.{MsgSentence}
 use Rattle.mh_msgfile.specs.declared.messages.MsgFile.{MsgFile}

@@ -9,6 +9,8 @@ mod devices;
 #[cfg(test)]
 mod errors;
 #[cfg(test)]
+mod expected;
+#[cfg(test)]
 mod explained;
 #[cfg(test)]
 mod faults;
@@ -30,6 +32,8 @@ mod refused;
 mod runs;
 #[cfg(test)]
 mod samples;
+#[cfg(test)]
+mod sentences;
 #[cfg(test)]
 mod sessions;
 #[cfg(test)]

@@ -18,6 +18,8 @@ fn job_name(job: &Job) -> &'static [u8] {
         Job::EchoErrors { .. } => b"echo",
         Job::UpdateErrors { .. } => b"update",
         Job::Sample { .. } => b"sample",
+        Job::ShortestSentences => b"shortest",
+        Job::RandomSentence { .. } => b"random",
     }
 }
 
@@ -28,17 +30,32 @@ fn put_if(text: &mut Vec<u8>, is_on: bool, word: &[u8]) {
     }
 }
 
-/// Appends the job with its number, the flags that are set, and each grammar file after a colon.
+/// Appends the numbers of the job, each after a space.
+fn put_numbers(alloc: Global, text: &mut Vec<u8>, job: &Job) {
+    match job {
+        Job::Sample { number } => {
+            put(text, b" ");
+            put_number(alloc, text, u64::from(*number));
+        }
+        Job::RandomSentence { seed, length } => {
+            put(text, b" ");
+            put_number(alloc, text, *seed);
+            put(text, b" ");
+            put_number(alloc, text, u64::from(*length));
+        }
+        _ => {}
+    }
+}
+
+/// Appends the job with its numbers, the flags that are set, and each grammar file after a colon.
 fn put_order(alloc: Global, text: &mut Vec<u8>, order: &Order) {
     put(text, job_name(&order.job));
-    if let Job::Sample { number } = order.job {
-        put(text, b" ");
-        put_number(alloc, text, u64::from(number));
-    }
+    put_numbers(alloc, text, &order.job);
     put_if(text, order.canonical, b" canonical");
     put_if(text, order.strict, b" strict");
     put_if(text, !order.stdlib, b" bare");
     put_if(text, order.show_cst, b" trees");
+    put_if(text, order.show_expected, b" expected");
     for file in order.grammars.as_slice() {
         put(text, b" :");
         put(text, file.as_slice());
@@ -80,6 +97,7 @@ const CASES: &str = "--interpret g.mly~interpret :g.mly^\
     a.mly --interpret b.mly~interpret :a.mly :b.mly^\
     --interpret --no-stdlib g.mly~interpret bare :g.mly^\
     --interpret --strict --interpret-show-cst g.mly~interpret strict trees :g.mly^\
+    --interpret --show-expected g.mly~interpret expected :g.mly^\
     --show-automaton --strict g.mly~show strict :g.mly^\
     --canonical --show-automaton g.mly~show canonical :g.mly^\
     --canonical --write-tables g.mly~tables canonical :g.mly^\
@@ -121,6 +139,12 @@ const CASES: &str = "--interpret g.mly~interpret :g.mly^\
     --interpret --show-automaton --interpret-show-cst~two modes^\
     --show-automaton --interpret-show-cst g.mly~--interpret-show-cst^\
     --show-automaton --interpret-show-cst~--interpret-show-cst^\
+    --session --show-expected g.mly~--show-expected^\
+    --interpret --show-expected --messages m g.mly~--show-expected^\
+    --session --show-expected --messages m g.mly~--messages^\
+    --sample 7 --show-expected -- g.mly~--sample^\
+    --session --show-expected~--show-expected^\
+    --length 2 --session --show-expected g.mly~--show-expected^\
     --what g.mly~bad words^\
     --inter g.mly~bad words^\
     --interpret --interpret g.mly~bad words^\
@@ -128,6 +152,30 @@ const CASES: &str = "--interpret g.mly~interpret :g.mly^\
     --interpret=yes g.mly~bad words^\
     --interpret -x g.mly~bad words^\
     --interpret -- -x --~interpret :-x :--^\
+    --shortest-sentences g.mly~shortest :g.mly^\
+    --shortest-sentences~no grammar^\
+    --shortest-sentences --list-errors g.mly~two modes^\
+    --random-sentence 7 --length 20 g.mly~random 7 20 :g.mly^\
+    --length=1000 --random-sentence=9999999999999999999 g.mly~random 9999999999999999999 1000 :g.mly^\
+    --random-sentence 007 --length 0002 g.mly~random 7 2 :g.mly^\
+    --random-sentence x --length 2 g.mly~bad number^\
+    --random-sentence= --length 2 g.mly~bad number^\
+    --random-sentence 10000000000000000000 --length 2 g.mly~bad number^\
+    --random-sentence 7 --length 1001 g.mly~bad number^\
+    --random-sentence 7 --length 00001 g.mly~bad number^\
+    --length x --interpret g.mly~bad number^\
+    --random-sentence -7 --length 2 g.mly~bad words^\
+    --random-sentence 7 --random-sentence 8 --length 2 g.mly~bad words^\
+    --random-sentence 7 --length 2 --shortest-sentences g.mly~two modes^\
+    --random-sentence 7 g.mly~--random-sentence^\
+    --random-sentence 7~--random-sentence^\
+    --length 2 --interpret g.mly~--length^\
+    --length 2 --interpret~--length^\
+    --length 2 --list-errors --interpret-show-cst g.mly~--interpret-show-cst^\
+    --length 2 --interpret --tables t --canonical g.mly~--tables^\
+    --length 2 --sample 7 g.mly~--sample^\
+    --length 2 --sample 7~--length^\
+    --random-sentence 7 --length 2~no grammar^\
     --help~bad words^\
     -h~bad words^\
     --version~bad words";
@@ -151,6 +199,6 @@ pub fn put_words(alloc: Global, text: &mut Vec<u8>, line: &str) {
 
 #[test]
 fn cases(rt: HostRuntime) -> Result<(), Fail> {
-    check_cases(rt.alloc(), &Subject::Words, CASES, 56)?;
+    check_cases(rt.alloc(), &Subject::Words, CASES, 87)?;
     check_cases(rt.alloc(), &Subject::NoWords, "~no mode", 1)
 }

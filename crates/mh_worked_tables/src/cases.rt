@@ -2,7 +2,8 @@
 //! it, with ` = ` between the question and the wanted answer.
 use crate::made::grammar_of;
 use crate::{
-    automata, catalogues, closures, resolving, runs, samples, sets, tables, trees, widths,
+    automata, catalogues, closures, resolving, runs, samples, sentences, sets, tables, trees,
+    widths,
 };
 use mh_grammar::Grammar;
 use std::alloc::Global;
@@ -48,6 +49,9 @@ fn put_answer(
         "halting" => tables::put_halting(alloc, text, grammar)?,
         "lengths" => catalogues::put_catalogue_of(alloc, text, grammar, false)?,
         "sentences" => catalogues::put_catalogue_of(alloc, text, grammar, true)?,
+        "shortest" => sentences::put_shortest_words(alloc, text, grammar)?,
+        "random" => sentences::put_random_sentence(alloc, text, grammar, rest)?,
+        "accepted" => sentences::put_accepted(alloc, text, grammar, rest)?,
         "sample" => samples::put_line(alloc, text, grammar)?,
         "tree" => trees::put_made(alloc, text, grammar, rest)?,
         "run" => runs::put_run(alloc, text, grammar, rest)?,

@@ -25,6 +25,8 @@ mod runs;
 #[cfg(test)]
 mod samples;
 #[cfg(test)]
+mod sentences;
+#[cfg(test)]
 mod sets;
 #[cfg(test)]
 mod table_files;

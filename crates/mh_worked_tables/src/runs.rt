@@ -37,7 +37,7 @@ fn push_words(sentence: &mut Vec<Token>, words: &str) -> Result<(), Fail> {
 }
 
 /// Returns true if the table has a start symbol and the tokens of the sentence.
-fn can_run(table: &Halting, sentence: &[Token]) -> bool
+pub fn can_run(table: &Halting, sentence: &[Token]) -> bool
     ensures start { IsTrue result → 0 < length table.now.grammar.starts }
     ensures tokens { IsTrue result → All (λ z. z < table.now.grammar.tokens) sentence.now }
     ensures few { IsTrue result → length sentence.now < 2000000 }

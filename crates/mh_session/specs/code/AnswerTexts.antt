@@ -11,7 +11,7 @@ use Rattle.mh_session_branches.specs.declared.reply.SessionFault.TheVariants as 
 use Rattle.mh_session_branches.specs.declared.fault.CommandFault.{CommandFault}
 use Rattle.mh_session_branches.specs.declared.fault.CommandFault.TheVariants as refusals
 use Rattle.mh_session_branches.specs.Answers.{Answer, Branches}
-use Rattle.mh_session_branches.specs.Replies.{answer_text, meaning_text, branches_after_meaning}
+use Rattle.mh_session_branches.specs.Replies.{answer_text, AnswersMeaning}
 
 -- The text is the text of the answer, and memory did not run out.
 abbrev pub IsAnswerText : Grammar → Text → Answer → Text → Type 0
@@ -28,4 +28,4 @@ IsCommandFaultText refusals.Memory text = ⊥
 -- For all branches that the session represents, the text is the answer to this meaning, and then the session represents
 -- the branches after it.
 abbrev pub IsMeaningAnswered : Grammar → LineMeaning → SessionState → SessionState → Result (Vec ℕ Global) Memory → Type 0
-IsMeaningAnswered g said old new r = (bs : Branches) → Represents old bs → (after : Branches) × Represents new after × IfOk r (λ text. (text.items ≡ meaning_text g old.table bs said) × (after ≡ branches_after_meaning old.table bs said))
+IsMeaningAnswered g said old new r = (bs : Branches) → Represents old bs → (after : Branches) × Represents new after × IfOk r (λ text. AnswersMeaning g old.table bs said text.items after)

@@ -4,7 +4,7 @@ use Rattle.std.specs.Borrow.{Bor}
 use Rattle.mh_lex_bytes.specs.Words.{is_word}
 use Rattle.mh_msgfile.specs.Sentences.{pieces}
 use Rattle.mh_grammar.specs.Text.{Text}
-use Rattle.mh_session_branches.specs.LineForms.{Form, BeginOnly, BeginAt, OfferTo, ResumeOf, ForkTo, ShowOf, TreeOf, ForgetOf, LineMeaning, Asks, NamesNoStart, LacksStart, NamesNoToken}
+use Rattle.mh_session_branches.specs.LineForms.{Form, BeginOnly, BeginAt, OfferTo, ResumeOf, ForkTo, ShowOf, TreeOf, ExpectedOf, ForgetOf, LineMeaning, Asks, NamesNoStart, LacksStart, NamesNoToken}
 use Rattle.mh_session.specs.declared.reading.LineForm.{LineForm}
 use Rattle.mh_session.specs.declared.reading.LineForm.TheVariants as spelled
 use Rattle.mh_session_branches.specs.declared.command.Command.{Command}
@@ -29,6 +29,7 @@ as_form (spelled.Resume name) = ResumeOf name.now
 as_form (spelled.Fork name fresh) = ForkTo name.now fresh.now
 as_form (spelled.Show name) = ShowOf name.now
 as_form (spelled.Tree name) = TreeOf name.now
+as_form (spelled.Expected name) = ExpectedOf name.now
 as_form (spelled.Forget name) = ForgetOf name.now
 
 abbrev pub as_forms : Option LineForm → Option Form

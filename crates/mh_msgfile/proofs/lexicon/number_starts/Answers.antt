@@ -1,5 +1,5 @@
 use Rattle.std.proofs.Common.{rules, arith}
-use Rattle.mh_msgfile.specs.Sentences.{start_symbol_name}
+use Rattle.mh_msgfile.specs.StartNames.{start_symbol_name}
 use Rattle.mh_msgfile.proofs.AreNumbers.{start_put, none_put, all_put}
 use Rattle.mh_msgfile.proofs.lexicon.number_starts.Goals as goal
 

@@ -1,6 +1,6 @@
 use Rattle.std.proofs.Common.{arith, refl, sym, ◌∙◌}
 use Rattle.mh_msgfile.specs.code.LineSteps.{blank_count}
-use Rattle.mh_msgfile.specs.Messages.{is_blank_line}
+use Rattle.mh_msgfile.specs.Lines.{is_blank_line}
 use Rattle.mh_msgfile.proofs.LoopSteps.{counted_next, counted_to}
 use Rattle.mh_msgfile.proofs.messages.count_blank_lines.Goals as goal
 

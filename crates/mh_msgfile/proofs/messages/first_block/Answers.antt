@@ -1,5 +1,5 @@
 use Rattle.std.proofs.Common.{arith}
-use Rattle.mh_msgfile.specs.Messages.{is_blank_line}
+use Rattle.mh_msgfile.specs.Lines.{is_blank_line}
 use Rattle.mh_msgfile.proofs.Runs.{first_none, first_some}
 use Rattle.mh_msgfile.proofs.messages.first_block.Goals as goal
 

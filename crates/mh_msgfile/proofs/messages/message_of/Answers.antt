@@ -1,7 +1,7 @@
 use Rattle.std.proofs.Common.{◌++◌, ◌∷◌, [], ℕ, get_or, ap, ◌∙◌, append_assoc}
 use Rattle.std.proofs.lemmas.List.{drop_more}
 use Rattle.mh_grammar.specs.Text.{Text}
-use Rattle.mh_msgfile.specs.Messages.{line_at}
+use Rattle.mh_msgfile.specs.Lines.{line_at}
 use Rattle.mh_msgfile.proofs.LoopSteps.{written_next}
 use Rattle.mh_msgfile.proofs.messages.message_of.Goals as goal
 

@@ -1,6 +1,6 @@
 use Rattle.std.proofs.Common.{◌≡◌, ◌++◌, ◌∷◌, []}
 use Rattle.mh_msgfile.specs.Sentences.{vocabulary_in, runs}
-use Rattle.mh_msgfile.specs.Messages.{is_blank_line}
+use Rattle.mh_msgfile.specs.Lines.{is_blank_line}
 use Rattle.mh_msgfile.proofs.ReadsEntries.{ok_from_test, loop_no_fault, loop_entry, loop_fault}
 use Rattle.mh_msgfile.proofs.messages.put_blocks.Goals as goal
 

@@ -1,6 +1,7 @@
 use Rattle.std.proofs.Common.{◌≡◌, ◌++◌, length}
 use Rattle.mh_msgfile.specs.Sentences.{vocabulary_in, runs}
-use Rattle.mh_msgfile.specs.Messages.{is_blank_line, faults_in, entries_in}
+use Rattle.mh_msgfile.specs.Lines.{is_blank_line}
+use Rattle.mh_msgfile.specs.Messages.{faults_in, entries_in}
 use Rattle.mh_msgfile.proofs.messages.put_blocks.Given as goal
 
 abbrev pub invariant-loop-block : goal.invariant-loop-block

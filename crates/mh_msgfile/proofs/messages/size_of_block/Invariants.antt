@@ -1,6 +1,6 @@
 use Rattle.std.proofs.Common.{◌≡◌, ◌+◌, drop}
 use Rattle.mh_msgfile.specs.code.LineSteps.{piece_size}
-use Rattle.mh_msgfile.specs.Messages.{is_blank_line}
+use Rattle.mh_msgfile.specs.Lines.{is_blank_line}
 use Rattle.mh_msgfile.proofs.messages.size_of_block.Given as goal
 
 abbrev pub invariant-loop-number : goal.invariant-loop-number

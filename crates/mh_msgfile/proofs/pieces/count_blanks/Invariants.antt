@@ -1,6 +1,6 @@
 use Rattle.std.proofs.Common.{◌≡◌, ◌+◌, drop}
 use Rattle.mh_msgfile.specs.code.LineSteps.{blank_count}
-use Rattle.mh_msgfile.specs.Sentences.{is_blank}
+use Rattle.mh_msgfile.specs.Lines.{is_blank}
 use Rattle.mh_msgfile.proofs.pieces.count_blanks.Given as goal
 
 abbrev pub invariant-loop-byte : goal.invariant-loop-byte

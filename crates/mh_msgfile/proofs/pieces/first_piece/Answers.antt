@@ -1,5 +1,5 @@
 use Rattle.std.proofs.Common.{arith}
-use Rattle.mh_msgfile.specs.Sentences.{is_blank}
+use Rattle.mh_msgfile.specs.Lines.{is_blank}
 use Rattle.mh_msgfile.proofs.Runs.{first_none, first_some}
 use Rattle.mh_msgfile.proofs.pieces.first_piece.Goals as goal
 

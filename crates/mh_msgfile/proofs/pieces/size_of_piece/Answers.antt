@@ -1,6 +1,6 @@
 use Rattle.std.proofs.Common.{arith, refl, sym, ◌∙◌}
 use Rattle.mh_msgfile.specs.code.LineSteps.{piece_size}
-use Rattle.mh_msgfile.specs.Sentences.{is_blank}
+use Rattle.mh_msgfile.specs.Lines.{is_blank}
 use Rattle.mh_msgfile.proofs.LoopSteps.{counted_next, counted_to}
 use Rattle.mh_msgfile.proofs.pieces.size_of_piece.Goals as goal
 

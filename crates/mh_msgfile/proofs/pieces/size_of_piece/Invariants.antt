@@ -1,6 +1,6 @@
 use Rattle.std.proofs.Common.{◌≡◌, ◌+◌, drop}
 use Rattle.mh_msgfile.specs.code.LineSteps.{piece_size}
-use Rattle.mh_msgfile.specs.Sentences.{is_blank}
+use Rattle.mh_msgfile.specs.Lines.{is_blank}
 use Rattle.mh_msgfile.proofs.pieces.size_of_piece.Given as goal
 
 abbrev pub invariant-loop-byte : goal.invariant-loop-byte

@@ -10,12 +10,12 @@ serve-requires c =
     command_known c.args.grammar.now c.args.session.now.table c.args.line.now c.in-Ok.command c.requires.same
     (says_of c.args.grammar.now (vocabulary_in c.args.lexicon.now) c.args.line.now (Asks c.in-Ok.command) c.requires.names c.in-Ok.ensures)
 
-pub returns-in-Ok-clause-told : goal.returns-in-Ok-clause-told
-returns-in-Ok-clause-told c =
+pub returns-in-Ok-clause-answered : goal.returns-in-Ok-clause-answered
+returns-in-Ok-clause-answered c =
     line_answered c.args.grammar.now c.args.line.now c.args.session.now c.serve.new.session (Asks c.in-Ok.command) c.serve.result
-    (says_of c.args.grammar.now (vocabulary_in c.args.lexicon.now) c.args.line.now (Asks c.in-Ok.command) c.requires.names c.in-Ok.ensures) c.serve.ensures.told
+    (says_of c.args.grammar.now (vocabulary_in c.args.lexicon.now) c.args.line.now (Asks c.in-Ok.command) c.requires.names c.in-Ok.ensures) c.serve.ensures.answered
 
-pub returns-in-Err-clause-told : goal.returns-in-Err-clause-told
-returns-in-Err-clause-told c =
+pub returns-in-Err-clause-answered : goal.returns-in-Err-clause-answered
+returns-in-Err-clause-answered c =
     refusal_answered c.args.grammar.now c.args.line.now c.args.session.now c.in-Err.fault c.command_refusal.result
     (reads_of c.args.grammar.now (vocabulary_in c.args.lexicon.now) c.args.line.now (Err c.in-Err.fault) c.requires.names c.in-Err.ensures) c.command_refusal.ensures

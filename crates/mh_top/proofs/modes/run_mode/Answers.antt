@@ -1,7 +1,10 @@
-use Rattle.std.proofs.Common.{refl, rules, sym, ap, ap₂, ◌∙◌}
+use Rattle.std.proofs.Common.{[], arith, refl, rules, subst, sym, ap, ap₂, ◌∙◌}
+use Rattle.std.specs.List.{All}
+use Rattle.mh_opts.specs.declared.jobs.Job.{Job}
 use Rattle.mh_opts.specs.declared.jobs.Job.TheVariants.{Interpret, Session, CompileErrors, CompareErrors, EchoErrors, UpdateErrors}
 use Rattle.mh_top_drive.proofs.OpenedModes.{ran_read}
 use Rattle.mh_top_plans.specs.Plan.{plan_behavior}
+use Rattle.mh_top_plans.specs.Files.{files_of_job}
 use Rattle.mh_top_plans.specs.code.Modes.{WritesFinal}
 use Rattle.mh_top_plans.proofs.OpenedAndRan.{of_job, of_plan, opened_followed, opened_read, opened_some, still_followed, still_read}
 use Rattle.mh_top.proofs.modes.run_mode.Goals as goal
@@ -100,6 +103,30 @@ returns-in-Sample-clause-kept g c = refl
 pub returns-in-Sample-clause-read : goal.returns-in-Sample-clause-read
 returns-in-Sample-clause-read g c = ran_read plan_behavior _ _ _ _ _ _ c.write_at_end-in-Sample.result c.write_at_end-in-Sample.ensures.ran
 
+pub returns-in-ShortestSentences-clause-ran : goal.returns-in-ShortestSentences-clause-ran
+returns-in-ShortestSentences-clause-ran g c = of_plan (g.F.Shelf.files c.args.shelf.now) c.args.prepared.now _ c.in-ShortestSentences.is _ _ _ _ c.write_at_end-in-ShortestSentences.result _ refl c.write_at_end-in-ShortestSentences.ensures.ran
+
+pub returns-in-ShortestSentences-clause-counts : goal.returns-in-ShortestSentences-clause-counts
+returns-in-ShortestSentences-clause-counts g c = c.write_at_end-in-ShortestSentences.ensures.counts
+
+pub returns-in-ShortestSentences-clause-kept : goal.returns-in-ShortestSentences-clause-kept
+returns-in-ShortestSentences-clause-kept g c = refl
+
+pub returns-in-ShortestSentences-clause-read : goal.returns-in-ShortestSentences-clause-read
+returns-in-ShortestSentences-clause-read g c = ran_read plan_behavior _ _ _ _ _ _ c.write_at_end-in-ShortestSentences.result c.write_at_end-in-ShortestSentences.ensures.ran
+
+pub returns-in-RandomSentence-clause-ran : goal.returns-in-RandomSentence-clause-ran
+returns-in-RandomSentence-clause-ran g c = of_plan (g.F.Shelf.files c.args.shelf.now) c.args.prepared.now _ c.in-RandomSentence.is _ _ _ _ c.write_at_end-in-RandomSentence.result _ refl c.write_at_end-in-RandomSentence.ensures.ran
+
+pub returns-in-RandomSentence-clause-counts : goal.returns-in-RandomSentence-clause-counts
+returns-in-RandomSentence-clause-counts g c = c.write_at_end-in-RandomSentence.ensures.counts
+
+pub returns-in-RandomSentence-clause-kept : goal.returns-in-RandomSentence-clause-kept
+returns-in-RandomSentence-clause-kept g c = refl
+
+pub returns-in-RandomSentence-clause-read : goal.returns-in-RandomSentence-clause-read
+returns-in-RandomSentence-clause-read g c = ran_read plan_behavior _ _ _ _ _ _ c.write_at_end-in-RandomSentence.result c.write_at_end-in-RandomSentence.ensures.ran
+
 -- ---- Modes that write a text made from messages files.
 
 pub returns-in-CompileErrors-clause-ran : goal.returns-in-CompileErrors-clause-ran
@@ -169,3 +196,29 @@ returns-in-UpdateErrors-clause-read g c = opened_read WritesFinal _ _ c.update_e
 
 pub write_made-requires-in-UpdateErrors : goal.write_made-requires-in-UpdateErrors
 write_made-requires-in-UpdateErrors g c = record { some = opened_some WritesFinal _ _ c.update_errors-made.result c.update_errors-made.ensures.opens }
+
+-- ---- The shelf may be asked for the messages files of the mode.
+
+pub compile_errors-made-requires : goal.compile_errors-made-requires
+compile_errors-made-requires g c =
+    let is = c.in-CompileErrors.is ∙ ap CompileErrors (sym c.as_slice.ensures) in
+    let asked = subst (λ (job : Job). All (g.F.Shelf.MayAsk c.args.shelf.now) (files_of_job job c.args.prepared.now.order)) is c.requires.asked in
+    (search rules, (c.requires.few, (c.requires.fit, asked 0 [] (omega arith))))
+
+pub compare_errors-made-requires : goal.compare_errors-made-requires
+compare_errors-made-requires g c =
+    let is = c.in-CompareErrors.is ∙ ap₂ CompareErrors (sym c.as_slice-in-CompareErrors.ensures) (sym c.as_slice-in-CompareErrors-2.ensures) in
+    let asked = subst (λ (job : Job). All (g.F.Shelf.MayAsk c.args.shelf.now) (files_of_job job c.args.prepared.now.order)) is c.requires.asked in
+    (search rules, (c.requires.few, (c.requires.fit, (asked 0 [] (omega arith), asked 1 [] (omega arith)))))
+
+pub echo_errors-made-requires : goal.echo_errors-made-requires
+echo_errors-made-requires g c =
+    let is = c.in-EchoErrors.is ∙ ap EchoErrors (sym c.as_slice-in-EchoErrors.ensures) in
+    let asked = subst (λ (job : Job). All (g.F.Shelf.MayAsk c.args.shelf.now) (files_of_job job c.args.prepared.now.order)) is c.requires.asked in
+    (search rules, (c.requires.few, (c.requires.fit, asked 0 [] (omega arith))))
+
+pub update_errors-made-requires : goal.update_errors-made-requires
+update_errors-made-requires g c =
+    let is = c.in-UpdateErrors.is ∙ ap UpdateErrors (sym c.as_slice-in-UpdateErrors.ensures) in
+    let asked = subst (λ (job : Job). All (g.F.Shelf.MayAsk c.args.shelf.now) (files_of_job job c.args.prepared.now.order)) is c.requires.asked in
+    (search rules, (c.requires.few, (c.requires.fit, asked 0 [] (omega arith))))

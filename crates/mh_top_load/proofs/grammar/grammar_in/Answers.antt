@@ -1,3 +1,4 @@
+use Rattle.mh_front.proofs.GrammarUnique.{has_start}
 use Rattle.mh_top_load.proofs.AreNamesApart.{names_apart}
 use Rattle.mh_top_load.proofs.IsGrammarFault.{refused_so}
 use Rattle.mh_top_load.proofs.grammar.grammar_in.Goals as goal
@@ -10,3 +11,6 @@ returns-in-Ok-clause-apart c = names_apart c.args.prelude c.args.modules.items c
 
 pub returns-in-Ok-clause-grammar : goal.returns-in-Ok-clause-grammar
 returns-in-Ok-clause-grammar c = rw c.deref.ensures.value at c.in-Ok.ensures.grammar
+
+pub returns-in-Ok-clause-start : goal.returns-in-Ok-clause-start
+returns-in-Ok-clause-start c = has_start c.args.prelude c.args.modules.items c.in-Ok.grammar (rw c.deref.ensures.value at c.in-Ok.ensures.grammar)

@@ -20,3 +20,6 @@ returns-in-Tree c = rw c.in-Tree.is c.tree.ensures
 
 pub returns-in-Forget : goal.returns-in-Forget
 returns-in-Forget c = rw c.in-Forget.is c.forget.ensures
+
+pub returns-in-Expected : goal.returns-in-Expected
+returns-in-Expected c = rw c.in-Expected.is c.expected.ensures

@@ -32,5 +32,5 @@ serves_line g line old new r told same plan is =
 
 pub returns : goal.returns
 returns c =
-    serves_line c.args.self.now.grammar.now c.args.line.now c.args.self.now.session c.answer_line.new.session c.answer_line.result c.answer_line.ensures.told
+    serves_line c.args.self.now.grammar.now c.args.line.now c.args.self.now.session c.answer_line.new.session c.answer_line.result c.answer_line.ensures.answered
     c.answer_line.ensures.table

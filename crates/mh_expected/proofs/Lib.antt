@@ -1,0 +1,7 @@
+pub mod AreTried
+pub mod ExpectedAt
+pub mod ExpectedTokens
+pub mod OverlayStates
+pub mod Overshoots
+pub mod Reduce
+pub mod StatesAfter
