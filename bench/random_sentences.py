@@ -1,6 +1,8 @@
 #!/usr/bin/env python3
-"""Prints a random sentence of an expression grammar for each given seed, computed from the definitions alone: PCG's 32-bit generator
-(O'Neill 2014), seeded as `rand_core` says, and the choice among the productions with which the sentence can still end within LENGTH tokens.
+"""Prints a random sentence of an expression grammar for each given seed, computed from the definitions alone.
+
+The draws are the numbers of PCG's 32-bit generator (O'Neill 2014), with the seed expanded as in the crate `rand_core`.
+Each draw chooses among the productions with which the sentence can still end within LENGTH tokens.
 
     random_sentences.py LENGTH SEED..
 
@@ -14,8 +16,8 @@ MOST_DRAWS = 10_000
 
 
 def output(state):
-    word, turn = ((state >> 18 ^ state) >> 27) & 0xFFFFFFFF, state >> 59
-    return (word >> turn | word << (32 - turn)) & 0xFFFFFFFF
+    word, rotation = ((state >> 18 ^ state) >> 27) & 0xFFFFFFFF, state >> 59
+    return (word >> rotation | word << (32 - rotation)) & 0xFFFFFFFF
 
 
 def draws(seed):
@@ -39,8 +41,9 @@ def sentence(seed, length):
         if not pending:
             return written
         symbol = pending.pop(0)
-        fit = [p.split() for s, p in PRODUCTIONS if s == symbol and len(written) + least(p.split()) + least(pending) <= length]
-        pending[:0] = fit[next(numbers) % len(fit)] if made < MOST_DRAWS else LEAST[symbol]
+        room = length - len(written) - least(pending)
+        candidates = [side.split() for left, side in PRODUCTIONS if left == symbol and least(side.split()) <= room]
+        pending[:0] = candidates[next(numbers) % len(candidates)] if made < MOST_DRAWS else LEAST[symbol]
 
 
 for seed in sys.argv[2:]:

@@ -46,6 +46,7 @@ fn words(rt: &HostRuntime) -> Result<Vec<String>, WordsFault> {
 
 /// Writes the line for a fault before the work began, and gives the status, or that of a failed write.
 fn refuse<E: Sink>(err: &mut E, line: &[u8], status: u8) -> ExitCode
+    requires { E.MayWrite err.old }
     ensures { WritesLastLine status line.now (E.written err.old) (E.written err.new) (E.faults err.old)
         (E.faults err.new) (exit_status result) }
 {
@@ -56,7 +57,9 @@ fn refuse<E: Sink>(err: &mut E, line: &[u8], status: u8) -> ExitCode
 }
 
 /// Does the work that the words ask for, over the files and streams of the process.
-fn work<E: Sink>(rt: &HostRuntime, words: &[String], err: &mut E) -> ExitCode {
+fn work<E: Sink>(rt: &HostRuntime, words: &[String], err: &mut E) -> ExitCode
+    requires { E.MayWrite err.old }
+{
     let Ok(mut input) = StdSource::new(rt.alloc(), rt.stdin()) else {
         return refuse(err, NO_MEMORY, status::OUT_OF_MEMORY);
     };

@@ -1,6 +1,6 @@
 -- Proves that on a table that halts a messages file is compiled or has a first fault.
 use Rattle.std.proofs.Common.{◌≡◌, ℕ, ◌+◌, ◌<◌, ◌⊎◌, List, [], ◌∷◌, ◌++◌, length, Option, None, Some, replicate, set, map, ◌-◌, refl, sym, ◌∙◌, ap, subst, arith, inl, inr, append_assoc, append-nil}
-use Rattle.std.specs.List.{slice_get, All, AllByRecursion}
+use Rattle.std.specs.List.{slice_get, AllByRecursion}
 use Rattle.std.proofs.lemmas.Bool.{cases_eq}
 use Rattle.std.proofs.Math.Numerals.{lt_of_le_of_ne}
 use Rattle.std.proofs.lemmas.List.{map-append, length-set, length-replicate}
@@ -17,9 +17,9 @@ use Rattle.mh_msgfile.specs.declared.messages.Entry.{Entry}
 use Rattle.mh_msgfile.specs.declared.messages.MsgFile.{MsgFile}
 use Rattle.mh_msgfile.specs.Messages.{IsSentenceOf, AreSentencesOf}
 use Rattle.mh_check.specs.declared.places.SentencePlace.{SentencePlace}
-use Rattle.mh_check.specs.Checks.{FailsIn, SoundnessFault, NotRefusedAt, RefusedEarlyAt, SharedBy, Accepts, Overshoots, BreaksSoundness, NotRefused, RefusedEarly, FirstFault, sentences_of}
+use Rattle.mh_check.specs.Checks.{FailsIn, SoundnessFault, NotRefusedAt, RefusedEarlyAt, SharedBy, Accepts, Overshoots, NotRefused, RefusedEarly, FirstFault, sentences_of}
 use Rattle.mh_check.specs.Compiling.{IsCompiled}
-use Rattle.mh_check.specs.code.Places.{EntrySentence, entry_sentence, sentences_of_entry, sentences_of_entries, without_entries, place_of, message_of_place, ArePlaces}
+use Rattle.mh_check.specs.code.Places.{EntrySentence, sentences_of_entry, sentences_of_entries, without_entries, place_of, ArePlaces}
 use Rattle.mh_tables_core.proofs.RefusingState.{state_refused}
 use Rattle.mh_check.proofs.ArePlaces.{placed_more, placed_replicate, shares, breaks, first_more}
 use Rattle.mh_check.proofs.IsCompiled.{is_compiled, sentences_are}

@@ -1,7 +1,7 @@
 -- Lemmas on the loop that collects the missing states.
-use Rattle.std.proofs.Common.{◌≡◌, ◌+◌, ◌-◌, ◌<◌, ◌≤◌, ℕ, suc, Bool, true, false, List, [], ◌∷◌, ◌++◌, filter, Option, length, refl, sym, ap, ap₂, ◌∙◌, arith, append_assoc, append-nil}
+use Rattle.std.proofs.Common.{◌≡◌, ◌+◌, ◌-◌, ◌<◌, ◌≤◌, ℕ, suc, Bool, true, false, List, [], ◌∷◌, ◌++◌, filter, Option, length, refl, sym, ap, ◌∙◌, arith, append_assoc, append-nil}
 use Rattle.mh_msgfile.specs.Messages.{numbers_from}
-use Rattle.mh_check.specs.Compiling.{message_at, is_missing, missing}
+use Rattle.mh_check.specs.Compiling.{is_missing, missing}
 
 numbers_step : (n p : ℕ) → p < n → numbers_from p (n - p) ≡ p ∷ numbers_from (p + 1) (n - (p + 1))
 numbers_step n p lt = let e : n - p ≡ suc (n - (p + 1)) = omega arith in ap (numbers_from p) e

@@ -1,14 +1,13 @@
 -- Lemmas on the loops over the blocks of a file: they find the first fault, or the entries of the file.
-use Rattle.std.proofs.Common.{◌≡◌, ◌<◌, ℕ, suc, List, [], ◌∷◌, ◌++◌, length, drop, get_or, sym, ap, subst, ◌∙◌, append_assoc}
+use Rattle.std.proofs.Common.{◌≡◌, ◌<◌, ℕ, suc, List, [], ◌∷◌, ◌++◌, length, drop, get_or, sym, ap, ◌∙◌, append_assoc}
 use Rattle.std.specs.Prelude.{Bool, true, false, Result, Ok, Err, OnOk, is_err}
 use Rattle.mh_grammar.specs.declared.types.Grammar.{Grammar}
 use Rattle.mh_grammar.specs.Text.{Text}
 use Rattle.mh_msgfile.specs.Sentences.{Vocabulary, vocabulary_of, sentence_in}
-use Rattle.mh_msgfile.specs.code.FileSteps.{BeginsWithFault, ReadsBlock, ReadsEntries, with_value, IsFaultOfLastBlock, IsFaultOfLine}
+use Rattle.mh_msgfile.specs.code.FileSteps.{BeginsWithFault, ReadsEntries, IsFaultOfLastBlock, IsFaultOfLine}
 use Rattle.mh_msgfile.specs.Lines.{AreLines, line_at}
 use Rattle.mh_msgfile.specs.Messages.{message_of, MessagesFault, BadShape, fault_at, first_number, faults_of, sentences_of, faults_in, entries_in, blocks, MsgSpells, HasFault, ReportsFault}
 use Rattle.mh_msgfile.specs.declared.messages.Entry.{Entry}
-use Rattle.mh_msgfile.specs.declared.messages.MsgSentence.{MsgSentence}
 use Rattle.mh_msgfile.specs.declared.messages.MsgFault.{MsgFault}
 use Rattle.mh_msgfile.specs.declared.messages.MsgFault.TheVariants as faults
 use Rattle.std.proofs.Math.Seq.{drop-cons}

@@ -1,5 +1,5 @@
 //! Lines of a source, read a byte at a time.
-ghost use Rattle.std.specs.Prelude.{◌≡◌, ◌<◌, ◌^◌, List, ℕ, Option, MatchOption, length};
+ghost use Rattle.std.specs.Prelude.{◌≡◌, ◌<◌, ◌^◌, List, ℕ, Option, MatchOption, length, IfOk};
 ghost use Rattle.mh_outside.specs.declared.lines.LineFault.TheVariants.{Failed as Failed'};
 ghost use Rattle.mh_outside.specs.code.Bytes.{ReadsByte};
 ghost use Rattle.mh_outside.specs.code.Bytes.{AddsByte};
@@ -32,7 +32,9 @@ const LF: u8 = b'\n';
 
 /// Reads the next byte; `None` at the end of the input.
 fn read_byte<S: Source>(source: &mut S) -> Result<Option<u8>, Failed>
+    requires asked { S.MayRead source.old }
     ensures bytes { ReadsByte (S.left source.old) (S.left source.new) result }
+    ensures may_still { IfOk result (λ _. S.MayRead source.new) }
     ensures counts { CountsFault (S.faults source.old) (S.faults source.new) result }
 {
     let mut buf = [0u8; 1];
@@ -71,7 +73,9 @@ fn take_line<S: Source>(
     source: &mut S,
     limit: usize,
 ) -> Result<Option<Vec<u8>>, LineFault>
+    requires asked { S.MayRead source.old }
     ensures bytes { ReadsLine limit (S.left source.old) (S.left source.new) result }
+    ensures may_still { IfOk result (λ _. S.MayRead source.new) }
     ensures counts { CountsLineFault (S.faults source.old) (S.faults source.new) result }
 {
     let mut line = Vec::new(alloc);
@@ -94,14 +98,16 @@ fn take_line<S: Source>(
 /// # Errors
 ///
 /// `TooBig` exactly if `limit + 1` bytes without LF were read, `Failed` if the source failed, and `Memory` if there was
-/// no memory for the line. The bytes read are then lost.
+/// no memory for the line. The bytes read are then lost. Nothing is read after a failed read.
 pub fn read_line<S: Source>(
     alloc: Global,
     source: &mut S,
     limit: usize,
 ) -> Result<Option<Vec<u8>>, LineFault>
+    requires asked { S.MayRead source.old }
     ensures bytes { ReadsLine limit (S.left source.old) (S.left source.new) result }
     ensures found { FindsLine limit (S.left source.old) (S.left source.new) result }
+    ensures may_still { IfOk result (λ _. S.MayRead source.new) }
     ensures counts { CountsLineFault (S.faults source.old) (S.faults source.new) result }
 {
     take_line(alloc, source, limit)

@@ -1,5 +1,5 @@
 //! The sink over a real writer.
-ghost use Rattle.std.specs.Prelude.{◌≡◌, ◌<◌, length, None, IfOk};
+ghost use Rattle.std.specs.Prelude.{◌≡◌, ◌<◌, length, None, IfOk, ⊤};
 ghost use Rattle.std.specs.Io.{WritesAtMost};
 ghost use Rattle.std.specs.Io.KnownBytes.{WriteAppends};
 ghost use Rattle.mh_outside.specs.Faults.{CountsFault};
@@ -50,11 +50,15 @@ impl<W: Write> Sink for StdSink<W> {
 
     ghost faults = { λ s. s.faults };
 
+    ghost MayWrite = { λ _. ⊤ };
+
     fn write(&mut self, piece: &[u8]) -> Result<usize, Failed>
-        requires { 0 < length piece.now }
+        requires filled { 0 < length piece.now }
+        requires asked { ⊤ }
         ensures some { IfOk result (λ n. 0 < n) }
         ensures bound { WritesAtMost result piece.now }
         ensures bytes { WriteAppends None None result piece.now }
+        ensures may_still { IfOk result (λ _. ⊤) }
         ensures counts { CountsFault (sink_faults self.old) (sink_faults self.new) result }
         // The bytes reach the writer.
         ensures passed { PassesOn (W.contents (sink_inner self.old)) (W.contents (sink_inner self.new)) piece.now result }

@@ -1,5 +1,5 @@
 //! The source over a real reader.
-ghost use Rattle.std.specs.Prelude.{◌≡◌, ◌<◌, length, None, IfOk};
+ghost use Rattle.std.specs.Prelude.{◌≡◌, ◌<◌, length, None, IfOk, ⊤};
 ghost use Rattle.std.specs.Io.{ReadsAtMost};
 ghost use Rattle.std.specs.Io.KnownBytes.{ReadConsumes};
 ghost use Rattle.mh_outside.specs.Faults.{CountsFault};
@@ -39,10 +39,14 @@ impl<R: Read> Source for StdSource<R> {
 
     ghost faults = { λ s. s.faults };
 
+    ghost MayRead = { λ _. ⊤ };
+
     fn read(&mut self, buf: &mut [u8]) -> Result<usize, Failed>
-        requires { 0 < length buf.old }
+        requires filled { 0 < length buf.old }
+        requires asked { ⊤ }
         ensures bound { ReadsAtMost result buf.new }
         ensures bytes { ReadConsumes None None result buf.new }
+        ensures may_still { IfOk result (λ _. ⊤) }
         ensures counts { CountsFault (source_faults self.old) (source_faults self.new) result }
         // The bytes come from the reader.
         ensures passed { ReadConsumes (std_source_left R.remaining self.old) (std_source_left R.remaining self.new) result buf.new }

@@ -4,9 +4,9 @@ ghost use Rattle.mh_grammar.specs.Plain.{plain_of, IsInRange};
 ghost use Rattle.mh_items_kernels.specs.Automaton.{IsAutomaton, kernel_at, edges_at};
 ghost use Rattle.mh_tables_core.specs.Table.{fallback_of};
 ghost use Rattle.mh_resolve_cells.specs.declared.kinds.Mode.{Mode as ModeOf};
-ghost use Rattle.mh_resolve_cells.specs.States.{IsTableOf};
 ghost use Rattle.mh_resolve_cells.specs.Names.{mode_name};
 ghost use Rattle.mh_grammar_texts.specs.Productions.{production_text};
+ghost use Rattle.mh_report.specs.Fitting.{HasTable};
 ghost use Rattle.mh_report.specs.Automata.{title, kernel_lines, cell_line, cell_lines, goto_line, goto_lines, head_line, AreActionLines, IsStateText, IsAutomatonText, AppendsText};
 
 use mh_grammar::{Edge, Grammar, Memory, Symbol, Token, nonterminal_name, token_name};
@@ -156,12 +156,7 @@ fn write_actions<const W: usize>(
     table: &Table,
     state: u32,
 ) -> Result<(), Memory>
-    requires few { W ≤ 8 }
-    requires range { IsInRange (plain_of grammar.now) }
-    requires automaton { IsAutomaton (plain_of grammar.now) automaton.now }
-    requires grammar { table.now.grammar ≡ plain_of grammar.now }
-    requires table { (mode : ModeOf) × IsTableOf grammar.now automaton.now mode table.now }
-    requires states { length table.now.states ≡ length automaton.now.kernels }
+    requires table { (mode : ModeOf) × HasTable W grammar.now automaton.now mode table.now }
     requires state { state < length automaton.now.kernels }
     ensures { OnOk result
         (AppendsText (AreActionLines grammar.now automaton.now table.now state (fallback_of table.now state))
@@ -228,12 +223,7 @@ fn write_state<const W: usize>(
     table: &Table,
     state: u32,
 ) -> Result<(), Memory>
-    requires few { W ≤ 8 }
-    requires range { IsInRange (plain_of grammar.now) }
-    requires automaton { IsAutomaton (plain_of grammar.now) automaton.now }
-    requires grammar { table.now.grammar ≡ plain_of grammar.now }
-    requires table { (mode : ModeOf) × IsTableOf grammar.now automaton.now mode table.now }
-    requires states { length table.now.states ≡ length automaton.now.kernels }
+    requires table { (mode : ModeOf) × HasTable W grammar.now automaton.now mode table.now }
     requires state { state < length automaton.now.kernels }
     ensures { OnOk result
         (AppendsText (IsStateText grammar.now automaton.now table.now state)
@@ -256,10 +246,7 @@ pub fn automaton_text<const W: usize>(
     table: &Halting,
     mode: Mode,
 ) -> Result<Vec<u8>, Memory>
-    requires few { W ≤ 8 }
-    requires range { IsInRange (plain_of grammar.now) }
-    requires automaton { IsAutomaton (plain_of grammar.now) automaton.now }
-    requires table { IsTableOf grammar.now automaton.now mode table.now }
+    requires table { HasTable W grammar.now automaton.now mode table.now }
     ensures { IfOk result
         (λ text. IsAutomatonText grammar.now automaton.now mode table.now text.items) }
 {

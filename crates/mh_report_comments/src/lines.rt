@@ -3,8 +3,8 @@ ghost use Rattle.std.specs.Prelude.{◌≡◌, ◌<◌, ◌≤◌, ◌^◌, ◌+
 ghost use Rattle.std.specs.List.{All};
 ghost use Rattle.mh_grammar.specs.Plain.{plain_of, rhs_of};
 ghost use Rattle.mh_items_kernels.specs.Kernels.{IsKernelItem};
-ghost use Rattle.mh_items_kernels.specs.Automaton.{IsAutomaton};
 ghost use Rattle.mh_tables_core.specs.Failing.{Fails};
+ghost use Rattle.mh_report_comments.specs.Fitting.{FitsStates};
 ghost use Rattle.mh_report_comments.specs.Comments.{HasFarthestDot, AppendsComments, IsCommentText, IsEntryText, state_comment, suffix_title, suffix_comment, reduced_comment, reduced_comments, message_placeholder};
 
 use mh_grammar::{Grammar, Memory, Token};
@@ -137,9 +137,7 @@ pub fn comment_lines<const W: usize>(
     start: u16,
     sentence: &[Token],
 ) -> Result<Vec<u8>, Memory>
-    requires few { W ≤ 8 }
-    requires automaton { IsAutomaton (plain_of grammar.now) automaton.now }
-    requires states { length table.now.states ≡ length automaton.now.kernels }
+    requires fits { FitsStates W grammar.now automaton.now table.now }
     requires fails { (state : ℕ) × Fails table.now start sentence.now state }
     requires size { length sentence.now < 2 ^ 32 }
     ensures { IfOk result (λ text. IsCommentText grammar.now automaton.now table.now start sentence.now text.items) }
@@ -165,9 +163,7 @@ pub fn entry_text<const W: usize>(
     start: u16,
     sentence: &[Token],
 ) -> Result<Vec<u8>, Memory>
-    requires few { W ≤ 8 }
-    requires automaton { IsAutomaton (plain_of grammar.now) automaton.now }
-    requires states { length table.now.states ≡ length automaton.now.kernels }
+    requires fits { FitsStates W grammar.now automaton.now table.now }
     requires fails { (state : ℕ) × Fails table.now start sentence.now state }
     requires size { length sentence.now < 2 ^ 32 }
     ensures { IfOk result (λ text. IsEntryText grammar.now automaton.now table.now start sentence.now text.items) }

@@ -1,5 +1,5 @@
 -- The choices of a row that fit are exactly the candidates.
-use Rattle.std.proofs.Common.{◌≡◌, ◌∙◌, ◌<◌, ◌≤◌, ◌+◌, ◌-◌, ◌%◌, ◌↔◌, ◌++◌, ℕ, true, List, [], ◌∷◌, Some, length, map, get_or, refl, sym, ap, arith, subst}
+use Rattle.std.proofs.Common.{◌≡◌, ◌∙◌, ◌<◌, ◌≤◌, ◌+◌, ◌-◌, ◌%◌, ◌++◌, ℕ, List, Some, length, map, refl, sym, ap, arith, subst}
 use Rattle.std.specs.List.{filter, slice_get, AllByRecursion, Contains}
 use Rattle.std.specs.Option.{option_map}
 use Rattle.std.proofs.lemmas.Bool.{leb-true, le-leb}
@@ -14,7 +14,7 @@ use Rattle.mh_sample_shortest.specs.declared.word.Shortest.{Shortest}
 use Rattle.mh_sample_shortest.specs.declared.word.TheConstants.{MAX_WORD}
 use Rattle.mh_sample_shortest.proofs.RhsInRange.{rhs_below}
 use Rattle.mh_sample_random.specs.declared.rows.Choice.{Choice}
-use Rattle.mh_sample_random.specs.Random.{AreCandidates, CanEnd, IsCandidate, IsChosen}
+use Rattle.mh_sample_random.specs.Random.{AreCandidates, IsCandidate, IsChosen}
 use Rattle.mh_sample_random.specs.code.Rows.{fits, length_in, lengths_in, number_of, AreLeastLengths, IsRow}
 use Rattle.mh_sample_random.proofs.Filter.{contains_filter, filter_contains, rising_filter, rising_map}
 use Rattle.mh_sample_random.proofs.LeastLengths.{can_end, can_end_least, some_production}

@@ -1,6 +1,6 @@
 -- Lemmas on the rows of choices, filled in the order of the productions.
-use Rattle.std.proofs.Common.{◌≡◌, ◌∙◌, ◌<◌, ◌≤◌, ◌+◌, ◌++◌, ◌⊎◌, ℕ, List, [], ◌∷◌, Some, length, get_or, set, refl, sym, ap, arith, inl, inr, subst, get_or-set_other, get_or-set_same}
-use Rattle.std.specs.List.{slice_get, Contains}
+use Rattle.std.proofs.Common.{◌≡◌, ◌∙◌, ◌<◌, ◌+◌, ◌++◌, ℕ, List, [], ◌∷◌, Some, length, get_or, set, sym, ap, arith, inl, inr, subst, get_or-set_other, get_or-set_same}
+use Rattle.std.specs.List.{slice_get}
 use Rattle.std.proofs.lemmas.Bool.{cases_eq}
 use Rattle.std.proofs.lemmas.List.Elements.{Contains-append_left}
 use Rattle.mh_grammar.specs.declared.types.Production.{Production}

@@ -1,6 +1,6 @@
 -- Lemmas on least lengths: each word of some symbols has at least as many tokens, and some word has exactly as many if
 -- that number is within the limit.
-use Rattle.std.proofs.Common.{◌≡◌, ◌∙◌, ◌<◌, ◌≤◌, ◌+◌, ◌++◌, ◌^◌, ◌*◌, ℕ, List, [], ◌∷◌, Some, length, map, take, get_or, refl, sym, ap, arith, inl, inr, subst}
+use Rattle.std.proofs.Common.{◌≡◌, ◌∙◌, ◌<◌, ◌≤◌, ◌+◌, ◌++◌, ◌^◌, ◌*◌, ℕ, List, [], ◌∷◌, Some, length, map, take, get_or, refl, sym, ap, arith, subst}
 use Rattle.std.specs.List.{slice_get, All, AllByRecursion}
 use Rattle.std.specs.Option.{option_map}
 use Rattle.std.proofs.lemmas.List.{length-append, length-map}
@@ -10,7 +10,7 @@ use Rattle.std.proofs.lemmas.Option.{get_or_from_slice_get, slice_get-map}
 use Rattle.mh_grammar.specs.declared.types.Symbol.{Symbol}
 use Rattle.mh_grammar.specs.declared.types.Symbol.TheVariants.{T, N}
 use Rattle.mh_grammar.specs.Derivations as trees
-use Rattle.mh_grammar.specs.Plain.{PlainGrammar, IsToken, Produces, Derives, DerivesAll, IsInRange, IsSymbolBelow, IsProductionFor, rhs_of}
+use Rattle.mh_grammar.specs.Plain.{PlainGrammar, Derives, DerivesAll, IsInRange, IsSymbolBelow, IsProductionFor, rhs_of}
 use Rattle.mh_grammar.proofs.Lists.{get_within}
 use Rattle.mh_sample_shortest.specs.declared.word.Shortest.{Shortest}
 use Rattle.mh_sample_shortest.specs.declared.word.Shortest.TheVariants.{None, Longer, Word}

@@ -1,5 +1,5 @@
 -- A random sentence is a sentence of the first start symbol, within the limit.
-use Rattle.std.proofs.Common.{◌≡◌, ◌∙◌, ◌<◌, ◌≤◌, ◌+◌, ◌++◌, ℕ, List, [], ◌∷◌, Some, length, refl, sym, ap, arith, subst}
+use Rattle.std.proofs.Common.{◌≡◌, ◌∙◌, ◌≤◌, ◌+◌, ◌++◌, ℕ, List, [], ◌∷◌, length, refl, sym, ap, arith, subst}
 use Rattle.std.specs.List.{slice_index}
 use Rattle.std.proofs.lemmas.List.{length-append, append_assoc, append-nil}
 use Rattle.mh_grammar.specs.declared.types.Symbol.{Symbol}
@@ -7,7 +7,6 @@ use Rattle.mh_grammar.specs.declared.types.Symbol.TheVariants.{T, N}
 use Rattle.mh_grammar.specs.Derivations as trees
 use Rattle.mh_grammar.specs.Plain.{PlainGrammar, Derives, DerivesAll, IsSentence, rhs_of}
 use Rattle.mh_grammar.proofs.Lists.{contains_at}
-use Rattle.mh_sample_shortest.specs.Shortest.{IsLeast}
 use Rattle.mh_sample_shortest.proofs.ShortLex.{shortlex_length}
 use Rattle.mh_sample_random.specs.Random as random
 use Rattle.mh_sample_random.specs.Random.{CanEnd, IsRandom, Writes}

@@ -1,13 +1,13 @@
 -- The random sentence of a seed is unique.
-use Rattle.std.proofs.Common.{◌≡◌, ◌∙◌, ◌<◌, ◌≤◌, ◌%◌, ◌↔◌, ◌++◌, ℕ, suc, List, [], ◌∷◌, Some, length, refl, sym, ap, arith, subst}
-use Rattle.std.specs.List.{slice_get, Contains}
+use Rattle.std.proofs.Common.{◌≡◌, ◌<◌, ◌%◌, ◌++◌, ℕ, suc, List, [], ◌∷◌, Some, length, refl, arith, subst}
+use Rattle.std.specs.List.{slice_get}
 use Rattle.mh_grammar.specs.declared.types.Symbol.{Symbol}
-use Rattle.mh_grammar.specs.declared.types.Symbol.TheVariants.{T, N}
+use Rattle.mh_grammar.specs.declared.types.Symbol.TheVariants.{N}
 use Rattle.mh_grammar.specs.Plain.{PlainGrammar, rhs_of}
 use Rattle.mh_grammar.proofs.Lists.{rising_same, get_unique}
 use Rattle.mh_sample_shortest.proofs.ShortestUnique.{least_one}
 use Rattle.mh_sample_random.specs.Random as random
-use Rattle.mh_sample_random.specs.Random.{AreCandidates, IsChosen, Writes}
+use Rattle.mh_sample_random.specs.Random.{IsChosen, Writes}
 
 chosen_one : (g : PlainGrammar) (n written x : ℕ) (rest : List Symbol) (number p q : ℕ) → IsChosen g n written x rest number p → IsChosen g n written x rest number q → p ≡ q
 chosen_one g n written x rest number p q a b =

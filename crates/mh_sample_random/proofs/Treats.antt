@@ -1,5 +1,5 @@
 -- Lemmas on one step of the writing: the code handles the symbol that was popped.
-use Rattle.std.proofs.Common.{◌≡◌, ◌∙◌, ◌<◌, ◌≤◌, ◌+◌, ◌-◌, ◌%◌, ◌^◌, ◌++◌, ℕ, suc, true, List, [], ◌∷◌, Some, length, reverse, get_or, refl, sym, ap, arith, subst}
+use Rattle.std.proofs.Common.{◌≡◌, ◌∙◌, ◌<◌, ◌≤◌, ◌+◌, ◌-◌, ◌%◌, ◌^◌, ◌++◌, ℕ, suc, true, List, [], ◌∷◌, Some, length, reverse, get_or, sym, ap, arith, subst}
 use Rattle.std.specs.List.{filter, slice_get, All, AllByRecursion, Contains}
 use Rattle.std.proofs.lemmas.Bool.{leb-true}
 use Rattle.std.proofs.lemmas.List.{get_or_default, reverse-append, reverse-reverse, length-append, length-reverse}

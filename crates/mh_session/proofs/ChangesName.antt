@@ -1,10 +1,10 @@
--- Lemmas on lists of values by name, and on a session of which one name changes.
-use Rattle.std.proofs.Common.{◌≡◌, ℕ, Bool, true, false, cond, List, [], ◌∷◌, Option, Some, None, Bor, refl, sym, ap, subst, ◌∙◌, inl, inr}
+-- Lemmas on a session of which one name changes.
+use Rattle.std.proofs.Common.{◌≡◌, List, Option, Some, None, Bor, refl, sym, ap, subst, ◌∙◌, inl, inr}
 use Rattle.std.specs.Prelude.{IfSome}
 use Rattle.std.specs.Option.{option_copied}
 use Rattle.std.specs.Map.{update}
 use Rattle.std.proofs.lemmas.Bool.{cond-true, cond-false}
-use Rattle.mh_grammar.proofs.TextEquality.{equal_from_same, same_refl, same_cases}
+use Rattle.mh_grammar.proofs.TextEquality.{same_refl, same_cases}
 use Rattle.mh_tables_core.specs.Table.{TableData}
 use Rattle.mh_engine.specs.Positions.{Position}
 use Rattle.mh_engine.specs.declared.checkpoint.Checkpoint.{Checkpoint}
@@ -13,6 +13,7 @@ use Rattle.mh_grammar.specs.Text.{Text}
 use Rattle.mh_session_branches.specs.Names.{same, at_name, without_name, with_name}
 use Rattle.mh_session.specs.SessionState.{SessionState}
 use Rattle.mh_session_branches.specs.Answers.{Branches}
+use Rattle.mh_session_branches.proofs.WithoutName.{without_self, without_other}
 use Rattle.mh_session.specs.Represents.{FitsBranch, Represents}
 use Rattle.mh_session.specs.code.ChangesName.{ChangesName, HaveTable}
 
@@ -20,31 +21,6 @@ use Rattle.mh_session.specs.code.ChangesName.{ChangesName, HaveTable}
 pub of_table : (t : TableData) (held : List (Text × Position)) (name : Text) (o : Option (Bor Checkpoint)) → option_copied o ≡ at_name name held → HaveTable t held → IfSome o (λ c. c.now.table ≡ t)
 of_table t held name None e all = tt
 of_table t held name (Some c) e all = all name c.now (sym e)
-
-module _ {X : Type 0} where
-  skip : (b : Bool) (e : Text × X) (es : List (Text × X)) → b ≡ true → cond b es (e ∷ es) ≡ es
-  skip true e es h = refl
-  skip false e es h = cc
-
-  keep : (b : Bool) (e : Text × X) (es : List (Text × X)) → b ≡ false → cond b es (e ∷ es) ≡ e ∷ es
-  keep true e es h = cc
-  keep false e es h = refl
-
-  self_step : (b : Bool) (name : Text) (e : Text × X) (es : List (Text × X)) → same name e.0 ≡ b → at_name name (without_name name es) ≡ None → at_name name (cond b (without_name name es) (e ∷ without_name name es)) ≡ None
-  self_step true name e es h rest = rest
-  self_step false name e es h rest = cond-false (same name e.0) (Some e.1) (at_name name (without_name name es)) h ∙ rest
-
-  without_self : (name : Text) (es : List (Text × X)) → at_name name (without_name name es) ≡ None
-  without_self name [] = refl
-  without_self name (e ∷ es) = self_step (same name e.0) name e es refl (without_self name es)
-
-  other_step : (b : Bool) (q name : Text) (e : Text × X) (es : List (Text × X)) → same name e.0 ≡ b → same q name ≡ false → at_name q (without_name name es) ≡ at_name q es → at_name q (cond b (without_name name es) (e ∷ without_name name es)) ≡ at_name q (e ∷ es)
-  other_step true q name e es f h rest = rest ∙ sym (cond-false (same q e.0) (Some e.1) (at_name q es) (ap (same q) (sym (equal_from_same name e.0 f)) ∙ h))
-  other_step false q name e es f h rest = ap (λ (o : Option X). cond (same q e.0) (Some e.1) o) rest
-
-  without_other : (q name : Text) (es : List (Text × X)) → same q name ≡ false → at_name q (without_name name es) ≡ at_name q es
-  without_other q name [] h = refl
-  without_other q name (e ∷ es) h = other_step (same name e.0) q name e es refl h (without_other q name es h)
 
 -- If a name gets a new position in the session and the branch of this position in the branches, the session still
 -- represents the branches.

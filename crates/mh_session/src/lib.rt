@@ -12,7 +12,9 @@ mod session;
 mod texts;
 
 pub use answering::answer_line;
-pub use mh_session_branches::{Command, CommandFault, Reply, SessionFault, one_answer};
+pub use mh_session_branches::{
+    Command, CommandFault, Reply, SessionFault, one_answer, others_stay,
+};
 pub use reading::read_command;
 pub use run::answer_all;
 pub use session::Session;

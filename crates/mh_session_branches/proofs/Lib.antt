@@ -1,2 +1,4 @@
 pub mod OneForm
 pub mod OneAnswer
+pub mod WithoutName
+pub mod OthersStay

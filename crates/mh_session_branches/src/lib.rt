@@ -11,5 +11,5 @@ mod reply;
 
 pub use command::Command;
 pub use fault::CommandFault;
-pub use laws::one_answer;
+pub use laws::{one_answer, others_stay};
 pub use reply::{Reply, SessionFault};

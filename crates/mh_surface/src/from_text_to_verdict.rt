@@ -1,5 +1,5 @@
-//! From the text of a grammar file to the verdict on a sentence. Each stage is one call: lexemes, module, joined rules, instances,
-//! grammar, automaton, table, verdict.
+//! From the text of a grammar file to the verdict on a sentence. Each stage is one call: lexemes, module, joined rules,
+//! instances, grammar, automaton, table, verdict.
 ghost use Rattle.std.specs.Prelude.{◌≡◌, ◌≤◌, ◌<◌, ◌^◌, length, All, IfOk, IsTrue};
 ghost use Rattle.mh_grammar.specs.Costs.{HaveCosts};
 ghost use Rattle.mh_grammar.specs.Plain.{plain_of, IsInRange};
@@ -15,11 +15,13 @@ use mh_grammar::{
     is_in_range,
 };
 use mh_inline::inline_rules;
-use mh_items::Automaton;
+use mh_items::{Automaton, StatesFault};
 use mh_join::{Applied, Head, Joined, JoinedAlternative, JoinedRule, Prec, join};
-use mh_lex::{Kind, Lexeme, lex};
+use mh_lex::{Kind, Lexeme, SyntaxFault, lex};
 use mh_pager::merged;
-use mh_reader::{Actual, Alternative, Module, Ref, Rule, print_module, read_module};
+use mh_reader::{
+    Actual, Alternative, LevelDecl, Module, Ref, Rule, TokenDecl, print_module, read_module,
+};
 use mh_resolve::{Mode, resolve};
 use mh_run::{Verdict, trace, verdict};
 use mh_tables::{Halting, check_halts};
@@ -101,7 +103,8 @@ pub fn automaton_of(alloc: Global, grammar: &Grammar) -> Result<Automaton<1>, Fa
 {
     match merged::<1>(alloc, grammar) {
         Ok(automaton) => Ok(automaton),
-        Err(_) => Err(Fail::from("no automaton")),
+        Err(StatesFault::TooManyStates) => Err(Fail::from("too many states")),
+        Err(StatesFault::Memory) => Err(Fail::from("no memory")),
     }
 }
 
@@ -183,6 +186,12 @@ fn lexemes(rt: HostRuntime) -> Result<(), Fail> {
     };
     assert!(rt; keyword.kind == Kind::Keyword && first.kind == Kind::Word);
     assert!(rt; (second.start, second.end) == (9, 12));
+    drop(lexemes);
+    let has_no_end = matches!(
+        lex(rt.alloc(), b"\n/* no end"),
+        Err(SyntaxFault::Syntax { line: 2 })
+    );
+    assert!(rt; has_no_end);
     Ok(())
 }
 
@@ -198,6 +207,8 @@ fn check_module(rt: &impl Abort, alloc: Global, module: &Module) -> Result<(), F
         module.rules.len(),
     ];
     assert!(rt; counts == [2, 1, 0, 0, 1]);
+    let token: &TokenDecl = module.tokens.get(1).ok_or("no second token")?;
+    assert!(rt; token.name.as_slice() == "EOF".as_bytes() && token.alias.is_none());
     check_rule(rt, module)?;
     let text = print_module(alloc, module)?;
     let again = module_of(alloc, str::from_utf8(&text)?);
@@ -294,11 +305,29 @@ fn instances_give_a_grammar(rt: HostRuntime) -> Result<(), Fail> {
     result
 }
 
+/// The first level of a module makes the token A associate to the left.
+fn check_levels(rt: &impl Abort, module: &Module) -> Result<(), Fail> {
+    let level: &LevelDecl = module.levels.get(0).ok_or("no level")?;
+    assert!(rt; level.assoc == Assoc::Left && level.names.len() == 1 && module.levels.len() == 2);
+    Ok(())
+}
+
+/// The text of a file declares levels, from the lowest to the highest.
+#[test]
+fn levels_of_a_file(rt: HostRuntime) -> Result<(), Fail> {
+    let module = module_of(rt.alloc(), WITH_LEVELS)?;
+    let result = check_levels(&rt, &module);
+    drop(module);
+    result
+}
+
+/// A file with two levels.
+const WITH_LEVELS: &str = "%token A B %left A %right B %start s %% s: A B {}";
+
 /// A token has the level of its declaration.
 #[test]
 fn levels(rt: HostRuntime) -> Result<(), Fail> {
-    let text = "%token A B %left A %right B %start s %% s: A B {}";
-    let grammar = grammar_of(rt.alloc(), text)?;
+    let grammar = grammar_of(rt.alloc(), WITH_LEVELS)?;
     let level: Option<Level> = match grammar.tokens.get(1) {
         Some(token) => token.level,
         None => None,

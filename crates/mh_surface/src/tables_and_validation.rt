@@ -11,18 +11,27 @@ ghost use Rattle.mh_items.specs.Fitting.{FitsSets};
 use crate::from_text_to_verdict::{A, EOF};
 use mh_canon::canonical;
 use mh_grammar::{Edge, Grammar, Look, Memory, Symbol};
-use mh_items::{Automaton, Kernel, closure, firsts, moved, start_kernel};
+use mh_items::first_sets::Firsts;
+use mh_items::{Automaton, Kernel, KernelItem, closure, firsts, moved, start_kernel};
 use mh_pager::weakly_compatible;
 use mh_report::{automaton_text, warning_text};
 use mh_resolve::{Conflict, ConflictKind, Mode};
-use mh_tabfile::{RawCells, RawTable, TabFault, read_tables, write_tables};
+use mh_tabfile::{
+    RawCell, RawCells, RawEdge, RawItem, RawProduction, RawState, RawTable, TabFault, read_tables,
+    write_tables,
+};
 use mh_tables::{Action, Fallback, Halting, Table};
-use mh_validate::{Reason, ValidFault, validate};
+use mh_validate::{Reason, Valid, ValidFault, validate};
 use mh_worked_files::ONE_SENTENCE_TABLE;
 use mh_worked_tables::are_apart;
 use std::alloc::Global;
 use std::process::Abort;
 use std::test::Fail;
+
+/// The production and the dot of an item.
+fn pair_of(item: &KernelItem<1>) -> (u32, u32) {
+    (item.production, item.dot)
+}
 
 /// Returns true if the items of a kernel have these productions and dots.
 fn has_pairs(kernel: &Kernel<1>, pairs: &[(u32, u32)]) -> bool {
@@ -31,7 +40,7 @@ fn has_pairs(kernel: &Kernel<1>, pairs: &[(u32, u32)]) -> bool {
         && items
             .iter()
             .zip(pairs)
-            .all(|(item, pair)| (item.production, item.dot) == *pair)
+            .all(|(item, pair)| pair_of(item) == *pair)
 }
 
 /// The closure of a kernel.
@@ -40,7 +49,7 @@ fn closed_of(alloc: Global, grammar: &Grammar, kernel: &Kernel<1>) -> Result<Ker
     requires kernel { IsItemList (plain_of grammar.now) kernel.now }
     ensures { IfOk result (IsItemList (plain_of grammar.now)) }
 {
-    let sets = firsts(alloc, grammar)?;
+    let sets: Firsts<1> = firsts(alloc, grammar)?;
     let closed = closure(alloc, grammar, &sets, kernel);
     drop(sets);
     closed
@@ -161,6 +170,16 @@ fn check_cells(rt: &impl Abort, table: &Table)
     assert!(rt; table.goto(0, 0) == Some(2) && table.goto(1, 0).is_none());
 }
 
+/// Production 1 is `s -> A EOF`.
+fn check_production(rt: &impl Abort, table: &Table) -> Result<(), Fail> {
+    if table.starts() != 1 || table.productions() != 2 || table.length_of(1) != 2 {
+        return Err(Fail::from("other productions"));
+    }
+    let right = [table.symbol_of(1, 0), table.symbol_of(1, 1)];
+    assert!(rt; table.lhs_of(1) == 0 && right == [Symbol::T(A), Symbol::T(EOF)]);
+    Ok(())
+}
+
 /// The content of a table.
 pub fn cells(rt: &impl Abort, table: &Halting) -> Result<(), Fail> {
     let table = table.table();
@@ -169,7 +188,7 @@ pub fn cells(rt: &impl Abort, table: &Halting) -> Result<(), Fail> {
     }
     assert!(rt; has_counts(table));
     check_cells(rt, table);
-    Ok(())
+    check_production(rt, table)
 }
 
 /// The automaton as `--show-automaton` prints it.
@@ -268,16 +287,38 @@ fn raw_of(alloc: Global, text: &str) -> Result<RawTable, Fail>
     }
 }
 
-/// The content of the file for state 3: no cells, but a default action.
+/// The content of the file for state 0: one item, two edges, and the cell of the token `A`.
+fn check_first_state(rt: &impl Abort, state: &RawState) -> Result<(), Fail> {
+    let item: &RawItem = state.items.get(0).ok_or("no item")?;
+    let edge: &RawEdge = state.edges.get(0).ok_or("no edge")?;
+    assert!(rt; (item.production, item.dot) == (0, 0) && edge.symbol.as_slice() == b"A".as_slice());
+    let RawCells::Cells(cells) = &state.cells else {
+        return Err(Fail::from("a default action"));
+    };
+    let cell: &RawCell = cells.get(0).ok_or("no cell")?;
+    assert!(rt; cells.len() == 1 && cell.action == Action::Shift(1));
+    Ok(())
+}
+
+/// The content of the file: the production `s -> A EOF`, and state 3, which has no cells, but a default action.
 fn check_raw(rt: &impl Abort, raw: &RawTable) -> Result<(), Fail> {
     assert!(rt; raw.mode == Mode::Merged && raw.tokens.len() == 2 && raw.productions.len() == 1);
-    let last = raw.states.get(3).ok_or("no state 3")?;
+    let production: &RawProduction = raw.productions.get(0).ok_or("no production")?;
+    assert!(rt; production.rhs.len() == 2);
+    check_first_state(rt, raw.states.get(0).ok_or("no state 0")?)?;
+    let last: &RawState = raw.states.get(3).ok_or("no state 3")?;
     let reduces = match last.cells {
         RawCells::Fallback(fallback) => fallback == Fallback::Reduce(1),
         RawCells::Cells(_) => false,
     };
     assert!(rt; reduces && last.items.len() == 1 && last.edges.is_empty());
     Ok(())
+}
+
+/// Returns true if a valid file gives the automaton and the table, without conflicts.
+fn is_expected(valid: &Valid<1>) -> bool {
+    let is_whole = has_edges(&valid.automaton) && has_counts(&valid.table);
+    is_whole && valid.conflicts.is_empty() && valid.mode == Mode::Merged
 }
 
 /// A file is validated for the grammar. A valid file gives the automaton, the table and the conflicts.
@@ -297,10 +338,9 @@ fn check_valid(
     let Ok(valid) = validate::<1>(alloc, grammar, raw) else {
         return Err(Fail::from("an invalid file"));
     };
-    let is_whole = has_edges(&valid.automaton) && has_counts(&valid.table);
-    let is_plain = valid.conflicts.is_empty() && valid.mode == Mode::Merged;
+    let is_expected = is_expected(&valid);
     drop(valid);
-    assert!(rt; is_whole && is_plain);
+    assert!(rt; is_expected);
     Ok(())
 }
 

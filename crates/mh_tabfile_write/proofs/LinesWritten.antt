@@ -1,5 +1,5 @@
 -- Proves that lines that are written word by word are the lines of the form.
-use Rattle.std.proofs.Common.{◌≡◌, ◌+◌, ◌<◌, ◌≤◌, ℕ, zero, suc, length, drop, get_or, List, [], ◌∷◌, ◌++◌, map, Option, Some, codes, decimal, arith, refl, append-nil, append_assoc, sym, ap, ◌∙◌}
+use Rattle.std.proofs.Common.{◌≡◌, ◌+◌, ◌<◌, ◌≤◌, ℕ, suc, length, drop, get_or, List, [], ◌∷◌, ◌++◌, map, Some, codes, decimal, arith, refl, append-nil, append_assoc, sym, ap, ◌∙◌}
 use Rattle.std.specs.List.{join_with_byte}
 use Rattle.std.specs.Prelude.{slice_index_or}
 use Rattle.std.proofs.Math.Numerals.{suc-eq-add-one}

@@ -1,8 +1,5 @@
 //! The law of writing table files, as a call without effect whose contract other crates can use.
-ghost use Rattle.std.specs.Prelude.{◌≤◌};
-ghost use Rattle.mh_grammar.specs.Plain.{plain_of, IsInRange};
-ghost use Rattle.mh_items_kernels.specs.Automaton.{IsAutomaton};
-ghost use Rattle.mh_resolve_cells.specs.States.{IsTableOf};
+ghost use Rattle.mh_report.specs.Fitting.{HasTable};
 ghost use Rattle.mh_tabfile_form.specs.Form.{table_text, IsFileOf};
 ghost use Rattle.mh_tabfile_form.specs.TableContent.{HasWordNames, raw_of};
 
@@ -18,11 +15,8 @@ pub fn written_is_file<const W: usize>(
     table: &Table,
     mode: Mode,
 )
-    requires few { W ≤ 8 }
-    requires range { IsInRange (plain_of grammar.now) }
     requires names { HasWordNames grammar.now }
-    requires automaton { IsAutomaton (plain_of grammar.now) automaton.now }
-    requires table { IsTableOf grammar.now automaton.now mode table.now }
+    requires table { HasTable W grammar.now automaton.now mode table.now }
     ensures { IsFileOf (table_text (raw_of grammar.now automaton.now mode table.now.states))
         (raw_of grammar.now automaton.now mode table.now.states) }
 {

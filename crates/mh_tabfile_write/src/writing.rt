@@ -2,12 +2,11 @@
 //! part of the bytes that the function writes.
 ghost use Rattle.std.specs.Prelude.{◌≡◌, ◌∷◌, ◌++◌, ◌<◌, ◌≤◌, ◌^◌, [], map, length, codes, decimal, Some, IfOk, OnOk};
 ghost use Rattle.std.specs.List.{All};
-ghost use Rattle.mh_grammar.specs.Plain.{plain_of, IsInRange};
 ghost use Rattle.mh_grammar.specs.Costs.{costs_of};
 ghost use Rattle.mh_grammar.specs.Names.{nonterminal_name as name_of_nonterminal, symbol_name as name_of_symbol};
-ghost use Rattle.mh_items_kernels.specs.Automaton.{IsAutomaton, kernel_at, edges_at};
+ghost use Rattle.mh_items_kernels.specs.Automaton.{kernel_at, edges_at};
 ghost use Rattle.mh_tables_core.specs.Table.{state_at};
-ghost use Rattle.mh_resolve_cells.specs.States.{IsTableOf};
+ghost use Rattle.mh_report.specs.Fitting.{HasTable};
 ghost use Rattle.mh_resolve_cells.specs.Names.{look_name as name_of_look};
 ghost use Rattle.mh_tabfile_form.specs.Form.{count_line, production_line, item_line, edge_line, cell_line, fallback_line, cells_lines, state_lines, states_lines, table_text};
 ghost use Rattle.mh_tabfile_form.specs.TableContent.{raw_production, raw_item, raw_edge, raw_cell, raw_row, raw_cells, raw_state_of, raw_states, raw_of};
@@ -390,10 +389,7 @@ pub fn write_tables<const W: usize>(
     table: &Table,
     mode: Mode,
 ) -> Result<Vec<u8>, Memory>
-    requires few { W ≤ 8 }
-    requires range { IsInRange (plain_of grammar.now) }
-    requires automaton { IsAutomaton (plain_of grammar.now) automaton.now }
-    requires table { IsTableOf grammar.now automaton.now mode table.now }
+    requires table { HasTable W grammar.now automaton.now mode table.now }
     ensures { IfOk result (λ text. text.items
         ≡ table_text (raw_of grammar.now automaton.now mode table.now.states)) }
 {
@@ -411,11 +407,8 @@ fn write_all<const W: usize>(
     table: &Table,
     mode: Mode,
 ) -> Result<(), Memory>
-    requires few { W ≤ 8 }
     requires empty { text.old.items ≡ [] }
-    requires range { IsInRange (plain_of grammar.now) }
-    requires automaton { IsAutomaton (plain_of grammar.now) automaton.now }
-    requires table { IsTableOf grammar.now automaton.now mode table.now }
+    requires table { HasTable W grammar.now automaton.now mode table.now }
     ensures { OnOk result (text.new.items
         ≡ table_text (raw_of grammar.now automaton.now mode table.now.states)) }
 {

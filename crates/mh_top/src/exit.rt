@@ -21,6 +21,9 @@ pub fn run<F: Shelf, I: Source, O: Sink, E: Sink>(
     err: &mut E,
 ) -> ExitCode
     requires asked { MayAskForFiles (map string_bytes words.now) (F.MayAsk shelf.old) }
+    requires may_read { I.MayRead input.old }
+    requires may_write { O.MayWrite out.old }
+    requires may_warn { E.MayWrite err.old }
     ensures ran { Ran (map string_bytes words.now)
         (world F.files F.faults I.left I.faults O.written O.faults E.written E.faults
         shelf.old input.old out.old err.old)

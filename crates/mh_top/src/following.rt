@@ -26,6 +26,8 @@ pub(crate) fn run_unless_refused<F: Shelf, I: Source, O: Sink, const W: usize>(
     requires few { W ≤ 8 }
     requires fit { IsConsistent prepared.now }
     requires asked { All (F.MayAsk shelf.old) (files_of_mode prepared.now.order) }
+    requires may_read { I.MayRead input.old }
+    requires may_write { O.MayWrite out.old }
     ensures ran { OpenedAndRan (IsPlanOf (F.files shelf.old) prepared.now) (IsNextAfterWarnings (F.files shelf.old) prepared.now)
         (I.left input.old) (I.left input.new) (O.written out.old) (O.written out.new) result }
     ensures counts { InputAndOutCounts (I.faults input.old) (I.faults input.new)

@@ -30,6 +30,8 @@ pub(crate) fn run_mode<F: Shelf, I: Source, O: Sink, const W: usize>(
     requires few { W ≤ 8 }
     requires fit { IsConsistent prepared.now }
     requires asked { All (F.MayAsk shelf.old) (files_of_mode prepared.now.order) }
+    requires may_read { I.MayRead input.old }
+    requires may_write { O.MayWrite out.old }
     ensures ran { OpenedAndRan (IsPlanOfJob prepared.now.order.job (F.files shelf.old) prepared.now)
         (IsNextFileOfJob prepared.now.order.job (F.files shelf.old) prepared.now)
         (I.left input.old) (I.left input.new) (O.written out.old) (O.written out.new) result }

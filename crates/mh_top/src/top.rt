@@ -20,6 +20,7 @@ ghost use Rattle.mh_top_types.specs.code.Prepared.{IsConsistent};
 ghost use Rattle.mh_top_load.specs.OrderAndGrammar.{IsOrderAndGrammar};
 ghost use Rattle.mh_top_claims.specs.Preparing.{IsPrepared};
 ghost use Rattle.mh_items.specs.Fitting.{FitsSets};
+ghost use Rattle.mh_top_drive.specs.code.MayWriteAfter.{MayWriteAfter};
 
 use crate::following::run_unless_refused;
 use mh_outside::{Shelf, Sink, Source};
@@ -43,6 +44,9 @@ fn work_with<F: Shelf, I: Source, O: Sink, E: Sink, const W: usize>(
     requires few { W ≤ 8 }
     requires fit { IsConsistent prepared.now }
     requires asked { All (F.MayAsk shelf.old) (files_of_mode prepared.now.order) }
+    requires may_read { I.MayRead input.old }
+    requires may_write { O.MayWrite out.old }
+    requires may_warn { E.MayWrite err.old }
     ensures kept { F.files shelf.new ≡ F.files shelf.old }
     ensures ran { (words : List Text) → IsPrepared words (F.files shelf.old) (Go prepared.now) → IsWorkBeforeLastLine words
         (world F.files F.faults I.left I.faults O.written O.faults E.written E.faults
@@ -50,6 +54,7 @@ fn work_with<F: Shelf, I: Source, O: Sink, E: Sink, const W: usize>(
         (world F.files F.faults I.left I.faults O.written O.faults E.written E.faults
         shelf.new input.new out.new err.new)
         result }
+    ensures may_warn_on { MayWriteAfter (E.MayWrite err.new) result }
 {
     match warn(alloc, prepared, err) {
         Ok(()) => run_unless_refused(alloc, prepared, shelf, input, out),
@@ -74,6 +79,9 @@ fn work_on<F: Shelf, I: Source, O: Sink, E: Sink, const W: usize>(
     requires apart { AreTokenNamesDistinct front.grammar }
     requires tables { MayAskForTables front.order (F.MayAsk shelf.old) }
     requires asked { All (F.MayAsk shelf.old) (files_of_mode front.order) }
+    requires may_read { I.MayRead input.old }
+    requires may_write { O.MayWrite out.old }
+    requires may_warn { E.MayWrite err.old }
     ensures kept { F.files shelf.new ≡ F.files shelf.old }
     ensures ran { (words : List Text) → IsOrderAndGrammar words (F.files shelf.old) (Go front) → IsWorkBeforeLastLine words
         (world F.files F.faults I.left I.faults O.written O.faults E.written E.faults
@@ -81,6 +89,7 @@ fn work_on<F: Shelf, I: Source, O: Sink, E: Sink, const W: usize>(
         (world F.files F.faults I.left I.faults O.written O.faults E.written E.faults
         shelf.new input.new out.new err.new)
         result }
+    ensures may_warn_on { MayWriteAfter (E.MayWrite err.new) result }
 {
     match prepare::<F, W>(alloc, front, shelf) {
         Ok(prepared) => {
@@ -109,6 +118,9 @@ fn work_at_width<F: Shelf, I: Source, O: Sink, E: Sink>(
     requires apart { AreTokenNamesDistinct front.grammar }
     requires tables { MayAskForTables front.order (F.MayAsk shelf.old) }
     requires asked { All (F.MayAsk shelf.old) (files_of_mode front.order) }
+    requires may_read { I.MayRead input.old }
+    requires may_write { O.MayWrite out.old }
+    requires may_warn { E.MayWrite err.old }
     ensures kept { F.files shelf.new ≡ F.files shelf.old }
     ensures ran { (words : List Text) → IsOrderAndGrammar words (F.files shelf.old) (Go front) → IsWorkBeforeLastLine words
         (world F.files F.faults I.left I.faults O.written O.faults E.written E.faults
@@ -116,6 +128,7 @@ fn work_at_width<F: Shelf, I: Source, O: Sink, E: Sink>(
         (world F.files F.faults I.left I.faults O.written O.faults E.written E.faults
         shelf.new input.new out.new err.new)
         result }
+    ensures may_warn_on { MayWriteAfter (E.MayWrite err.new) result }
 {
     with_width!(front.grammar.tokens.len(); work_on; F, I, O, E; alloc, front, shelf, input, out, err)
 }
@@ -130,6 +143,9 @@ fn work<F: Shelf, I: Source, O: Sink, E: Sink>(
     err: &mut E,
 ) -> Result<(), Stop>
     requires asked { MayAskForFiles (map string_bytes words.now) (F.MayAsk shelf.old) }
+    requires may_read { I.MayRead input.old }
+    requires may_write { O.MayWrite out.old }
+    requires may_warn { E.MayWrite err.old }
     ensures kept { F.files shelf.new ≡ F.files shelf.old }
     ensures ran { IsWorkBeforeLastLine (map string_bytes words.now)
         (world F.files F.faults I.left I.faults O.written O.faults E.written E.faults
@@ -137,6 +153,7 @@ fn work<F: Shelf, I: Source, O: Sink, E: Sink>(
         (world F.files F.faults I.left I.faults O.written O.faults E.written E.faults
         shelf.new input.new out.new err.new)
         result }
+    ensures may_warn_on { MayWriteAfter (E.MayWrite err.new) result }
 {
     match front_of(alloc, words, shelf) {
         Ok(front) => work_at_width(alloc, front, shelf, input, out, err),
@@ -154,6 +171,9 @@ fn run<F: Shelf, I: Source, O: Sink, E: Sink>(
     err: &mut E,
 ) -> u8
     requires asked { MayAskForFiles (map string_bytes words.now) (F.MayAsk shelf.old) }
+    requires may_read { I.MayRead input.old }
+    requires may_write { O.MayWrite out.old }
+    requires may_warn { E.MayWrite err.old }
     ensures kept { F.files shelf.new ≡ F.files shelf.old }
     ensures ran { Ran (map string_bytes words.now)
         (world F.files F.faults I.left I.faults O.written O.faults E.written E.faults
@@ -181,6 +201,9 @@ pub fn menhir<F: Shelf, I: Source, O: Sink, E: Sink>(
 ) -> u8
     requires asked { MayAskForFiles (map string_bytes words.now) (F.MayAsk shelf.old) }
     // The full contract: how each run ends. The other clauses follow from it.
+    requires may_read { I.MayRead input.old }
+    requires may_write { O.MayWrite out.old }
+    requires may_warn { E.MayWrite err.old }
     ensures ran { Ran (map string_bytes words.now)
         (world F.files F.faults I.left I.faults O.written O.faults E.written E.faults
         shelf.old input.old out.old err.old)

@@ -11,8 +11,7 @@ use Rattle.mh_top_drive.specs.Text.{cannot_read, cannot_read_input, out_of_memor
 use Rattle.mh_top_drive.specs.Statuses.{status_of_cause, line_of_cause, last_line_of, status_of}
 use Rattle.mh_top_claims.specs.Work.{Work}
 use Rattle.mh_top_warnings.specs.Warnings.{warnings_of}
-use Rattle.mh_top_claims.specs.Run.{World, Ran, Finished, CannotReadFile, CannotReadInput, CannotWarn, CannotWrite, CannotSay, NoMemory, AfterWarnings, DoneSoFar, Nothing, Warned, Begun, OfCause, OfFile, OfInput, OfMemory, KeepsFaultCounts}
-use Rattle.mh_top_warnings.proofs.LastLine.{AppendsPrefix-after}
+use Rattle.mh_top_claims.specs.Run.{World, Ran, Finished, CannotReadFile, CannotReadInput, CannotWarn, CannotWrite, CannotSay, NoMemory, AfterWarnings, AppendsThenPrefix, DoneSoFar, Nothing, Warned, Begun, OfCause, OfFile, OfInput, OfMemory, KeepsFaultCounts}
 use Rattle.mh_top_warnings.specs.code.LastLine.{IsLastLine, ReportsStop, Said, Silent, Failed}
 use Rattle.mh_top_claims.specs.code.WorkBeforeLastLine.{IsWorkBeforeLastLine}
 use Rattle.mh_top_drive.specs.declared.stop.Cause.{Cause}
@@ -37,8 +36,8 @@ module _ (words : List Text) (b m : World) (err : Option Text) (n result : ℕ) 
   lined : (line : Text) → Appends m.err err line → (front : Text) → Appends b.err m.err front → Appends b.err err (front ++ line)
   lined line app front on = Appends-append b.err m.err err front line on app
 
-  cut : (line : Text) → AppendsPrefix m.err err line → (front : Text) → Appends b.err m.err front → AppendsPrefix b.err err (front ++ line)
-  cut line app front on = AppendsPrefix-after b.err m.err err front line on app
+  cut : (line : Text) → AppendsPrefix m.err err line → (front : Text) → Appends b.err m.err front → AppendsThenPrefix b.err err front line
+  cut line app front on = (app.0, Appends-append b.err m.err err front app.0 on app.1, app.2)
 
   fault_counts_kept : n ≡ m.err_faults → KeepsFaultCounts b m → KeepsFaultCounts b a
   fault_counts_kept calm quiet = record { shelf = quiet.shelf; input = quiet.input; out = quiet.out; err = calm ∙ quiet.err }

@@ -4,7 +4,6 @@ use Rattle.std.specs.Prelude.{◌≡◌, ◌⊎◌, ℕ, List, [], ◌++◌, Opt
 use Rattle.std.specs.Io.KnownBytes.{Appends}
 use Rattle.mh_outside.specs.Faults.{HasRisen, HasNotRisen}
 use Rattle.mh_outside.specs.Shelf.{Files, FileFound, NoFile, Long}
-use Rattle.mh_outside.specs.Sink.{AppendsPrefix}
 use Rattle.mh_grammar.specs.Text.{Text}
 use Rattle.mh_top_drive.specs.Text.{cannot_read, cannot_read_input, out_of_memory}
 use Rattle.mh_top_drive.specs.InputLines.{lines_of_input, are_within_limits}
@@ -13,10 +12,10 @@ use Rattle.mh_top_load.specs.Order.{staged_order}
 use Rattle.mh_top_drive.specs.FileContents.{IsFound}
 use Rattle.mh_top_plans.specs.Plan.{Plan, asks_of, plan_behavior}
 use Rattle.mh_top_claims.specs.Work.{Work, IsWork}
-use Rattle.mh_top_drive.specs.declared.driving.TheConstants.{LINE_LIMIT}
+use Rattle.mh_top_drive.specs.Limits.{line_limit}
 use Rattle.mh_top_drive.specs.ModeBehavior.{max_lines, requested_lines}
 use Rattle.mh_top_drive.specs.ModeRuns.{IsEndPrefix, IsAnswerPrefix, HasAnswered}
-use Rattle.mh_top_claims.specs.Run.{World, AfterWarnings, NoWriteFailed, OutWriteFailed, WarningWriteFailed, DoesWork, DoneSoFar, InputReadFailed, IsNextToRead, KeepsFaultCounts, LeavesInputAndOut, HasLastLine}
+use Rattle.mh_top_claims.specs.Run.{World, AfterWarnings, NoWriteFailed, OutWriteFailed, AppendsThenPrefix, WarningWriteFailed, DoesWork, DoneSoFar, InputReadFailed, IsNextToRead, KeepsFaultCounts, LeavesInputAndOut, HasLastLine}
 use Rattle.mh_opts.specs.declared.order.Order.{Order}
 use Rattle.mh_top_drive.specs.declared.driving.Asks.{Asks}
 use Rattle.mh_top_drive.specs.declared.driving.Asks.TheVariants.{NoLine}
@@ -42,7 +41,7 @@ AsksLines plan = asks_of plan ≡ NoLine → ⊥
 -- that is not known.
 abbrev pub IsInputOverLimit : Asks → Option Text → Type 0
 IsInputOverLimit asks None = ⊤
-IsInputOverLimit asks (Some input) = are_within_limits LINE_LIMIT (max_lines asks) (requested_lines asks (max_lines asks) (lines_of_input input)) ≡ false
+IsInputOverLimit asks (Some input) = are_within_limits line_limit (max_lines asks) (requested_lines asks (max_lines asks) (lines_of_input input)) ≡ false
 
 -- The work that the words ask for reads lines of an input that is over a limit.
 abbrev pub ReadsInputOverLimit : List Text → World → Type 0
@@ -96,10 +95,10 @@ WriteFaultIsReported before now status = (NoWriteFailed before now → ⊥) → 
 
 -- Claim: after a failed write nothing is written and no further line is read. One of three texts was cut short: the
 -- warnings, and nothing else was done; the text on out, after whole warnings, where the last line that was read is the
--- one that was being answered; or the last line on err.
+-- one that was being answered; or the last line on err, after whole warnings.
 abbrev pub WriteFaultStops : List Text → World → World → ℕ → Type 0
 WriteFaultStops words before now status = status ≡ 4 →
-    WarningWriteFailed words before now ⊎ AfterWarnings words before (OutWriteFailed before now) (Appends before.err now.err) ⊎ HasLastLine words before now (λ front line. AppendsPrefix before.err now.err (front ++ line))
+    WarningWriteFailed words before now ⊎ AfterWarnings words before (OutWriteFailed before now) (Appends before.err now.err) ⊎ HasLastLine words before now (AppendsThenPrefix before.err now.err)
 
 -- Claim: if memory ran out (status 6), the warnings are on err whole or not at all, out has the answers to the first
 -- lines and perhaps a prefix of the text at the end of the mode, and the last line on err says why.

@@ -3,7 +3,7 @@ use Rattle.std.specs.Prelude.{◌≡◌, ℕ, Bool, true, false, ◌&&◌, List,
 use Rattle.std.specs.Io.KnownBytes.{Appends}
 use Rattle.mh_outside.specs.Faults.{HasRisen}
 use Rattle.mh_outside.specs.Shelf.{Files}
-use Rattle.mh_outside.specs.Sink.{AppendsPrefix}
+use Rattle.mh_outside.specs.Sink.{AppendsPrefix, IsPrefix}
 use Rattle.mh_opts.specs.declared.order.Order.{Order}
 use Rattle.mh_grammar.specs.Text.{Text}
 use Rattle.mh_top_drive.specs.Text.{cannot_read, cannot_read_input, out_of_memory}
@@ -138,6 +138,10 @@ pub record WarningWriteFailed (words : List Text) (before now : World) : Type 0 
 abbrev pub ModeEnded : World → World → Option Cause → Work → Type 0
 ModeEnded before now cause w = IsCompleteRun plan_behavior w.plan before.left now.left before.out now.out cause
 
+-- The whole text `front` was appended, and then a prefix of the line.
+abbrev pub AppendsThenPrefix : Option Text → Option Text → Text → Text → Type 0
+AppendsThenPrefix old new front line = (part : Text) × Appends old new (front ++ part) × IsPrefix part line
+
 -- The last line that the call has to write on err, after the text `front`, for each reason to stop but a failed write:
 -- `OnErr front line` is true.
 pub data HasLastLine (words : List Text) (before now : World) (OnErr : Text → Text → Type 0) : Type 0 where
@@ -156,5 +160,6 @@ pub data Ran (words : List Text) (before now : World) (status : ℕ) : Type 0 wh
   CannotReadInput : status ≡ 3 → HasRisen before.input_faults now.input_faults → NoWriteFailed before now → AfterWarnings words before (InputReadFailed before now) (λ front. Appends before.err now.err (front ++ cannot_read_input)) → Ran words before now status
   CannotWarn : status ≡ 4 → HasRisen before.err_faults now.err_faults → WarningWriteFailed words before now → Ran words before now status
   CannotWrite : status ≡ 4 → HasRisen before.out_faults now.out_faults → now.input_faults ≡ before.input_faults → now.err_faults ≡ before.err_faults → AfterWarnings words before (OutWriteFailed before now) (Appends before.err now.err) → Ran words before now status
-  CannotSay : status ≡ 4 → now.out_faults ≡ before.out_faults → HasRisen before.err_faults now.err_faults → HasLastLine words before now (λ front line. AppendsPrefix before.err now.err (front ++ line)) → Ran words before now status
+  -- The last line was cut short. All warnings are on err.
+  CannotSay : status ≡ 4 → now.out_faults ≡ before.out_faults → HasRisen before.err_faults now.err_faults → HasLastLine words before now (AppendsThenPrefix before.err now.err) → Ran words before now status
   NoMemory : status ≡ 6 → NoWriteFailed before now → now.input_faults ≡ before.input_faults → DoneSoFar words before now (λ front. Appends before.err now.err (front ++ out_of_memory)) → Ran words before now status

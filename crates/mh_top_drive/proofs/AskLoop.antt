@@ -9,7 +9,7 @@ use Rattle.mh_outside.proofs.Consumes.{Appends-append}
 use Rattle.mh_grammar.specs.Text.{Text}
 use Rattle.mh_top_drive.specs.InputLines.{lines_of_input, lines_within_limits, are_within_limits, input_after_lines}
 use Rattle.mh_top_drive.specs.ModeBehavior.{AnswersAll, AreAskedLines, ModeEnd, ModeBehavior, asked_lines, input_left, max_lines, requested_lines}
-use Rattle.mh_top_drive.specs.declared.driving.TheConstants.{LINE_LIMIT}
+use Rattle.mh_top_drive.specs.Limits.{line_limit}
 use Rattle.mh_top_drive.specs.ModeRuns.{AreFirstLines, IsCompleteRun, LeavesInput, HasAnswered, TookLines, TookPartOfNext}
 use Rattle.mh_top_drive.specs.code.ModeCalls.{ModeRan, AllLinesAreAnswered, EndIsWritten, LineIsAnswered, LinesAreAnswered, NoLineIsLeft, TookLine}
 use Rattle.mh_top_drive.specs.declared.driving.Asks.{Asks}
@@ -26,8 +26,8 @@ module _ {Plan : Type 0} (way : ModeBehavior Plan) where
   -- The lines were the first of the input, `now` is the rest of the input, and the mode may request up to m more lines.
   pub record GotSome (asks : Asks) (m : ℕ) (input now : Text) (lines : List Text) : Type 0 where
     pub at : now ≡ input_after_lines (length lines) input
-    pub first : asked_lines asks input ≡ lines ++ lines_within_limits LINE_LIMIT m (requested_lines asks m (lines_of_input now))
-    pub small : are_within_limits LINE_LIMIT (max_lines asks) (requested_lines asks (max_lines asks) (lines_of_input input)) ≡ are_within_limits LINE_LIMIT m (requested_lines asks m (lines_of_input now))
+    pub first : asked_lines asks input ≡ lines ++ lines_within_limits line_limit m (requested_lines asks m (lines_of_input now))
+    pub small : are_within_limits line_limit (max_lines asks) (requested_lines asks (max_lines asks) (lines_of_input input)) ≡ are_within_limits line_limit m (requested_lines asks m (lines_of_input now))
 
   abbrev pub Known : Asks → ℕ → Option Text → Option Text → List Text → Type 0
   Known asks m None now lines = Unit {0}
@@ -84,15 +84,15 @@ module _ {Plan : Type 0} (way : ModeBehavior Plan) where
   length_more lines line = omega (arith, length-append lines (line ∷ []))
 
   -- If the mode may request one more line and the line is short enough, it is the first of the requested lines.
-  wanted_line : (asks : Asks) (m : ℕ) (line : Text) (lines : List Text) → (asks ≡ NoLine → ⊥) → length line ≤ LINE_LIMIT → lines_within_limits LINE_LIMIT (suc m) (requested_lines asks (suc m) (line ∷ lines)) ≡ line ∷ lines_within_limits LINE_LIMIT m (requested_lines asks m lines)
+  wanted_line : (asks : Asks) (m : ℕ) (line : Text) (lines : List Text) → (asks ≡ NoLine → ⊥) → length line ≤ line_limit → lines_within_limits line_limit (suc m) (requested_lines asks (suc m) (line ∷ lines)) ≡ line ∷ lines_within_limits line_limit m (requested_lines asks m lines)
   wanted_line NoLine m line lines some le = absurd (some refl)
-  wanted_line FirstLine m line lines some le = lines_within_limits-line LINE_LIMIT m line (take m lines) le
-  wanted_line EachLine m line lines some le = lines_within_limits-line LINE_LIMIT m line lines le
+  wanted_line FirstLine m line lines some le = lines_within_limits-line line_limit m line (take m lines) le
+  wanted_line EachLine m line lines some le = lines_within_limits-line line_limit m line lines le
 
-  small_line : (asks : Asks) (m : ℕ) (line : Text) (lines : List Text) → (asks ≡ NoLine → ⊥) → length line ≤ LINE_LIMIT → are_within_limits LINE_LIMIT (suc m) (requested_lines asks (suc m) (line ∷ lines)) ≡ are_within_limits LINE_LIMIT m (requested_lines asks m lines)
+  small_line : (asks : Asks) (m : ℕ) (line : Text) (lines : List Text) → (asks ≡ NoLine → ⊥) → length line ≤ line_limit → are_within_limits line_limit (suc m) (requested_lines asks (suc m) (line ∷ lines)) ≡ are_within_limits line_limit m (requested_lines asks m lines)
   small_line NoLine m line lines some le = absurd (some refl)
-  small_line FirstLine m line lines some le = are_within_limits-line LINE_LIMIT m line (take m lines) le
-  small_line EachLine m line lines some le = are_within_limits-line LINE_LIMIT m line lines le
+  small_line FirstLine m line lines some le = are_within_limits-line line_limit m line (take m lines) le
+  small_line EachLine m line lines some le = are_within_limits-line line_limit m line lines le
 
   -- A mode that may ask for one more line asks for lines.
   asks_some : (asks : Asks) (m k : ℕ) (old new : Option Text) (lines : List Text) → k ≡ suc m → Got asks k old new lines → asks ≡ NoLine → ⊥
@@ -107,9 +107,9 @@ module _ {Plan : Type 0} (way : ModeBehavior Plan) where
       let next_is : next ≡ after_line now = cc in
       record {
         at = next_is ∙ ap after_line known.at ∙ ap (λ (n : ℕ). input_after_lines n input) (sym (length_more lines line));
-        first = known.first ∙ ap₂ (λ (j : ℕ) (l : List Text). lines ++ lines_within_limits LINE_LIMIT j (requested_lines asks j l)) is front
-            ∙ ap (λ (l : List Text). lines ++ l) (wanted_line asks m line (lines_of_input next) some took.2) ∙ sym (append_assoc lines (line ∷ []) (lines_within_limits LINE_LIMIT m (requested_lines asks m (lines_of_input next))));
-        small = known.small ∙ ap₂ (λ (j : ℕ) (l : List Text). are_within_limits LINE_LIMIT j (requested_lines asks j l)) is front ∙ small_line asks m line (lines_of_input next) some took.2;
+        first = known.first ∙ ap₂ (λ (j : ℕ) (l : List Text). lines ++ lines_within_limits line_limit j (requested_lines asks j l)) is front
+            ∙ ap (λ (l : List Text). lines ++ l) (wanted_line asks m line (lines_of_input next) some took.2) ∙ sym (append_assoc lines (line ∷ []) (lines_within_limits line_limit m (requested_lines asks m (lines_of_input next))));
+        small = known.small ∙ ap₂ (λ (j : ℕ) (l : List Text). are_within_limits line_limit j (requested_lines asks j l)) is front ∙ small_line asks m line (lines_of_input next) some took.2;
       }
 
   got_line : (asks : Asks) (m k : ℕ) (in0 in1 in2 : Option Text) (lines : List Text) (line : Text) → k ≡ suc m → Got asks k in0 in1 lines → TookLine in1 in2 line → Got asks m in0 in2 (lines ++ line ∷ [])
@@ -164,7 +164,7 @@ module _ {Plan : Type 0} (way : ModeBehavior Plan) where
   -- passed.
   abbrev AreNone : Asks → ℕ → Option Text → Bool → Type 0
   AreNone asks m None whole = Unit {0}
-  AreNone asks m (Some now) whole = (lines_within_limits LINE_LIMIT m (requested_lines asks m (lines_of_input now)) ≡ []) × (are_within_limits LINE_LIMIT m (requested_lines asks m (lines_of_input now)) ≡ whole)
+  AreNone asks m (Some now) whole = (lines_within_limits line_limit m (requested_lines asks m (lines_of_input now)) ≡ []) × (are_within_limits line_limit m (requested_lines asks m (lines_of_input now)) ≡ whole)
 
   asks_told : (asks : Asks) (m : ℕ) (old new : Option Text) (lines : List Text) (whole : Bool) → Known asks m old new lines → AreNone asks m new whole → (asks ≡ NoLine → ⊥) → AreAskedLines asks old lines whole
   asks_told NoLine m old new lines whole known none some = absurd (some refl)
@@ -185,7 +185,7 @@ module _ {Plan : Type 0} (way : ModeBehavior Plan) where
   none_at_end asks m None end = tt
   none_at_end asks m (Some now) end =
       let none : requested_lines asks m (lines_of_input now) ≡ [] = ap (λ (l : Text). requested_lines asks m (lines_of_input l)) end ∙ wanted_nil asks m in
-      (ap (lines_within_limits LINE_LIMIT m) none, ap (are_within_limits LINE_LIMIT m) none)
+      (ap (lines_within_limits line_limit m) none, ap (are_within_limits line_limit m) none)
 
   got_kept : (asks : Asks) (m : ℕ) (in0 in1 in2 : Option Text) (lines : List Text) → (asks ≡ NoLine → ⊥) → Got asks m in0 in1 lines → Keeps in1 in2 → Got asks m in0 in2 lines
   got_kept asks m None in1 in2 lines some got keeps = record { none = λ none. absurd (some none); known = tt }
@@ -313,18 +313,18 @@ module _ {Plan : Type 0} (way : ModeBehavior Plan) where
     opens now next [] n same h long = absurd (omega arith)
     opens now next (b ∷ got) n same h long = let q = lines_of_input-open b got next h in (q.0, q.1, ap lines_of_input same ∙ q.2, omega (arith, q.3))
 
-    long_wanted : (asks : Asks) (line : Text) (lines : List Text) → (asks ≡ NoLine → ⊥) → LINE_LIMIT < length line → (lines_within_limits LINE_LIMIT (suc m) (requested_lines asks (suc m) (line ∷ lines)) ≡ []) × (are_within_limits LINE_LIMIT (suc m) (requested_lines asks (suc m) (line ∷ lines)) ≡ false)
+    long_wanted : (asks : Asks) (line : Text) (lines : List Text) → (asks ≡ NoLine → ⊥) → line_limit < length line → (lines_within_limits line_limit (suc m) (requested_lines asks (suc m) (line ∷ lines)) ≡ []) × (are_within_limits line_limit (suc m) (requested_lines asks (suc m) (line ∷ lines)) ≡ false)
     long_wanted NoLine line lines some lt = absurd (some refl)
-    long_wanted FirstLine line lines some lt = (lines_within_limits-long LINE_LIMIT (suc m) line (take m lines) lt, are_within_limits-long LINE_LIMIT (suc m) line (take m lines) lt)
-    long_wanted EachLine line lines some lt = (lines_within_limits-long LINE_LIMIT (suc m) line lines lt, are_within_limits-long LINE_LIMIT (suc m) line lines lt)
+    long_wanted FirstLine line lines some lt = (lines_within_limits-long line_limit (suc m) line (take m lines) lt, are_within_limits-long line_limit (suc m) line (take m lines) lt)
+    long_wanted EachLine line lines some lt = (lines_within_limits-long line_limit (suc m) line lines lt, are_within_limits-long line_limit (suc m) line lines lt)
 
-    long_line : (a b : Option Text) → LosesBytes a b (λ n. n ≡ LINE_LIMIT + 1) → AreNone (way.asks_of plan) k a false
+    long_line : (a b : Option Text) → LosesBytes a b (λ n. n ≡ line_limit + 1) → AreNone (way.asks_of plan) k a false
     long_line None b loses = tt
     long_line (Some now) None loses = absurd loses.1
     long_line (Some now) (Some next) loses =
-        let q = opens now next loses.0 LINE_LIMIT loses.1 loses.2 (omega (arith, loses.3)) in
+        let q = opens now next loses.0 line_limit loses.1 loses.2 (omega (arith, loses.3)) in
         let long = long_wanted (way.asks_of plan) q.0 q.1 some_asked q.3 in
-        (ap₂ (λ (j : ℕ) (l : List Text). lines_within_limits LINE_LIMIT j (requested_lines (way.asks_of plan) j l)) is q.2 ∙ long.0, ap₂ (λ (j : ℕ) (l : List Text). are_within_limits LINE_LIMIT j (requested_lines (way.asks_of plan) j l)) is q.2 ∙ long.1)
+        (ap₂ (λ (j : ℕ) (l : List Text). lines_within_limits line_limit j (requested_lines (way.asks_of plan) j l)) is q.2 ∙ long.0, ap₂ (λ (j : ℕ) (l : List Text). are_within_limits line_limit j (requested_lines (way.asks_of plan) j l)) is q.2 ∙ long.1)
 
     pub line_stops : (next : Plan) (stop : Stop) → LineIsAnswered way mid next in1 in2 out1 out2 (Err stop) → ModeRan way plan in0 in2 out0 out2 (Err stop)
     line_stops next (Halted cause) ran = too_much plan mid k in0 in1 out0 out1 so_far in2 out2 cause ran.0 some_asked (long_line in1 in2 ran.1) ran.2
@@ -377,7 +377,7 @@ module _ {Plan : Type 0} (way : ModeBehavior Plan) where
     each_some none = let same : EachLine ≡ NoLine = sym each ∙ none in absurd (cc)
 
     past_line : (now line : Text) (lines : List Text) → lines_of_input now ≡ line ∷ lines → AreNone (way.asks_of plan) m (Some now) false
-    past_line now line lines is = subst (λ (a : Asks). AreNone a m (Some now) false) (sym each) (subst (λ (k : ℕ). AreNone EachLine k (Some now) false) (sym last) (ap (lines_within_limits LINE_LIMIT 0) is, ap (are_within_limits LINE_LIMIT 0) is))
+    past_line now line lines is = subst (λ (a : Asks). AreNone a m (Some now) false) (sym each) (subst (λ (k : ℕ). AreNone EachLine k (Some now) false) (sym last) (ap (lines_within_limits line_limit 0) is, ap (are_within_limits line_limit 0) is))
 
     open_line : (now after got : Text) → now ≡ got ++ after → HasNoLF got → length got ≡ 1 → AreNone (way.asks_of plan) m (Some now) false
     open_line now after [] same h long = absurd (omega arith)

@@ -7,7 +7,7 @@ use Rattle.mh_outside.specs.declared.shelf.ShelfFault.TheVariants as shelf_fault
 use Rattle.mh_grammar.specs.Text.{Text}
 use Rattle.mh_top_drive.specs.StageResults.{Go, Halt}
 use Rattle.mh_top_drive.specs.FileContents.{IsLoaded}
-use Rattle.mh_top_drive.specs.declared.files.TheConstants.{FILE_LIMIT}
+use Rattle.mh_top_drive.specs.Limits.{file_limit}
 use Rattle.mh_top_drive.specs.code.StageCalls.{FileStageGives, ShelfFailsAt, StopsWith}
 use Rattle.mh_top_drive.specs.declared.stop.Cause.TheVariants.{Missing, LongFile}
 use Rattle.mh_top_drive.specs.declared.stop.Stop.{Stop}
@@ -16,11 +16,11 @@ use Rattle.mh_top_drive.specs.declared.stop.Stop.TheVariants.{Halted, ShelfFaile
 abbrev IsIt : Text → Text → Type 0
 IsIt name other = other ≡ name
 
-pub loads : (files : Option Files) (name : Text) (v : Vec ℕ Global) → ReadsFile files name FILE_LIMIT (Ok v) → IsLoaded files name (Go v.items)
+pub loads : (files : Option Files) (name : Text) (v : Vec ℕ Global) → ReadsFile files name file_limit (Ok v) → IsLoaded files name (Go v.items)
 loads None name v reads = (Bytes v.items, reads, refl)
 loads (Some fs) name v reads = (Bytes v.items, reads, refl)
 
-pub is_missing : (files : Option Files) (name : Text) (stop : Stop) → ReadsFile files name FILE_LIMIT (Err shelf_faults.Absent) → StopsWith (Missing name) stop → FileStageGives {A = Text} (IsLoaded files name) (IsIt name) (Err stop)
+pub is_missing : (files : Option Files) (name : Text) (stop : Stop) → ReadsFile files name file_limit (Err shelf_faults.Absent) → StopsWith (Missing name) stop → FileStageGives {A = Text} (IsLoaded files name) (IsIt name) (Err stop)
 is_missing None name stop reads is = absurd reads
 is_missing (Some fs) name (Halted cause) reads is = (NoFile, reads, ap Halt is)
 is_missing (Some fs) name OutOfMemory reads is = tt
@@ -28,7 +28,7 @@ is_missing (Some fs) name (ShelfFailed other) reads is = absurd is
 is_missing (Some fs) name InputFailed reads is = absurd is
 is_missing (Some fs) name WriteFailed reads is = absurd is
 
-pub is_long : (files : Option Files) (name : Text) (stop : Stop) → ReadsFile files name FILE_LIMIT (Err shelf_faults.TooBig) → StopsWith (LongFile name) stop → FileStageGives {A = Text} (IsLoaded files name) (IsIt name) (Err stop)
+pub is_long : (files : Option Files) (name : Text) (stop : Stop) → ReadsFile files name file_limit (Err shelf_faults.TooBig) → StopsWith (LongFile name) stop → FileStageGives {A = Text} (IsLoaded files name) (IsIt name) (Err stop)
 is_long None name (Halted cause) reads is = (Long, tt, ap Halt is)
 is_long (Some fs) name (Halted cause) reads is = (Long, reads, ap Halt is)
 is_long files name OutOfMemory reads is = tt
@@ -55,6 +55,6 @@ found_fits limit None bytes is = absurd (cc)
 found_fits limit (Some file) bytes is = fits_within limit file bytes (nat_le (length file) limit) refl is
 
 -- The bytes that were read are within the limit.
-pub loads_short : (files : Option Files) (name : Text) (v : Vec ℕ Global) → ReadsFile files name FILE_LIMIT (Ok v) → length v.items ≤ FILE_LIMIT
+pub loads_short : (files : Option Files) (name : Text) (v : Vec ℕ Global) → ReadsFile files name file_limit (Ok v) → length v.items ≤ file_limit
 loads_short None name v reads = reads
-loads_short (Some fs) name v reads = found_fits FILE_LIMIT (file_at fs name) v.items reads
+loads_short (Some fs) name v reads = found_fits file_limit (file_at fs name) v.items reads

@@ -3,6 +3,7 @@ pub mod FirstLine
 pub mod AskLoop
 pub mod LineCalls
 pub mod OpenedModes
+pub mod MayWriteAfter
 pub mod IsLoaded
 pub mod ReadFilesLoop
 pub mod LoadedUnique

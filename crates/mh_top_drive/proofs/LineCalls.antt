@@ -10,16 +10,16 @@ use Rattle.mh_outside.specs.declared.lines.LineFault.{LineFault}
 use Rattle.mh_outside.specs.declared.lines.LineFault.TheVariants as faults
 use Rattle.mh_grammar.specs.Text.{Text}
 use Rattle.mh_top_drive.specs.ModeBehavior.{ModeEnd, ModeBehavior}
-use Rattle.mh_top_drive.specs.declared.driving.TheConstants.{LINE_LIMIT}
+use Rattle.mh_top_drive.specs.Limits.{line_limit}
 use Rattle.mh_top_drive.specs.code.ModeCalls.{AnswerIsWritten, EndIsWritten, IsAfterFirstLine, LineIsAnswered, NextLineIsRead, NoLineIsLeft, IsStopForLineFault, TookLine, TextIsWritten}
 use Rattle.mh_top_drive.specs.declared.stop.Stop.{Stop}
 use Rattle.mh_top_drive.specs.declared.stop.Stop.TheVariants.{Halted, ShelfFailed, InputFailed, WriteFailed, OutOfMemory}
 
-next_so : (old new : Option Text) (v : Vec ℕ Global) → FindsLine LINE_LIMIT old new (Ok (Some v)) → IsAfterFirstLine old new
+next_so : (old new : Option Text) (v : Vec ℕ Global) → FindsLine line_limit old new (Ok (Some v)) → IsAfterFirstLine old new
 next_so None new v finds = tt
 next_so (Some bytes) new v finds = finds.1
 
-pub took_line : (old new : Option Text) (v : Vec ℕ Global) → ReadsLine LINE_LIMIT old new (Ok (Some v)) → FindsLine LINE_LIMIT old new (Ok (Some v)) → TookLine old new v.items
+pub took_line : (old new : Option Text) (v : Vec ℕ Global) → ReadsLine line_limit old new (Ok (Some v)) → FindsLine line_limit old new (Ok (Some v)) → TookLine old new v.items
 took_line old new v reads finds = (reads.0, reads.1, reads.2, next_so old new v finds)
 
 Keeps-same : (out : Option Text) → Keeps out out
@@ -29,12 +29,12 @@ Keeps-same (Some out) = refl
 loses_some : (in1 in2 : Option Text) (Size : ℕ → Type 0) → LosesBytes in1 in2 Size → LosesBytes in1 in2 (λ n. Unit {0})
 loses_some in1 in2 Size loses = (loses.0, loses.1, loses.2, tt)
 
-pub next_fault : (in0 in1 : Option Text) (fault : LineFault) (stop : Stop) → IsStopForLineFault fault stop → ReadsLine LINE_LIMIT in0 in1 (Err fault) → NextLineIsRead in0 in1 (Err stop)
-next_fault in0 in1 faults.Failed stop is reads = subst (λ (s : Stop). NextLineIsRead in0 in1 (Err s)) (sym is) (loses_some in0 in1 (λ n. n ≤ LINE_LIMIT) reads)
+pub next_fault : (in0 in1 : Option Text) (fault : LineFault) (stop : Stop) → IsStopForLineFault fault stop → ReadsLine line_limit in0 in1 (Err fault) → NextLineIsRead in0 in1 (Err stop)
+next_fault in0 in1 faults.Failed stop is reads = subst (λ (s : Stop). NextLineIsRead in0 in1 (Err s)) (sym is) (loses_some in0 in1 (λ n. n ≤ line_limit) reads)
 next_fault in0 in1 faults.TooBig stop is reads = subst (λ (s : Stop). NextLineIsRead in0 in1 (Err s)) (sym is) (refl, reads)
-next_fault in0 in1 faults.Memory stop is reads = subst (λ (s : Stop). NextLineIsRead in0 in1 (Err s)) (sym is) (loses_some in0 in1 (λ n. (0 < n) × (n ≤ LINE_LIMIT)) reads)
+next_fault in0 in1 faults.Memory stop is reads = subst (λ (s : Stop). NextLineIsRead in0 in1 (Err s)) (sym is) (loses_some in0 in1 (λ n. (0 < n) × (n ≤ line_limit)) reads)
 
-pub next_taken : (in0 in1 : Option Text) (line : Option (Vec ℕ Global)) → ReadsLine LINE_LIMIT in0 in1 (Ok line) → FindsLine LINE_LIMIT in0 in1 (Ok line) → NextLineIsRead in0 in1 (Ok line)
+pub next_taken : (in0 in1 : Option Text) (line : Option (Vec ℕ Global)) → ReadsLine line_limit in0 in1 (Ok line) → FindsLine line_limit in0 in1 (Ok line) → NextLineIsRead in0 in1 (Ok line)
 next_taken in0 in1 None reads finds = reads
 next_taken in0 in1 (Some v) reads finds = took_line in0 in1 v reads finds
 

@@ -5,16 +5,16 @@ use Rattle.std.specs.Prelude.{◌≡◌, ◌≤◌, [], ◌∷◌, List, length,
 use Rattle.mh_outside.specs.Shelf.{Files, FileFound, found_file, NoFile, Long, Bytes}
 use Rattle.mh_grammar.specs.Text.{Text}
 use Rattle.mh_top_drive.specs.StageResults.{StageResult, Go, Halt, Then, Gives}
-use Rattle.mh_top_drive.specs.declared.files.TheConstants.{FILE_LIMIT}
+use Rattle.mh_top_drive.specs.Limits.{file_limit}
 use Rattle.mh_top_drive.specs.declared.stop.Cause.TheVariants.{Missing, LongFile}
 
 -- The shelf has this under the name, with the limit of a file. If the files are not known, any content is possible at
 -- each read, but never that the file is absent.
 abbrev pub IsFound : Option Files → Text → FileFound → Type 0
-IsFound (Some files) name what = found_file files name FILE_LIMIT ≡ what
+IsFound (Some files) name what = found_file files name file_limit ≡ what
 IsFound None name NoFile = ⊥
 IsFound None name Long = ⊤
-IsFound None name (Bytes bytes) = length bytes ≤ FILE_LIMIT
+IsFound None name (Bytes bytes) = length bytes ≤ file_limit
 
 -- The bytes of a file, or the cause for which the work stops: the file is missing or too long.
 abbrev pub loaded : Text → FileFound → StageResult Text

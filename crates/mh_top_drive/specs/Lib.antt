@@ -1,6 +1,7 @@
 pub mod Text
 pub mod StageResults
 pub mod Statuses
+pub mod Limits
 pub mod InputLines
 pub mod ModeBehavior
 pub mod ModeRuns

@@ -5,7 +5,7 @@ use Rattle.mh_grammar.specs.Text.{Text}
 use Rattle.mh_top_drive.specs.InputLines.{lines_of_input, lines_within_limits, are_within_limits, input_after_lines}
 use Rattle.mh_top_drive.specs.declared.driving.Asks.{Asks}
 use Rattle.mh_top_drive.specs.declared.driving.Asks.TheVariants.{NoLine, FirstLine, EachLine}
-use Rattle.mh_top_drive.specs.declared.driving.TheConstants.{LINE_LIMIT, MAX_LINES}
+use Rattle.mh_top_drive.specs.Limits.{line_limit, line_count_limit}
 use Rattle.mh_top_drive.specs.declared.stop.Cause.{Cause}
 use Rattle.mh_top_drive.specs.declared.stop.Cause.TheVariants.{LongInput}
 
@@ -27,7 +27,7 @@ pub record ModeBehavior (State : Type 0) : Type 1 where
 abbrev pub max_lines : Asks → ℕ
 max_lines NoLine = 0
 max_lines FirstLine = 1
-max_lines EachLine = MAX_LINES
+max_lines EachLine = line_count_limit
 
 -- The requested part of the remaining lines, if the mode may ask for n more lines.
 abbrev pub requested_lines : Asks → ℕ → List Text → List Text
@@ -37,14 +37,14 @@ requested_lines EachLine n lines = lines
 
 -- The lines of an input that a mode requests and that can be read.
 abbrev pub asked_lines : Asks → Text → List Text
-asked_lines asks input = lines_within_limits LINE_LIMIT (max_lines asks) (requested_lines asks (max_lines asks) (lines_of_input input))
+asked_lines asks input = lines_within_limits line_limit (max_lines asks) (requested_lines asks (max_lines asks) (lines_of_input input))
 
 -- The lines are the requested ones that can be read. `whole` is true if these are all the requested ones: no line is
 -- too long, and there are not too many lines. If the input is not known, any lines are possible.
 abbrev pub AreAskedLines : Asks → Option Text → List Text → Bool → Type 0
 AreAskedLines NoLine input lines whole = (lines ≡ []) × (whole ≡ true)
 AreAskedLines asks None lines whole = ⊤
-AreAskedLines asks (Some input) lines whole = (asked_lines asks input ≡ lines) × (are_within_limits LINE_LIMIT (max_lines asks) (requested_lines asks (max_lines asks) (lines_of_input input)) ≡ whole)
+AreAskedLines asks (Some input) lines whole = (asked_lines asks input ≡ lines) × (are_within_limits line_limit (max_lines asks) (requested_lines asks (max_lines asks) (lines_of_input input)) ≡ whole)
 
 -- The input after the lines, if they are all the requested ones. Nothing is said of the input otherwise.
 abbrev pub input_left : Option Text → Bool → List Text → Option Text

@@ -1,3 +1,4 @@
 pub mod StageCalls
 pub mod ModeCalls
 pub mod OpenedModes
+pub mod MayWriteAfter

@@ -64,13 +64,16 @@ pub trait Mode {
     /// Writes the text after the answers, in one piece or in several, or stops the work.
     fn end<O: Sink>(self, alloc: Global, out: &mut O) -> Result<(), Stop>
         requires some { (plan : State) × Is self plan }
+        requires may_write { O.MayWrite out.old }
         ensures text { (plan : State) → Is self plan → EndIsWritten (way.EndsWith plan) (O.written out.old) (O.written out.new) result }
         ensures counts { OutCounts (O.faults out.old) (O.faults out.new) result };
 }
 
 /// Writes a text on out. The only failure is `Stop::WriteFailed`, after a prefix of the text.
 pub fn write_text<O: Sink>(out: &mut O, text: &[u8]) -> Result<(), Stop>
+    requires may_write { O.MayWrite out.old }
     ensures text { TextIsWritten text.now (O.written out.old) (O.written out.new) result }
+    ensures may_write_on { IfOk result (λ _. O.MayWrite out.new) }
     ensures counts { OutCounts (O.faults out.old) (O.faults out.new) result }
 {
     match write_whole(out, text) {
@@ -101,8 +104,10 @@ fn answer_line<O: Sink, M: Mode>(
 ) -> Result<(), Stop>
     requires short { length line.now < 2 ^ 32 }
     requires some { (plan : M.State) × M.Is mode.old plan }
+    requires may_write { O.MayWrite out.old }
     ensures text { (plan : M.State) → M.Is mode.old plan → (next : M.State) × M.Is mode.new next × AnswerIsWritten M.way plan next line.now
         (O.written out.old) (O.written out.new) result }
+    ensures may_write_on { IfOk result (λ _. O.MayWrite out.new) }
     ensures counts { OutCounts (O.faults out.old) (O.faults out.new) result }
 {
     let text = mode.answer(alloc, line)?;
@@ -111,7 +116,9 @@ fn answer_line<O: Sink, M: Mode>(
 
 /// Reads the next line; `None` at the end of the input.
 fn next_line<I: Source>(alloc: Global, input: &mut I) -> Result<Option<Vec<u8>>, Stop>
+    requires may_read { I.MayRead input.old }
     ensures line { NextLineIsRead (I.left input.old) (I.left input.new) result }
+    ensures may_read_on { IfOk result (λ _. I.MayRead input.new) }
     ensures counts { InputCounts (I.faults input.old) (I.faults input.new) result }
 {
     match read_line(alloc, input, LINE_LIMIT) {
@@ -128,8 +135,12 @@ fn take_line<I: Source, O: Sink, M: Mode>(
     mode: &mut M,
 ) -> Result<bool, Stop>
     requires some { (plan : M.State) × M.Is mode.old plan }
+    requires may_read { I.MayRead input.old }
+    requires may_write { O.MayWrite out.old }
     ensures ran { (plan : M.State) → M.Is mode.old plan → (next : M.State) × M.Is mode.new next × LineIsAnswered M.way plan next
         (I.left input.old) (I.left input.new) (O.written out.old) (O.written out.new) result }
+    ensures may_read_on { IfOk result (λ _. I.MayRead input.new) }
+    ensures may_write_on { IfOk result (λ _. O.MayWrite out.new) }
     ensures counts { InputAndOutCounts (I.faults input.old) (I.faults input.new)
         (O.faults out.old) (O.faults out.new) result }
 {
@@ -145,6 +156,7 @@ fn take_line<I: Source, O: Sink, M: Mode>(
 
 /// Reads once more after the last line that an input may have. The work stops if there is a further line.
 fn past_last<I: Source>(alloc: Global, input: &mut I) -> Result<(), Stop>
+    requires may_read { I.MayRead input.old }
     ensures ran { NoLineIsLeft (I.left input.old) (I.left input.new) result }
     ensures counts { InputCounts (I.faults input.old) (I.faults input.new) result }
 {
@@ -165,8 +177,11 @@ fn ask<I: Source, O: Sink, M: Mode>(
     mode: &mut M,
 ) -> Result<(), Stop>
     requires some { (plan : M.State) × M.Is mode.old plan }
+    requires may_read { I.MayRead input.old }
+    requires may_write { O.MayWrite out.old }
     ensures ran { (plan : M.State) → M.Is mode.old plan → (next : M.State) × M.Is mode.new next × LinesAreAnswered M.way plan
         (I.left input.old) (I.left input.new) (O.written out.old) (O.written out.new) next result }
+    ensures may_write_on { IfOk result (λ _. O.MayWrite out.new) }
     ensures counts { InputAndOutCounts (I.faults input.old) (I.faults input.new)
         (O.faults out.old) (O.faults out.new) result }
 {
@@ -193,6 +208,8 @@ pub fn drive_opened<I: Source, O: Sink, M: Mode + Drop>(
     out: &mut O,
 ) -> Result<(), Stop>
     requires some { IsOpened M.Is opened }
+    requires may_read { I.MayRead input.old }
+    requires may_write { O.MayWrite out.old }
     ensures ran { OpenedModeRan M.way M.Is opened (I.left input.old) (I.left input.new)
         (O.written out.old) (O.written out.new) result }
     ensures counts { InputAndOutCounts (I.faults input.old) (I.faults input.new)
@@ -212,6 +229,8 @@ pub fn drive<I: Source, O: Sink, M: Mode + Drop>(
     out: &mut O,
 ) -> Result<(), Stop>
     requires some { (plan : M.State) × M.Is mode plan }
+    requires may_read { I.MayRead input.old }
+    requires may_write { O.MayWrite out.old }
     ensures ran { (plan : M.State) → M.Is mode plan → ModeRan M.way plan (I.left input.old) (I.left input.new)
         (O.written out.old) (O.written out.new) result }
     ensures counts { InputAndOutCounts (I.faults input.old) (I.faults input.new)

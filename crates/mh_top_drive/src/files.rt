@@ -7,6 +7,7 @@ ghost use Rattle.mh_top_drive.specs.FileContents.{AreFileContents, IsFileContent
 ghost use Rattle.mh_top_drive.specs.NextFile.{IsNextFile};
 ghost use Rattle.mh_top_drive.specs.code.StageCalls.{FileStageGives, StopsWith, ShelfFailsAt, StageShelfCounts, StageGives, list_result};
 ghost use Rattle.mh_top_drive.specs.declared.stop.Cause.TheVariants.{Missing, LongFile};
+ghost use Rattle.mh_top_drive.specs.Limits.{file_limit};
 
 use crate::stop::{Cause, Stop};
 use mh_grammar::{Name, from_bytes};
@@ -65,7 +66,7 @@ fn shelf_failed(alloc: Global, name: &[u8]) -> Stop
 fn load<F: Shelf>(alloc: Global, shelf: &mut F, name: &[u8]) -> Result<Vec<u8>, Stop>
     requires asked { F.MayAsk shelf.old name.now }
     ensures bytes { FileStageGives (IsLoaded (F.files shelf.old) name.now) (λ other. other ≡ name.now) (list_result result) }
-    ensures short { IfOk result (λ bytes. length bytes.items ≤ FILE_LIMIT) }
+    ensures short { IfOk result (λ bytes. length bytes.items ≤ file_limit) }
     ensures kept { F.files shelf.new ≡ F.files shelf.old }
     ensures may_still { (other : List ℕ) → F.MayAsk shelf.old other → F.MayAsk shelf.new other }
     ensures counts { StageShelfCounts (F.faults shelf.old) (F.faults shelf.new) result }

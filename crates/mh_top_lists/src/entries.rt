@@ -1,5 +1,5 @@
 //! Writes the entries of the catalogue's rows, one after the other.
-ghost use Rattle.std.specs.Prelude.{◌≤◌};
+ghost use Rattle.std.specs.Prelude.{◌≤◌, IfOk};
 ghost use Rattle.mh_catalogue_rows.specs.Rows.{row_of, rows_of};
 ghost use Rattle.mh_top_lists.specs.code.Entries.{AreEntriesOf, AreFailingRows, IsEntryOf, IsFailingRow, WritesTextInParts, WritesWholeText};
 ghost use Rattle.mh_top_types.specs.code.Prepared.{IsConsistent};
@@ -22,7 +22,9 @@ fn write_entry<O: Sink, const W: usize>(
     requires few { W ≤ 8 }
     requires fit { IsConsistent prepared.now }
     requires row { IsFailingRow prepared.now.tabled.halting (row_of row.now) }
+    requires may_write { O.MayWrite out.old }
     ensures text { WritesWholeText (IsEntryOf prepared.now (row_of row.now)) (O.written out.old) (O.written out.new) result }
+    ensures may_write_on { IfOk result (λ _. O.MayWrite out.new) }
     ensures counts { OutCounts (O.faults out.old) (O.faults out.new) result }
 {
     let text = entry_text(
@@ -46,6 +48,7 @@ pub(crate) fn write_entries<O: Sink, const W: usize>(
     requires few { W ≤ 8 }
     requires fit { IsConsistent prepared.now }
     requires rows { AreFailingRows prepared.now.tabled.halting (rows_of rows.now) }
+    requires may_write { O.MayWrite out.old }
     ensures text { WritesTextInParts (AreEntriesOf prepared.now (rows_of rows.now)) (O.written out.old) (O.written out.new) result }
     ensures counts { OutCounts (O.faults out.old) (O.faults out.new) result }
 {

@@ -179,6 +179,8 @@ pub fn explain<I: Source, O: Sink, const W: usize>(
 ) -> Result<(), Stop>
     requires few { W ≤ 8 }
     requires fit { IsConsistent prepared.now }
+    requires may_read { I.MayRead input.old }
+    requires may_write { O.MayWrite out.old }
     ensures ran { ModeRan plan_behavior (Explains prepared.now []) (I.left input.old) (I.left input.new)
         (O.written out.old) (O.written out.new) result }
     ensures counts { InputAndOutCounts (I.faults input.old) (I.faults input.new)

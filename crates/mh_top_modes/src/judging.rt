@@ -320,6 +320,8 @@ pub fn interpret<F: Shelf, I: Source, O: Sink, const W: usize>(
     requires few { W ≤ 8 }
     requires fit { IsConsistent prepared.now }
     requires asked { All (F.MayAsk shelf.old) (optional_file prepared.now.order.messages) }
+    requires may_read { I.MayRead input.old }
+    requires may_write { O.MayWrite out.old }
     ensures ran { OpenedAndRan (IsPlanOfJob Interpret' (F.files shelf.old) prepared.now)
         (IsNextFileOfJob Interpret' (F.files shelf.old) prepared.now)
         (I.left input.old) (I.left input.new) (O.written out.old) (O.written out.new) result }

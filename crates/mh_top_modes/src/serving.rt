@@ -83,6 +83,8 @@ pub fn run_session<I: Source, O: Sink, const W: usize>(
 ) -> Result<(), Stop>
     requires few { W ≤ 8 }
     requires fit { IsConsistent prepared.now }
+    requires may_read { I.MayRead input.old }
+    requires may_write { O.MayWrite out.old }
     ensures ran { OpenedAndRan (λ plan. plan ≡ Serves prepared.now.grammar prepared.now.tabled.halting []) (λ name. ⊥)
         (I.left input.old) (I.left input.new) (O.written out.old) (O.written out.new) result }
     ensures counts { InputAndOutCounts (I.faults input.old) (I.faults input.new)

@@ -9,7 +9,7 @@ use Rattle.mh_top_drive.specs.declared.stop.Cause.{Cause}
 use Rattle.mh_top_drive.specs.declared.stop.Cause.TheVariants.{Refused}
 use Rattle.mh_top_drive.proofs.Then.{IsOne, then_once}
 use Rattle.mh_top_drive.specs.FileContents.{IsFileContent, IsFound, IsLoaded, loaded}
-use Rattle.mh_top_drive.specs.declared.files.TheConstants.{FILE_LIMIT}
+use Rattle.mh_top_drive.specs.Limits.{file_limit}
 use Rattle.mh_top_drive.proofs.IsLoaded.{found_fits}
 use Rattle.mh_top_drive.proofs.LoadedUnique.{loaded_once}
 use Rattle.mh_top_drive.proofs.ReadFilesLoop.{turn_first}
@@ -46,25 +46,25 @@ module _ {A : Type 0} (Stage : Text → Text → StageResult A → Type 0) (read
     pub file_right : (files : Option Files) (name : Text) (s : StageResult A) → ((what : FileFound) (cause : Cause) → IsFound files name what → loaded name what ≡ Halt cause → Right cause) → IsFileContent files Stage name s → StopsAllowed Right s
     file_right files name s unread is = read_right name is.1.0 is.0 s is.1.2 (λ cause halt. unread is.1.0 cause is.1.1 halt) is.2
 
-  module _ (some : (name bytes : Text) → length bytes ≤ FILE_LIMIT → (s : StageResult A) × Stage name bytes s) where
-    some_found : (files : Files) (name : Text) (what : FileFound) → found_file files name FILE_LIMIT ≡ what → (s : StageResult A) × IsFileContent (Some files) Stage name s
+  module _ (some : (name bytes : Text) → length bytes ≤ file_limit → (s : StageResult A) × Stage name bytes s) where
+    some_found : (files : Files) (name : Text) (what : FileFound) → found_file files name file_limit ≡ what → (s : StageResult A) × IsFileContent (Some files) Stage name s
     some_found files name NoFile is = (Halt _, (loaded name NoFile, (NoFile, is, refl), refl))
     some_found files name Long is = (Halt _, (loaded name Long, (Long, is, refl), refl))
-    some_found files name (Bytes bytes) is = let s = some name bytes (found_fits FILE_LIMIT (file_at files name) bytes is) in (s.0, (Go bytes, (Bytes bytes, is, refl), s.1))
+    some_found files name (Bytes bytes) is = let s = some name bytes (found_fits file_limit (file_at files name) bytes is) in (s.0, (Go bytes, (Bytes bytes, is, refl), s.1))
 
     pub some_file : (files : Option Files) (name : Text) → (s : StageResult A) × IsFileContent files Stage name s
     some_file None name = (Halt _, (loaded name Long, (Long, tt, refl), refl))
-    some_file (Some files) name = some_found files name (found_file files name FILE_LIMIT) refl
+    some_file (Some files) name = some_found files name (found_file files name file_limit) refl
 
 -- The bytes that were read are within the limit.
-pub loaded_short : (files : Option Files) (name bytes : Text) → IsLoaded files name (Go bytes) → length bytes ≤ FILE_LIMIT
+pub loaded_short : (files : Option Files) (name bytes : Text) → IsLoaded files name (Go bytes) → length bytes ≤ file_limit
 loaded_short files name bytes is = at files is.0 is.1 is.2
   where
-    at : (fs : Option Files) (what : FileFound) → IsFound fs name what → Go bytes ≡ loaded name what → length bytes ≤ FILE_LIMIT
+    at : (fs : Option Files) (what : FileFound) → IsFound fs name what → Go bytes ≡ loaded name what → length bytes ≤ file_limit
     at fs NoFile found_file same = absurd (cc)
     at fs Long found_file same = absurd (cc)
-    at None (Bytes read) found_file same = let one : read ≡ bytes = cc in subst (λ (b : Text). length b ≤ FILE_LIMIT) one found_file
-    at (Some told) (Bytes read) found_file same = let one : read ≡ bytes = cc in subst (λ (b : Text). length b ≤ FILE_LIMIT) one (found_fits FILE_LIMIT (file_at told name) read found_file)
+    at None (Bytes read) found_file same = let one : read ≡ bytes = cc in subst (λ (b : Text). length b ≤ file_limit) one found_file
+    at (Some told) (Bytes read) found_file same = let one : read ≡ bytes = cc in subst (λ (b : Text). length b ≤ file_limit) one (found_fits file_limit (file_at told name) read found_file)
 
 -- ---- The files of a mode.
 
@@ -82,7 +82,7 @@ pub record ReadFacts {A : Type 0} (p : Prepared) (names : List Text) (Has : Opti
   pub right : (Right : Cause → Type 0) → ((line : Text) → Right (Refused line)) → (files : Option Files) (s : StageResult A) → ((name : Text) (what : FileFound) (cause : Cause) → IsNextOfMode p names files name → IsFound files name what → loaded name what ≡ Halt cause → Right cause) → Has files s → StopsAllowed Right s
 
 -- The facts are true of a stage that reads one file.
-pub one_file : {A : Type 0} (p : Prepared) (file : Text) (Stage : Text → Text → StageResult A → Type 0) → ContentFacts Stage → (PreparedFacts p → (name bytes : Text) → length bytes ≤ FILE_LIMIT → (s : StageResult A) × Stage name bytes s) → ReadFacts p (file ∷ []) (λ files. IsFileContent files Stage file)
+pub one_file : {A : Type 0} (p : Prepared) (file : Text) (Stage : Text → Text → StageResult A → Type 0) → ContentFacts Stage → (PreparedFacts p → (name bytes : Text) → length bytes ≤ file_limit → (s : StageResult A) × Stage name bytes s) → ReadFacts p (file ∷ []) (λ files. IsFileContent files Stage file)
 one_file p file Stage reading some = record {
   some = λ files runs. some_file Stage reading (some runs) files file;
   once = λ files. file_once Stage reading files file;

@@ -24,7 +24,7 @@ use Rattle.mh_top_drive.proofs.Then.{IsOne, names_wider, then_once, then_stops}
 use Rattle.mh_top_drive.specs.FileContents.{IsFileContent, IsFound, IsLoaded, loaded}
 use Rattle.mh_top_types.specs.Shapes.{Prepared}
 use Rattle.mh_top_drive.specs.NextFile.{IsNextFile}
-use Rattle.mh_top_drive.specs.declared.files.TheConstants.{FILE_LIMIT}
+use Rattle.mh_top_drive.specs.Limits.{file_limit}
 use Rattle.mh_top_drive.proofs.ReadFilesLoop.{turn_first}
 use Rattle.mh_top_plans.specs.Files.{optional_file}
 use Rattle.mh_top_plans.specs.MessagesFiles.{AreMessages, AreMessagesOf, IsMessagesFile, Messages}
@@ -54,7 +54,7 @@ module _ (g : Grammar) where
 -- ---- The numbers in a messages file are those of the table.
 
 module _ (g : Grammar) (t : TableData) (same : t.grammar ≡ plain_of g) where
-  pub fits : (bytes : Text) (file : MsgFile) → length bytes ≤ FILE_LIMIT → MsgSpells g bytes file → AreSentencesOf (length t.grammar.starts) t.grammar.tokens file
+  pub fits : (bytes : Text) (file : MsgFile) → length bytes ≤ file_limit → MsgSpells g bytes file → AreSentencesOf (length t.grammar.starts) t.grammar.tokens file
   fits bytes file short spells = subst (λ (p : PlainGrammar). AreSentencesOf (length p.starts) p.tokens file) (sym same) (file_fits g bytes file (omega arith) spells)
 
   -- The numbers in a messages file that was read are in range for the table.
@@ -90,7 +90,7 @@ module _ (g : Grammar) (t : TableData) where
   }
 
   module _ (halts : HaltingFacts t) (same : t.grammar ≡ plain_of g) where
-    some_of : (name bytes : Text) → length bytes ≤ FILE_LIMIT → (first : StageResult MsgFile) → IsMessagesFile g name bytes first → (s : StageResult Messages) × AreMessages g t name bytes s
+    some_of : (name bytes : Text) → length bytes ≤ file_limit → (first : StageResult MsgFile) → IsMessagesFile g name bytes first → (s : StageResult Messages) × AreMessages g t name bytes s
     some_of name bytes short (Halt cause) is = (Halt cause, (Halt cause, is, refl))
     some_of name bytes short (Go file) is =
         elim (compiled_or_fault t halts file (fits g t same bytes file short is)) [
@@ -98,7 +98,7 @@ module _ (g : Grammar) (t : TableData) where
           | inr f ↦ (Halt (Refused (check_line name f.0)), (Go file, is, record { fault = f.0; first = f.1; cause_is = refl }))
         ]
 
-    pub some_checked : (name bytes : Text) → length bytes ≤ FILE_LIMIT → (s : StageResult Messages) × AreMessages g t name bytes s
+    pub some_checked : (name bytes : Text) → length bytes ≤ file_limit → (s : StageResult Messages) × AreMessages g t name bytes s
     some_checked name bytes short = let first = some_spelled g name bytes in some_of name bytes short first.0 first.1
 
 -- ---- The messages of the file that an order may name.

@@ -23,6 +23,7 @@ pub trait Writer {
     /// Writes the end, in one piece or in several, or stops the work.
     fn write<O: Sink>(self, alloc: Global, out: &mut O) -> Result<(), Stop>
         requires ready { is_ready self }
+        requires may_write { O.MayWrite out.old }
         ensures text { EndIsWritten (IsFinalOutput (end self)) (O.written out.old) (O.written out.new) result }
         ensures counts { OutCounts (O.faults out.old) (O.faults out.new) result };
 }
@@ -64,6 +65,8 @@ pub fn write_at_end<I: Source, O: Sink, T: Writer + Drop>(
     out: &mut O,
 ) -> Result<(), Stop>
     requires ready { T.is_ready writer }
+    requires may_read { I.MayRead input.old }
+    requires may_write { O.MayWrite out.old }
     ensures ran { ModeRan plan_behavior (Ends (T.end writer)) (I.left input.old) (I.left input.new)
         (O.written out.old) (O.written out.new) result }
     ensures counts { InputAndOutCounts (I.faults input.old) (I.faults input.new)
@@ -92,6 +95,7 @@ pub fn written(text: Vec<u8>) -> FinalText
 
 /// Writes the final text of a mode, or refuses the work with its line.
 pub fn write_final<O: Sink>(out: &mut O, made: FinalText) -> Result<(), Stop>
+    requires may_write { O.MayWrite out.old }
     ensures text { EndIsWritten (λ e. e ≡ end_of_final_text made) (O.written out.old) (O.written out.new) result }
     ensures counts { OutCounts (O.faults out.old) (O.faults out.new) result }
 {
@@ -126,6 +130,8 @@ pub fn write_made<I: Source, O: Sink>(
     out: &mut O,
 ) -> Result<(), Stop>
     requires some { IsOpened WritesFinal made }
+    requires may_read { I.MayRead input.old }
+    requires may_write { O.MayWrite out.old }
     ensures ran { OpenedModeRan plan_behavior WritesFinal made (I.left input.old) (I.left input.new)
         (O.written out.old) (O.written out.new) result }
     ensures counts { InputAndOutCounts (I.faults input.old) (I.faults input.new)

@@ -1,16 +1,19 @@
 //! The last line on err, and the exit status.
-ghost use Rattle.std.specs.Prelude.{◌++◌};
+ghost use Rattle.std.specs.Prelude.{◌++◌, IfOk};
 ghost use Rattle.mh_outside.specs.Faults.{CountsFault};
 ghost use Rattle.mh_outside.specs.Sink.{WritesWhole};
 ghost use Rattle.mh_top_drive.specs.Statuses.{status_of_cause, line_of_cause};
 ghost use Rattle.mh_top_warnings.specs.code.LastLine.{ReportsStop, WritesLastLine};
+ghost use Rattle.mh_top_drive.specs.code.MayWriteAfter.{MayWriteAfterStop};
 
 use mh_outside::{Sink, WriteFault, write_whole};
 use mh_top_drive::{Cause, Stop, status};
 
 /// Writes two parts, one after the other. The call takes no memory.
 fn write_both<E: Sink>(err: &mut E, first: &[u8], second: &[u8]) -> Result<(), WriteFault>
+    requires may_write { E.MayWrite err.old }
     ensures bytes { WritesWhole (E.written err.old) (E.written err.new) (first.now ++ second.now) result }
+    ensures may_write_on { IfOk result (λ _. E.MayWrite err.new) }
     ensures counts { CountsFault (E.faults err.old) (E.faults err.new) result }
 {
     match write_whole(err, first) {
@@ -26,6 +29,7 @@ fn write_line<E: Sink>(
     middle: &[u8],
     after: &[u8],
 ) -> Result<(), WriteFault>
+    requires may_write { E.MayWrite err.old }
     ensures bytes { WritesWhole (E.written err.old) (E.written err.new) (before.now ++ middle.now ++ after.now) result }
     ensures counts { CountsFault (E.faults err.old) (E.faults err.new) result }
 {
@@ -43,6 +47,7 @@ fn write_last_line<E: Sink>(
     after: &[u8],
     status: u8,
 ) -> u8
+    requires may_write { E.MayWrite err.old }
     ensures { WritesLastLine status (before.now ++ middle.now ++ after.now) (E.written err.old) (E.written err.new)
         (E.faults err.old) (E.faults err.new) result }
 {
@@ -54,6 +59,7 @@ fn write_last_line<E: Sink>(
 
 /// Writes the line for a cause, and gives the status of the cause.
 fn write_cause_line<E: Sink>(err: &mut E, cause: &Cause) -> u8
+    requires may_write { E.MayWrite err.old }
     ensures { WritesLastLine (status_of_cause cause.now) (line_of_cause cause.now) (E.written err.old) (E.written err.new)
         (E.faults err.old) (E.faults err.new) result }
 {
@@ -82,6 +88,7 @@ fn write_cause_line<E: Sink>(err: &mut E, cause: &Cause) -> u8
 /// Writes the line for the reason for which the work stopped, and gives the exit status. After a failed write nothing
 /// is written.
 pub fn report<E: Sink>(err: &mut E, stop: Stop) -> u8
+    requires may_write { MayWriteAfterStop (E.MayWrite err.old) stop }
     ensures { ReportsStop stop (E.written err.old) (E.written err.new)
         (E.faults err.old) (E.faults err.new) result }
 {

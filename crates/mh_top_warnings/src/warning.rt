@@ -3,6 +3,7 @@ ghost use Rattle.std.specs.Prelude.{◌≡◌, ◌≤◌, ◌&&◌};
 ghost use Rattle.mh_top_drive.specs.code.ModeCalls.{OutCounts};
 ghost use Rattle.mh_top_warnings.specs.code.Warnings.{Warned};
 ghost use Rattle.mh_top_warnings.specs.Warnings.{has_warning as has_warning_in, is_warned as is_warned_of, warnings_of};
+ghost use Rattle.mh_top_drive.specs.code.MayWriteAfter.{MayWriteAfter};
 
 use mh_outside::Sink;
 use mh_report::warning_text;
@@ -44,7 +45,9 @@ pub fn warn<E: Sink, const W: usize>(
     err: &mut E,
 ) -> Result<(), Stop>
     requires few { W ≤ 8 }
+    requires may_write { E.MayWrite err.old }
     ensures text { Warned (warnings_of prepared.now) (E.written err.old) (E.written err.new) result }
+    ensures may_write_on { MayWriteAfter (E.MayWrite err.new) result }
     ensures counts { OutCounts (E.faults err.old) (E.faults err.new) result }
 {
     let text = warning_text(

@@ -1,12 +1,11 @@
 //! The comment lines of the sentences of a messages file.
 ghost use Rattle.std.specs.Prelude.{◌≡◌, ◌≤◌, ◌++◌, [], ℕ, List, flat_map, length, IfOk, MatchResult};
 ghost use Rattle.std.specs.List.{AllByRecursion};
-ghost use Rattle.mh_grammar.specs.Plain.{plain_of};
-ghost use Rattle.mh_items_kernels.specs.Automaton.{IsAutomaton};
 ghost use Rattle.mh_msgfile.specs.Messages.{IsSentenceOf};
 ghost use Rattle.mh_msgfile.specs.declared.messages.MsgSentence.{MsgSentence as MsgSentence'};
 ghost use Rattle.mh_check.specs.Checks.{BreaksSoundness, FailsIn};
 ghost use Rattle.mh_check.specs.Compiling.{ReportsCheckFault};
+ghost use Rattle.mh_report_comments.specs.Fitting.{FitsStates};
 ghost use Rattle.mh_update_renewed.specs.Updates.{AreComments, IsComment, AreCommentsOrFault as CommentsOf};
 
 use mh_check::{CheckFault, failing_state};
@@ -26,9 +25,7 @@ fn comment_of<const W: usize>(
     table: &Halting,
     sentence: &MsgSentence,
 ) -> Result<Comment, Memory>
-    requires few { W ≤ 8 }
-    requires automaton { IsAutomaton (plain_of grammar.now) automaton.now }
-    requires states { length table.now.states ≡ length automaton.now.kernels }
+    requires fits { FitsStates W grammar.now automaton.now table.now }
     requires known { IsSentenceOf (length table.now.grammar.starts) table.now.grammar.tokens sentence.now }
     requires fails { (s : ℕ) × FailsIn table.now sentence.now s }
     ensures { IfOk result (IsComment grammar.now automaton.now table.now sentence.now) }
@@ -49,9 +46,7 @@ fn checked_comment<const W: usize>(
     table: &Halting,
     sentence: &MsgSentence,
 ) -> Result<Comment, CheckFault>
-    requires few { W ≤ 8 }
-    requires automaton { IsAutomaton (plain_of grammar.now) automaton.now }
-    requires states { length table.now.states ≡ length automaton.now.kernels }
+    requires fits { FitsStates W grammar.now automaton.now table.now }
     requires known { IsSentenceOf (length table.now.grammar.starts) table.now.grammar.tokens sentence.now }
     ensures { MatchResult result (IsComment grammar.now automaton.now table.now sentence.now) (λ fault. ReportsCheckFault fault (BreaksSoundness table.now [] sentence.now)) }
 {
@@ -73,9 +68,7 @@ fn put_comments<const W: usize>(
     sentences: &[MsgSentence],
     comments: &mut Vec<Comment>,
 ) -> Result<(), CheckFault>
-    requires few { W ≤ 8 }
-    requires automaton { IsAutomaton (plain_of grammar.now) automaton.now }
-    requires states { length table.now.states ≡ length automaton.now.kernels }
+    requires fits { FitsStates W grammar.now automaton.now table.now }
     requires known { AllByRecursion (IsSentenceOf (length table.now.grammar.starts) table.now.grammar.tokens) sentences.now }
     ensures { (done : List MsgSentence') → AreComments grammar.now automaton.now table.now done comments.old.items → CommentsOf grammar.now automaton.now table.now (done ++ sentences.now) comments.new.items result }
 {
@@ -100,9 +93,7 @@ pub(crate) fn all_comments<const W: usize>(
     entries: &[Entry],
     comments: &mut Vec<Comment>,
 ) -> Result<(), CheckFault>
-    requires few { W ≤ 8 }
-    requires automaton { IsAutomaton (plain_of grammar.now) automaton.now }
-    requires states { length table.now.states ≡ length automaton.now.kernels }
+    requires fits { FitsStates W grammar.now automaton.now table.now }
     requires known { AllByRecursion (λ entry. AllByRecursion (IsSentenceOf (length table.now.grammar.starts) table.now.grammar.tokens) entry.sentences) entries.now }
     requires none { comments.old.items ≡ [] }
     ensures { CommentsOf grammar.now automaton.now table.now (flat_map (λ entry. entry.sentences) entries.now) comments.new.items result }

@@ -1,10 +1,9 @@
 //! The text of a messages file that is brought up to date.
 ghost use Rattle.std.specs.Prelude.{◌≡◌, ◌≤◌, ◌-◌, ◌++◌, length, take, drop, IfOk, OnOk, MatchResult};
-ghost use Rattle.mh_grammar.specs.Plain.{plain_of};
-ghost use Rattle.mh_items_kernels.specs.Automaton.{IsAutomaton};
 ghost use Rattle.mh_msgfile.specs.Messages.{AreSentencesOf};
 ghost use Rattle.mh_check.specs.Checks.{sentences_of};
 ghost use Rattle.mh_check.specs.Compiling.{ReportsCheckFault};
+ghost use Rattle.mh_report_comments.specs.Fitting.{FitsStates};
 ghost use Rattle.mh_update_renewed.specs.Updates.{FirstUnfit, IsUpdated, kept_text, kept_texts_of, updated};
 
 use crate::comments::all_comments;
@@ -100,9 +99,7 @@ pub fn update<const W: usize>(
     table: &Halting,
     file: &MsgFile,
 ) -> Result<Vec<u8>, CheckFault>
-    requires few { W ≤ 8 }
-    requires automaton { IsAutomaton (plain_of grammar.now) automaton.now }
-    requires states { length table.now.states ≡ length automaton.now.kernels }
+    requires fits { FitsStates W grammar.now automaton.now table.now }
     requires known { AreSentencesOf (length table.now.grammar.starts) table.now.grammar.tokens file.now }
     ensures { MatchResult result (λ text. IsUpdated grammar.now automaton.now table.now file.now text.items) (λ fault. ReportsCheckFault fault (FirstUnfit table.now (sentences_of file.now))) }
 {

@@ -3,7 +3,8 @@ use crate::runs::check_cases;
 use std::test::Fail;
 
 // In the third run, state 3 refuses the second `X` and has a cell for `EOF` alone. The run reached this state by the
-// reduction that `%on_error_reduce` puts before the refusal.
+// reduction that `%on_error_reduce` puts before the refusal. In the fifth run, no token may follow `INT EQ INT`, since
+// `EQ` is not associative and `INT` has no cell.
 const REFUSALS: &str = "0 --interpret --show-expected g.mly
 ~
 g.mly
@@ -72,6 +73,27 @@ INT EQ INT EQ
 REJECT
 expected: EOF
 ~
+^
+0 --interpret --show-expected g.mly
+~
+g.mly
+%token INT EQ
+%nonassoc EQ
+%start e
+%%
+e: INT {} | e EQ e {}
+~
+INT EQ INT EQ
+INT INT
+INT EQ INT
+~
+REJECT
+expected:
+REJECT
+expected: EQ
+OVERSHOOT
+~
+menhir: warning: end-of-stream conflict in state 2
 ^
 0 --interpret --show-expected g.mly
 ~

@@ -1,5 +1,5 @@
 //! Grammars with as many tokens as a set of a given width holds, with one token more, and with the most tokens that are
-//! allowed, in both modes.
+//! allowed, in both modes; and the list of errors with the most tokens.
 use crate::runs::check_cases;
 use std::test::Fail;
 
@@ -115,7 +115,34 @@ REJECT
 ~
 ";
 
+// The first token is refused at the start; the last one, which is the whole sentence, is not.
+const ERRORS: &str = "0 --list-errors g.mly
+~
+g.mly
+%token`0..512  T@` %start s %% s: T511 {}
+~
+~
+s: T0
+##
+## Ends in an error in state: 0.
+##
+## s' -> . s [ # ]
+##
+## The known suffix of the stack is as follows:
+##
+##
+
+<YOUR SYNTAX ERROR MESSAGE HERE>
+
+~
+";
+
 #[test]
 fn are_interpreted(rt: HostRuntime) -> Result<(), Fail> {
     check_cases(&rt, rt.alloc(), CASES)
+}
+
+#[test]
+fn errors_are_listed(rt: HostRuntime) -> Result<(), Fail> {
+    check_cases(&rt, rt.alloc(), ERRORS)
 }

@@ -1,6 +1,6 @@
 //! Devices in memory whose contents contracts do not know: an input that counts its reads, and an output that accepts
 //! whole pieces or single bytes. All runs use these devices, so the tool is compiled once for the tests.
-ghost use Rattle.std.specs.Prelude.{◌<◌, None, length, IfOk};
+ghost use Rattle.std.specs.Prelude.{◌<◌, None, length, IfOk, ⊤};
 ghost use Rattle.std.specs.Io.{WritesAtMost};
 ghost use Rattle.std.specs.Io.KnownBytes.{WriteAppends};
 ghost use Rattle.mh_outside.specs.Faults.{CountsFault};
@@ -29,6 +29,8 @@ impl Source for CountedInput {
     ghost left = { λ s. None };
 
     ghost faults = { λ s. (source_calls s.input).faults };
+
+    ghost MayRead = { λ _. ⊤ };
 
     fn read(&mut self, buf: &mut [u8]) -> Result<usize, Failed> {
         self.reads = self.reads.saturating_add(1);
@@ -67,6 +69,8 @@ impl Sink for Output {
     ghost written = { λ s. None };
 
     ghost faults = { λ s. (sink_calls s.sink).faults };
+
+    ghost MayWrite = { λ _. ⊤ };
 
     fn write(&mut self, piece: &[u8]) -> Result<usize, Failed> {
         match self.takes {

@@ -1,5 +1,5 @@
 //! Tests of the devices in memory: what is read from them and written to them when each call fails in turn.
-ghost use Rattle.std.specs.Prelude.{◌≡◌, IfOk, Some};
+ghost use Rattle.std.specs.Prelude.{◌≡◌, IfOk, Some, ⊤};
 ghost use Rattle.mh_outside.specs.Fakes.{sink_written, sink_calls};
 
 use crate::cases::{Subject, Wanted, check_answer, check_cases, digit};
@@ -79,7 +79,9 @@ const LINES: &str = "9 0 ~^\
      9 7 ab\nc~>ab>c";
 
 /// Writes a piece, and appends `+` if the whole piece was written and `!` if a write failed.
-fn put_write<S: Sink>(text: &mut Vec<u8>, sink: &mut S, piece: &[u8]) {
+fn put_write<S: Sink>(text: &mut Vec<u8>, sink: &mut S, piece: &[u8])
+    requires { S.MayWrite sink.old }
+{
     put(
         text,
         match write_whole(sink, piece) {
@@ -109,6 +111,8 @@ impl Sink for OneByteSink {
     ghost written = { λ s. Some (sink_written s.sink) };
 
     ghost faults = { λ s. (sink_calls s.sink).faults };
+
+    ghost MayWrite = { λ _. ⊤ };
 
     fn write(&mut self, piece: &[u8]) -> Result<usize, Failed> {
         self.sink.write(&piece[..1])

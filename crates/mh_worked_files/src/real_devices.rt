@@ -55,7 +55,9 @@ fn a_file_is_read(rt: HostRuntime) {
 }
 
 /// Appends `>` and the next line, or `.` at the end.
-fn put_line<S: Source>(alloc: Global, text: &mut Vec<u8>, source: &mut S) {
+fn put_line<S: Source>(alloc: Global, text: &mut Vec<u8>, source: &mut S)
+    requires { S.MayRead source.old }
+{
     match read_line(alloc, source, 9) {
         Ok(Some(line)) => {
             put(text, b">");
@@ -80,7 +82,9 @@ fn lines_are_read(rt: HostRuntime) -> Result<(), Fail> {
 }
 
 /// Writes a piece, and appends `+` if it was written and `!` if the device fails.
-fn put_write<S: Sink>(text: &mut Vec<u8>, sink: &mut S, piece: &[u8]) {
+fn put_write<S: Sink>(text: &mut Vec<u8>, sink: &mut S, piece: &[u8])
+    requires { S.MayWrite sink.old }
+{
     match write_whole(sink, piece) {
         Ok(()) => put(text, b"+"),
         Err(WriteFault::Failed) => put(text, b"!"),

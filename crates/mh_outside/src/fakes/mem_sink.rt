@@ -1,5 +1,5 @@
 //! A sink in memory.
-ghost use Rattle.std.specs.Prelude.{◌≡◌, ◌<◌, [], length, is_err, Some, IfOk};
+ghost use Rattle.std.specs.Prelude.{◌≡◌, ◌<◌, [], length, is_err, Some, IfOk, ⊤};
 ghost use Rattle.std.specs.Io.{WritesAtMost};
 ghost use Rattle.std.specs.Io.KnownBytes.{WriteAppends};
 ghost use Rattle.mh_outside.specs.Faults.{CountsFault};
@@ -46,11 +46,15 @@ impl Sink for MemSink {
 
     ghost faults = { λ s. s.schedule.faults };
 
+    ghost MayWrite = { λ _. ⊤ };
+
     fn write(&mut self, piece: &[u8]) -> Result<usize, Failed>
-        requires { 0 < length piece.now }
+        requires filled { 0 < length piece.now }
+        requires asked { ⊤ }
         ensures some { IfOk result (λ n. 0 < n) }
         ensures bound { WritesAtMost result piece.now }
         ensures bytes { WriteAppends (Some (sink_written self.old)) (Some (sink_written self.new)) result piece.now }
+        ensures may_still { IfOk result (λ _. ⊤) }
         ensures counts { CountsFault (sink_calls self.old).faults (sink_calls self.new).faults result }
         ensures fails { WritesOrFails (fails_next (sink_calls self.old)) (length piece.now) (NeedsMemory self.old piece.now) result }
         ensures calls { sink_calls self.new ≡ after_call (is_err result) (sink_calls self.old) }

@@ -1,5 +1,5 @@
 //! A source in memory.
-ghost use Rattle.std.specs.Prelude.{◌≡◌, ◌<◌, ◌≤◌, length, drop, min, Some};
+ghost use Rattle.std.specs.Prelude.{◌≡◌, ◌<◌, ◌≤◌, length, drop, min, Some, IfOk, ⊤};
 ghost use Rattle.std.specs.Io.{ReadsAtMost};
 ghost use Rattle.std.specs.Io.KnownBytes.{ReadConsumes};
 ghost use Rattle.mh_outside.specs.Faults.{CountsFault};
@@ -40,10 +40,14 @@ impl Source for MemSource {
 
     ghost faults = { λ s. s.schedule.faults };
 
+    ghost MayRead = { λ _. ⊤ };
+
     fn read(&mut self, buf: &mut [u8]) -> Result<usize, Failed>
-        requires { 0 < length buf.old }
+        requires filled { 0 < length buf.old }
+        requires asked { ⊤ }
         ensures bound { ReadsAtMost result buf.new }
         ensures bytes { ReadConsumes (Some (mem_source_left self.old)) (Some (mem_source_left self.new)) result buf.new }
+        ensures may_still { IfOk result (λ _. ⊤) }
         ensures counts { CountsFault (source_calls self.old).faults (source_calls self.new).faults result }
         ensures fails { ReadsOrFails (fails_next (source_calls self.old)) (min (length buf.old) (length (mem_source_left self.old))) result }
         ensures calls { source_calls self.new ≡ after_call (fails_next (source_calls self.old)) (source_calls self.old) }

@@ -1,6 +1,6 @@
 -- The least lengths of the nonterminals, and the rows of choices: the productions of each nonterminal with the least
 -- lengths of their right sides.
-use Rattle.std.specs.Prelude.{◌≡◌, ◌<◌, ◌≤◌, ◌+◌, ℕ, Bool, List, Some, length, slice_get, slice_index_or, sum_by, nat_le}
+use Rattle.std.specs.Prelude.{◌≡◌, ◌<◌, ◌+◌, ℕ, Bool, List, Some, length, slice_get, slice_index_or, sum_by, nat_le}
 use Rattle.std.specs.List.{Contains}
 use Rattle.mh_grammar.specs.declared.types.Symbol.{Symbol}
 use Rattle.mh_grammar.specs.declared.types.Symbol.TheVariants.{T, N}

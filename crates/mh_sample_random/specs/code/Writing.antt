@@ -1,8 +1,8 @@
 -- The invariants of a sentence that the code is writing.
-use Rattle.std.specs.Prelude.{◌≡◌, ◌<◌, ◌≤◌, ◌+◌, ◌-◌, ◌*◌, ◌^◌, ℕ, List, [], ◌∷◌, length, reverse, slice_index_or}
+use Rattle.std.specs.Prelude.{◌≡◌, ◌≤◌, ◌+◌, ◌-◌, ◌*◌, ◌^◌, ℕ, List, [], ◌∷◌, length, reverse, slice_index_or}
 use Rattle.std.specs.List.{All}
 use Rattle.mh_grammar.specs.declared.types.Symbol.{Symbol}
-use Rattle.mh_grammar.specs.Plain.{PlainGrammar, plain_of, IsInRange, IsSymbolBelow}
+use Rattle.mh_grammar.specs.Plain.{plain_of, IsInRange, IsSymbolBelow}
 use Rattle.mh_sample_shortest.specs.declared.word.TheConstants.{MAX_WORD}
 use Rattle.mh_sample_random.specs.declared.writing.Guide.{Guide}
 use Rattle.mh_sample_random.specs.declared.writing.Writing.{Writing}

@@ -9,7 +9,7 @@ use Rattle.mh_outside.specs.declared.lines.LineFault.{LineFault}
 use Rattle.mh_outside.specs.declared.lines.LineFault.TheVariants as faults
 use Rattle.mh_grammar.specs.Text.{Text}
 use Rattle.mh_top_drive.specs.ModeBehavior.{AnswersAll, AreAskedLines, ModeEnd, ModeBehavior}
-use Rattle.mh_top_drive.specs.declared.driving.TheConstants.{LINE_LIMIT}
+use Rattle.mh_top_drive.specs.Limits.{line_limit}
 use Rattle.mh_top_drive.specs.declared.stop.Cause.TheVariants.{LongInput}
 use Rattle.mh_top_drive.specs.declared.stop.Stop.{Stop}
 use Rattle.mh_top_drive.specs.declared.stop.Stop.TheVariants.{Halted, ShelfFailed, InputFailed, WriteFailed, OutOfMemory}
@@ -35,13 +35,13 @@ IsAfterFirstLine (Some bytes) new = new ≡ Some (after_line bytes)
 
 -- A whole line was read, and it is within the limit.
 abbrev pub TookLine : Option Text → Option Text → Text → Type 0
-TookLine old new line = TakesLine old new line × HasNoLF line × (length line ≤ LINE_LIMIT) × IsAfterFirstLine old new
+TookLine old new line = TakesLine old new line × HasNoLF line × (length line ≤ line_limit) × IsAfterFirstLine old new
 
 -- The next line was read, or the input is at its end, or the line could not be read for the given reason.
 abbrev pub NextLineIsRead : Option Text → Option Text → Result (Option (Vec ℕ Global)) Stop → Type 0
 NextLineIsRead old new (Ok None) = IsAtEnd old × Keeps old new
 NextLineIsRead old new (Ok (Some line)) = TookLine old new line.items
-NextLineIsRead old new (Err (Halted cause)) = (cause ≡ LongInput) × LosesBytes old new (λ n. n ≡ LINE_LIMIT + 1)
+NextLineIsRead old new (Err (Halted cause)) = (cause ≡ LongInput) × LosesBytes old new (λ n. n ≡ line_limit + 1)
 NextLineIsRead old new (Err InputFailed) = LosesBytes old new (λ n. ⊤)
 NextLineIsRead old new (Err OutOfMemory) = LosesBytes old new (λ n. ⊤)
 NextLineIsRead old new (Err _) = ⊥
@@ -113,7 +113,7 @@ module _ {Plan : Type 0} (way : ModeBehavior Plan) where
   abbrev pub LineIsAnswered : Plan → Plan → Option Text → Option Text → Option Text → Option Text → Result Bool Stop → Type 0
   LineIsAnswered plan next in0 in1 out0 out1 (Ok false) = IsAtEnd in0 × Keeps in0 in1 × (next ≡ plan) × Keeps out0 out1
   LineIsAnswered plan next in0 in1 out0 out1 (Ok true) = (line text : Text) × TookLine in0 in1 line × way.Answers plan line text next × Appends out0 out1 text
-  LineIsAnswered plan next in0 in1 out0 out1 (Err (Halted cause)) = (cause ≡ LongInput) × LosesBytes in0 in1 (λ n. n ≡ LINE_LIMIT + 1) × Keeps out0 out1
+  LineIsAnswered plan next in0 in1 out0 out1 (Err (Halted cause)) = (cause ≡ LongInput) × LosesBytes in0 in1 (λ n. n ≡ line_limit + 1) × Keeps out0 out1
   LineIsAnswered plan next in0 in1 out0 out1 (Err InputFailed) = LosesBytes in0 in1 (λ n. ⊤) × Keeps out0 out1
   LineIsAnswered plan next in0 in1 out0 out1 (Err WriteFailed) = (line text : Text) × TookLine in0 in1 line × (after : Plan) × way.Answers plan line text after × AppendsPrefix out0 out1 text
   LineIsAnswered plan next in0 in1 out0 out1 (Err OutOfMemory) = (LosesBytes in0 in1 (λ n. ⊤) ⊎ ((line : Text) × TookLine in0 in1 line)) × Keeps out0 out1

@@ -1,4 +1,4 @@
-use Rattle.std.proofs.Common.{◌≡◌, ◌+◌, length, arith}
+use Rattle.std.proofs.Common.{◌≡◌, ◌+◌, arith}
 use Rattle.mh_check.proofs.ArePlaces.{fails_by, known_by, early_by, accepted_by, overshot_by}
 use Rattle.mh_check.proofs.places.failing_state.Goals as goal
 

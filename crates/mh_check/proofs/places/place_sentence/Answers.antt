@@ -1,6 +1,6 @@
 use Rattle.std.proofs.Common.{◌<◌, ◌++◌, ◌∷◌, [], length, Some, None, arith}
 use Rattle.mh_check.specs.Checks.{BreaksSoundness, FirstFault}
-use Rattle.mh_check.specs.code.Places.{entry_sentence, place_of, without_entries, ArePlaces}
+use Rattle.mh_check.specs.code.Places.{entry_sentence, without_entries}
 use Rattle.mh_check.proofs.ArePlaces.{shares, placed_more, breaks, ReportsCheckFault-weaker, at_place}
 use Rattle.mh_check.proofs.places.place_sentence.Goals as goal
 

@@ -10,6 +10,7 @@ loop-line-preserved g c =
       taken = Consumes-push _ _ _ c.loop-line.line.items _ c.in-Some.byte so_far.taken (rw c.in-Some.is at c.in_ok-read_byte.ensures.bytes) added.0;
       no_end = HasNoLF-more _ _ c.in-Some.byte so_far.no_end c.in-Some.byte-test.1 added.0;
       fits = omega (arith, added.1, length-push _ _ _ added.0);
+      may = c.in_ok-read_byte.ensures.may_still;
       calm = c.in_ok-read_byte.ensures.counts ∙ so_far.calm;
     }
 

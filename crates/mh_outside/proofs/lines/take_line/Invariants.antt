@@ -9,6 +9,7 @@ invariant-loop-line g l =
       taken : Consumes (g.S.Source.left l.fn.source) (g.S.Source.left l.source) l.line.items;
       no_end : HasNoLF l.line.items;
       fits : length l.line.items ≤ l.limit;
+      may : g.S.Source.MayRead l.source;
       calm : g.S.Source.faults l.source ≡ g.S.Source.faults l.fn.source;
     }
 

@@ -6,6 +6,7 @@ pub loop-rest-preserved : goal.loop-rest-preserved
 loop-rest-preserved g c =
     record {
       so_far = appends_more _ _ _ _ _ c.loop-rest.rest.now c.in-Ok.count _ c.loop-rest.invariant.so_far.1 c.loop-rest.invariant.so_far.2 c.in-Ok.ensures.bytes (omega arith);
+      may = c.in-Ok.ensures.may_still;
       calm = c.in-Ok.ensures.counts ∙ c.loop-rest.invariant.calm;
     }
 

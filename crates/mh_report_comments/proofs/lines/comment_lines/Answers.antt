@@ -11,19 +11,19 @@ pub index-requires : goal.index-requires
 index-requires g c =
     let below : c.in-Reject.state < length c.args.table.now.states =
     state_below c.args.table.now c.table-facts.ensures.facts.facts c.args.start c.args.sentence.now c.requires.fails c.in_ok-verdict.verdict c.in_ok-verdict.reduced.items c.in_ok-verdict.ensures c.in-Reject.at c.in-Reject.state c.in-Reject.is in
-    omega (arith, below, c.requires.states)
+    omega (arith, below, c.requires.fits.states)
 
 pub write_comments-requires : goal.write_comments-requires
 write_comments-requires g c =
     let below : c.in-Reject.state < length c.args.table.now.states =
     state_below c.args.table.now c.table-facts.ensures.facts.facts c.args.start c.args.sentence.now c.requires.fails c.in_ok-verdict.verdict c.in_ok-verdict.reduced.items c.in_ok-verdict.ensures c.in-Reject.at c.in-Reject.state c.in-Reject.is in
-    let known : c.in-Reject.state < length c.args.automaton.now.kernels = omega (arith, below, c.requires.states) in (
+    let known : c.in-Reject.state < length c.args.automaton.now.kernels = omega (arith, below, c.requires.fits.states) in (
       search rules,
       (
-        c.requires.few,
+        c.requires.fits.few,
         (
-          some_item c.args.grammar.now c.args.automaton.now c.requires.automaton c.in-Reject.state c.as_slice-items.result.now known (kernel_has c.args.automaton.now c.in-Reject.state c.index.result.now c.as_slice-items.result.now known c.index.ensures c.as_slice-items.ensures),
-          kernel_items c.args.grammar.now c.args.automaton.now c.requires.automaton c.in-Reject.state c.index.result.now c.as_slice-items.result.now known c.index.ensures c.as_slice-items.ensures,
+          some_item c.args.grammar.now c.args.automaton.now c.requires.fits.automaton c.in-Reject.state c.as_slice-items.result.now known (kernel_has c.args.automaton.now c.in-Reject.state c.index.result.now c.as_slice-items.result.now known c.index.ensures c.as_slice-items.ensures),
+          kernel_items c.args.grammar.now c.args.automaton.now c.requires.fits.automaton c.in-Reject.state c.index.result.now c.as_slice-items.result.now known c.index.ensures c.as_slice-items.ensures,
         ),
       ),
     )
@@ -32,7 +32,7 @@ pub returns : goal.returns
 returns g c =
     let below : c.in-Reject.state < length c.args.table.now.states =
     state_below c.args.table.now c.table-facts.ensures.facts.facts c.args.start c.args.sentence.now c.requires.fails c.in_ok-verdict.verdict c.in_ok-verdict.reduced.items c.in_ok-verdict.ensures c.in-Reject.at c.in-Reject.state c.in-Reject.is in
-    let known : c.in-Reject.state < length c.args.automaton.now.kernels = omega (arith, below, c.requires.states) in
+    let known : c.in-Reject.state < length c.args.automaton.now.kernels = omega (arith, below, c.requires.fits.states) in
     appends_comments c.args.table.now c.table-facts.ensures.facts.facts c.args.start c.args.sentence.now c.requires.fails c.in_ok-verdict.verdict c.in_ok-verdict.reduced.items c.in_ok-verdict.ensures
     c.args.grammar.now c.args.automaton.now c.in-Reject.at c.in-Reject.state c.in-Reject.is c.as_slice-items.result.now
     (kernel_has c.args.automaton.now c.in-Reject.state c.index.result.now c.as_slice-items.result.now known c.index.ensures c.as_slice-items.ensures)

@@ -1,4 +1,4 @@
-use Rattle.std.proofs.Common.{◌<◌, length, map, arith}
+use Rattle.std.proofs.Common.{◌<◌, map, arith}
 use Rattle.mh_tables_core.specs.Table.{state_at}
 use Rattle.mh_tabfile_form.specs.Form.{cell_line}
 use Rattle.mh_tabfile_form.specs.TableContent.{raw_row}

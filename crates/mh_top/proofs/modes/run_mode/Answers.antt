@@ -36,7 +36,7 @@ pub returns-in-InterpretError-clause-read : goal.returns-in-InterpretError-claus
 returns-in-InterpretError-clause-read g c = ran_read plan_behavior _ _ _ _ _ _ c.explain.result c.explain.ensures.ran
 
 pub explain-requires : goal.explain-requires
-explain-requires g c = (search rules, (c.requires.few, c.requires.fit))
+explain-requires g c = (search rules, (c.requires.few, (c.requires.fit, (c.requires.may_read, c.requires.may_write))))
 
 pub returns-in-Session-clause-ran : goal.returns-in-Session-clause-ran
 returns-in-Session-clause-ran g c = of_job (g.F.Shelf.files c.args.shelf.now) c.args.prepared.now Session c.in-Session.is _ _ _ _ c.run_session.result (still_followed _ _ _ _ _ _ c.run_session.result c.run_session.ensures.ran)
@@ -51,7 +51,7 @@ pub returns-in-Session-clause-read : goal.returns-in-Session-clause-read
 returns-in-Session-clause-read g c = still_read _ _ _ _ _ _ c.run_session.result c.run_session.ensures.ran
 
 pub run_session-requires : goal.run_session-requires
-run_session-requires g c = (search rules, (c.requires.few, c.requires.fit))
+run_session-requires g c = (search rules, (c.requires.few, (c.requires.fit, (c.requires.may_read, c.requires.may_write))))
 
 -- ---- Modes that write only at their end.
 
@@ -144,7 +144,7 @@ pub returns-in-CompileErrors-clause-read : goal.returns-in-CompileErrors-clause-
 returns-in-CompileErrors-clause-read g c = opened_read WritesFinal _ _ c.compile_errors-made.result _ _ _ _ _ _ c.write_made.result c.compile_errors-made.ensures.opens c.compile_errors-made.ensures.counts c.write_made.ensures.ran
 
 pub write_made-requires : goal.write_made-requires
-write_made-requires g c = record { some = opened_some WritesFinal _ _ c.compile_errors-made.result c.compile_errors-made.ensures.opens }
+write_made-requires g c = record { some = opened_some WritesFinal _ _ c.compile_errors-made.result c.compile_errors-made.ensures.opens; may_read = c.requires.may_read; may_write = c.requires.may_write }
 
 pub returns-in-CompareErrors-clause-ran : goal.returns-in-CompareErrors-clause-ran
 returns-in-CompareErrors-clause-ran g c =
@@ -161,7 +161,7 @@ pub returns-in-CompareErrors-clause-read : goal.returns-in-CompareErrors-clause-
 returns-in-CompareErrors-clause-read g c = opened_read WritesFinal _ _ c.compare_errors-made.result _ _ _ _ _ _ c.write_made-in-CompareErrors.result c.compare_errors-made.ensures.opens c.compare_errors-made.ensures.counts c.write_made-in-CompareErrors.ensures.ran
 
 pub write_made-requires-in-CompareErrors : goal.write_made-requires-in-CompareErrors
-write_made-requires-in-CompareErrors g c = record { some = opened_some WritesFinal _ _ c.compare_errors-made.result c.compare_errors-made.ensures.opens }
+write_made-requires-in-CompareErrors g c = record { some = opened_some WritesFinal _ _ c.compare_errors-made.result c.compare_errors-made.ensures.opens; may_read = c.requires.may_read; may_write = c.requires.may_write }
 
 pub returns-in-EchoErrors-clause-ran : goal.returns-in-EchoErrors-clause-ran
 returns-in-EchoErrors-clause-ran g c =
@@ -178,7 +178,7 @@ pub returns-in-EchoErrors-clause-read : goal.returns-in-EchoErrors-clause-read
 returns-in-EchoErrors-clause-read g c = opened_read WritesFinal _ _ c.echo_errors-made.result _ _ _ _ _ _ c.write_made-in-EchoErrors.result c.echo_errors-made.ensures.opens c.echo_errors-made.ensures.counts c.write_made-in-EchoErrors.ensures.ran
 
 pub write_made-requires-in-EchoErrors : goal.write_made-requires-in-EchoErrors
-write_made-requires-in-EchoErrors g c = record { some = opened_some WritesFinal _ _ c.echo_errors-made.result c.echo_errors-made.ensures.opens }
+write_made-requires-in-EchoErrors g c = record { some = opened_some WritesFinal _ _ c.echo_errors-made.result c.echo_errors-made.ensures.opens; may_read = c.requires.may_read; may_write = c.requires.may_write }
 
 pub returns-in-UpdateErrors-clause-ran : goal.returns-in-UpdateErrors-clause-ran
 returns-in-UpdateErrors-clause-ran g c =
@@ -195,7 +195,7 @@ pub returns-in-UpdateErrors-clause-read : goal.returns-in-UpdateErrors-clause-re
 returns-in-UpdateErrors-clause-read g c = opened_read WritesFinal _ _ c.update_errors-made.result _ _ _ _ _ _ c.write_made-in-UpdateErrors.result c.update_errors-made.ensures.opens c.update_errors-made.ensures.counts c.write_made-in-UpdateErrors.ensures.ran
 
 pub write_made-requires-in-UpdateErrors : goal.write_made-requires-in-UpdateErrors
-write_made-requires-in-UpdateErrors g c = record { some = opened_some WritesFinal _ _ c.update_errors-made.result c.update_errors-made.ensures.opens }
+write_made-requires-in-UpdateErrors g c = record { some = opened_some WritesFinal _ _ c.update_errors-made.result c.update_errors-made.ensures.opens; may_read = c.requires.may_read; may_write = c.requires.may_write }
 
 -- ---- The shelf may be asked for the messages files of the mode.
 

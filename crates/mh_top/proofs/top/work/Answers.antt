@@ -4,6 +4,7 @@ use Rattle.std.specs.declared.alloc.Global.{Global}
 use Rattle.mh_top_drive.specs.StageResults.{Go}
 use Rattle.mh_top_load.specs.OrderAndGrammar.{IsOrderAndGrammar}
 use Rattle.mh_top_claims.proofs.WorkBeforeLastLine.{front_stops, worked_same}
+use Rattle.mh_top_drive.proofs.MayWriteAfter.{after_stop}
 use Rattle.mh_top.proofs.top.work.Goals as goal
 
 pub front_of-requires : goal.front_of-requires
@@ -18,6 +19,9 @@ work_at_width-requires-clause-tables g c = λ name named. c.in-Ok.ensures.may_st
 pub returns-in-Err-clause-ran : goal.returns-in-Err-clause-ran
 returns-in-Err-clause-ran g c =
     front_stops (map (string_bytes {Z = Global}) c.args.words.now) _ _ (record { out = refl; err = refl; left = refl; input_faults = refl; out_faults = refl; err_faults = refl }) c.in-Err.stop c.in-Err.ensures.counts c.in-Err.ensures.front
+
+pub returns-in-Err-clause-may_warn_on : goal.returns-in-Err-clause-may_warn_on
+returns-in-Err-clause-may_warn_on g c = after_stop _ c.in-Err.stop c.requires.may_warn
 
 pub returns-in-Ok-clause-ran : goal.returns-in-Ok-clause-ran
 returns-in-Ok-clause-ran g c =

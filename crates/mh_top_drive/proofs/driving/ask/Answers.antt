@@ -7,6 +7,8 @@ pub loop-init : goal.loop-init
 loop-init g c = record {
   so_far = λ plan is. let same = ap max_lines (c.asks-asks.ensures plan is) in (plan, is, started g.M.Mode.way plan _ _ _ (omega (arith, same)));
   asks = λ plan is. c.asks-asks.ensures plan is;
+  may_read = c.requires.may_read;
+  may_write = c.requires.may_write;
   input_calm = refl;
   out_calm = refl;
 }
@@ -14,7 +16,11 @@ loop-init g c = record {
 pub take_line-requires : goal.take_line-requires
 take_line-requires g c =
     let p = c.requires.some in
-    let q = c.loop.invariant.so_far p.0 p.1 in record { some = (q.0, q.1) }
+    let q = c.loop.invariant.so_far p.0 p.1 in record {
+      some = (q.0, q.1);
+      may_read = c.loop.invariant.may_read;
+      may_write = c.loop.invariant.may_write;
+    }
 
 pub loop-preserved : goal.loop-preserved
 loop-preserved g c = record {
@@ -24,6 +30,8 @@ loop-preserved g c = record {
       let more : max_lines c.asks-asks.result - c.loop.counter ≡ suc (max_lines c.asks-asks.result - (c.loop.counter + 1)) = omega (arith, c.most-end.ensures) in
       (r.0, r.1, one_more g.M.Mode.way plan q.0 r.0 _ _ _ _ _ _ _ _ more q.2 r.2);
   asks = c.loop.invariant.asks;
+  may_read = c.in-Ok-true.ensures.may_read_on;
+  may_write = c.in-Ok-true.ensures.may_write_on;
   input_calm = search rules;
   out_calm = search rules;
 }

@@ -4,7 +4,7 @@ use Rattle.mh_top_drive.proofs.driving.drive.Goals as goal
 pub end-requires : goal.end-requires
 end-requires g c =
     let p = c.requires.some in
-    let q = c.in-Ok.ensures.ran p.0 p.1 in record { some = (q.0, q.1) }
+    let q = c.in-Ok.ensures.ran p.0 p.1 in record { some = (q.0, q.1); may_write = c.in-Ok.ensures.may_write_on }
 
 pub returns-in-Ok-clause-ran : goal.returns-in-Ok-clause-ran
 returns-in-Ok-clause-ran g c = λ plan is.

@@ -3,17 +3,18 @@ use Rattle.mh_top_lists.proofs.WriteEntriesLoop.{all_written, none_written, row_
 use Rattle.mh_top_lists.proofs.entries.write_entries.Goals as goal
 
 pub loop-row-init : goal.loop-row-init
-loop-row-init g c = record { written = none_written c.args.prepared.now _; calm = refl }
+loop-row-init g c = record { written = none_written c.args.prepared.now _; may_write = c.requires.may_write; calm = refl }
 
 pub write_entry-requires : goal.write_entry-requires
 write_entry-requires g c = (
   search rules,
-  (c.requires.few, (c.requires.fit, row_fit c.args.prepared.now c.args.rows.now c.loop-row.row-index c.row-item.result c.loop-row-test.true c.row-item.is c.requires.rows)),
+  (c.requires.few, (c.requires.fit, (row_fit c.args.prepared.now c.args.rows.now c.loop-row.row-index c.row-item.result c.loop-row-test.true c.row-item.is c.requires.rows, c.loop-row.invariant.may_write))),
 )
 
 pub loop-row-preserved : goal.loop-row-preserved
 loop-row-preserved g c = record {
   written = row_written c.args.prepared.now c.args.rows.now c.loop-row.row-index c.row-item.result c.loop-row-test.true c.row-item.is _ _ _ c.loop-row.invariant.written c.in-Ok.ensures.text;
+  may_write = c.in-Ok.ensures.may_write_on;
   calm = c.in-Ok.ensures.counts ∙ c.loop-row.invariant.calm;
 }
 

@@ -8,7 +8,7 @@ use Rattle.mh_top_lists.proofs.listing.ErrorListWriter.write.Goals as goal
 pub write_entries-requires : goal.write_entries-requires
 write_entries-requires g c = (
   search rules,
-  (c.requires.ready.0, (c.requires.ready.1, rw c.as_slice.ensures.value (catalogue_fit c.args.self.prepared.now.tabled.halting (rows_of c.in-Ok.rows.items) c.in-Ok.ensures.ok c.in-Ok.ensures.short))),
+  (c.requires.ready.0, (c.requires.ready.1, (rw c.as_slice.ensures.value (catalogue_fit c.args.self.prepared.now.tabled.halting (rows_of c.in-Ok.rows.items) c.in-Ok.ensures.ok c.in-Ok.ensures.short), c.requires.may_write))),
 )
 
 pub returns-in-Ok-clause-text : goal.returns-in-Ok-clause-text
