@@ -3,7 +3,8 @@
 # there are conflicts, verdicts, trees and lists of errors must be the same. Times are printed as ratios. The program's
 # samples must have the counts that follow from their numbers. At the end the script times generated grammars at the
 # limits; none may take ten seconds. For each grammar file in FOLDER the script also compares the building of both
-# automata (states, time, memory) and the list of errors, and times the lists of expected tokens.
+# automata (states, time, memory) and the list of errors, and times the lists of expected tokens and the rebasing of the
+# list.
 # The script ends with status 1 if a comparison fails.
 # Usage: bench/compare.sh PATH-OF-OUR-PROGRAM [FOLDER]
 # (after a run of the gate, the program is crates/menhir/out/menhir)
@@ -167,6 +168,23 @@ compare_table() { # FILE MODE SECONDS
     "$ours" --tables g.tables --write-tables "$file" 2>err.txt | cmp -s - g.tables || differs "$file, its table read and written again"
 }
 
+# Rebases a grammar's whole list of errors, as a messages file, onto the grammar with one token renamed. The time is
+# compared with that of the list of errors alone, and the rebased file must compile.
+compare_rebased() { # FILE
+    local name token list_time rebase_time dropped
+    name=$(basename "$1" .mly)
+    "$ours" --list-errors "$1" >messages.txt 2>err.txt
+    token=$("$ours" --write-tables "$1" 2>err.txt | sed -n 's/^tokens .* \([A-Za-z_0-9]*\)$/\1/p' | head -1)
+    sed "s/\<$token\>/${token}_RENAMED/g" "$1" >renamed.mly
+    list_time=$(seconds "$ours" --list-errors renamed.mly)
+    rebase_time=$(seconds "$ours" --rebase-errors messages.txt renamed.mly)
+    mv out.txt rebased.txt
+    dropped=$(grep -c '^# dropped' rebased.txt || true)
+    "$ours" --compile-errors rebased.txt renamed.mly >out.txt 2>err.txt || differs "$name, rebased and compiled"
+    echo "$name: its list, rebased with $token renamed, drops $dropped sentences and takes $(ratio "$rebase_time" "$list_time") times as long as the list"
+    python3 -c "import sys; sys.exit($rebase_time > 1.5 * $list_time)" || differs "$name, rebased in more than 1.5 times the time of the list"
+}
+
 # The processor seconds of a command on refused.in, with those that the system takes to write the output: the least of
 # three runs.
 least_of_three() {
@@ -239,6 +257,7 @@ if [ -n "$further" ]; then
         compare_build "$file" ""
         compare_build "$file" --canonical
         compare_expected "$file"
+        compare_rebased "$file"
     done
 fi
 for number in 0 14 29; do

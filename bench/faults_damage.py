@@ -31,6 +31,7 @@ MESSAGES_WORDS = [
     lambda name: ["--compile-errors", name],
     lambda name: ["--echo-errors", name],
     lambda name: ["--update-errors", name],
+    lambda name: ["--rebase-errors", name],
     lambda name: ["--interpret", "--messages", name],
     lambda name: ["--compare-errors", name, "--compare-errors", "whole.messages"],
     lambda name: ["--compare-errors", "whole.messages", "--compare-errors", name],

@@ -98,6 +98,7 @@ def jobs():
         yield ["--compile-errors", messages, file], b""
         yield ["--compare-errors", messages, "--compare-errors", fewer, file], b""
         yield ["--update-errors", messages, file], b""
+        yield ["--rebase-errors", messages, file], b""
         yield ["--echo-errors", messages, file], b""
         yield ["--session", file], SESSION % token
         yield ["--show-automaton", file], b""

@@ -1,7 +1,7 @@
 #!/usr/bin/env python3
-"""examples.py PROGRAM PAGE.. --pieces PAGE FOLDER: runs the examples of the pages with a built program, and compares
-the output byte for byte. It also looks up each block of the page after --pieces in the source files of FOLDER; white
-space at the beginning of lines is ignored.
+"""examples.py PROGRAM PAGE.. --pieces PAGE FOLDER..: runs the examples of the pages with a built program, and compares
+the output byte for byte. It also looks up each block of the page after --pieces in the source files of the
+folders; white space at the beginning of lines is ignored.
 
 An example is a block `sh`. Its only line is `menhir` and the words. If the expected status is not 0, `status=N` follows
 `sh`. The next blocks are `in` (the input), `out` and `err`; an empty one is left out. A block `file NAME` above an
@@ -62,15 +62,15 @@ def flush_left(text):
     return "".join(line.lstrip(" ") for line in text.splitlines(keepends=True))
 
 
-def strays(page, folder):
-    """For each piece of code of a page: its position, and a complaint if no source file of the folder has the piece."""
+def strays(page, folders):
+    """For each piece of code of a page: its position, and a complaint if no source file of the folders has the piece."""
     sources = []
-    for name in sorted(glob.glob(os.path.join(folder, "*.rt"))):
+    for name in sorted(name for folder in folders for name in glob.glob(os.path.join(folder, "*.rt"))):
         with open(name, encoding="utf-8") as source:
             sources.append(flush_left(source.read()))
     for _, start, text in blocks(page):
         is_there = any(flush_left(text) in source for source in sources)
-        yield f"{page}:{start}", [] if is_there else [f"this piece is in no file of {folder}"]
+        yield f"{page}:{start}", [] if is_there else [f"this piece is in no file of {' '.join(folders)}"]
 
 
 def checks(given):
@@ -79,14 +79,14 @@ def checks(given):
     for example in (it for page in given.pages for it in examples(page)):
         yield example["at"], differs(program, example)
     if given.pieces:
-        yield from strays(*given.pieces)
+        yield from strays(given.pieces[0], given.pieces[1:])
 
 
 def main():
     parser = argparse.ArgumentParser()
     parser.add_argument("program")
     parser.add_argument("pages", nargs="*")
-    parser.add_argument("--pieces", nargs=2, metavar=("PAGE", "FOLDER"))
+    parser.add_argument("--pieces", nargs="+", metavar=("PAGE", "FOLDER"))
     passed = failed = 0
     for at, wrong in checks(parser.parse_args()):
         for line in wrong:

@@ -1,4 +1,4 @@
--- Lemmas on the moves of a closure that are placed one after another.
+-- Lemmas on the moves of a closure, whose kernels are found in the list of kernels or appended to it, one by one.
 use Rattle.std.proofs.Common.{◌≡◌, ℕ, ◌<◌, ◌≤◌, List, [], ◌∷◌, ◌++◌, length, get_or, sym}
 use Rattle.std.specs.List.{All}
 use Rattle.std.proofs.lemmas.List.{map-append}
@@ -16,10 +16,10 @@ use Rattle.mh_canon_states.proofs.AreCanonicalStates.{AreStateEdges-none, AreSta
 
 pub record PlacedSoFar (g : PlainGrammar) (moves front : List Move) (old new : List Kernel) (row : List Edge) : Type 0 where
   pub edges : (closed : Items) → AreMoves g closed moves → AreStateEdges g closed (symbols_of front) old new row
-  pub behind : (closed : Items) → AreMoves g closed moves → All (IsAfterDot g closed) (symbols_of front)
+  pub after_dot : (closed : Items) → AreMoves g closed moves → All (IsAfterDot g closed) (symbols_of front)
 
 pub placed-start : (g : PlainGrammar) (moves : List Move) (kernels : List Kernel) → PlacedSoFar g moves [] kernels kernels []
-placed-start g moves kernels = record { edges = λ closed are. AreStateEdges-none g closed kernels; behind = λ closed are. All-nil (IsAfterDot g closed) }
+placed-start g moves kernels = record { edges = λ closed are. AreStateEdges-none g closed kernels; after_dot = λ closed are. All-nil (IsAfterDot g closed) }
 
 module _ (g : PlainGrammar) (moves front : List Move) (old mid new : List Kernel) (row : List Edge) (found : Move) (n : ℕ) (h : PlacedSoFar g moves front old mid row) (turn : (length front < length moves) × (found ≡ get_or moves (length front) found)) (placed : Placed mid new found.kernel n) where
   move : (closed : Items) → AreMoves g closed moves → IsMove g closed found.symbol found.kernel
@@ -34,9 +34,9 @@ module _ (g : PlainGrammar) (moves front : List Move) (old mid new : List Kernel
   pub placed-more : PlacedSoFar g moves (front ++ found ∷ []) old new (row ++ record { symbol = found.symbol; target = n } ∷ [])
   placed-more = record {
     edges = λ closed are. rw more (AreStateEdges-push g closed (symbols_of front) old mid new row found.symbol found.kernel n (h.edges closed are) (move closed are) placed);
-    behind = λ closed are. rw more (All-push (IsAfterDot g closed) (symbols_of front) found.symbol (h.behind closed are) (there closed are));
+    after_dot = λ closed are. rw more (All-push (IsAfterDot g closed) (symbols_of front) found.symbol (h.after_dot closed are) (there closed are));
   }
 
   pub placed-over : (limit : ℕ) → AreCanonicalStates g old → limit ≤ n → (closed : Items) → IsStateClosure g closed → AreMoves g closed moves → CanonicalExceeds g limit
   placed-over limit states past closed source are =
-      CanonicalExceeds-placed g closed (symbols_of front) old mid new row found.symbol found.kernel n limit source (All-push (IsAfterDot g closed) (symbols_of front) found.symbol (h.behind closed are) (there closed are)) states (h.edges closed are) (move closed are) placed past
+      CanonicalExceeds-placed g closed (symbols_of front) old mid new row found.symbol found.kernel n limit source (All-push (IsAfterDot g closed) (symbols_of front) found.symbol (h.after_dot closed are) (there closed are)) states (h.edges closed are) (move closed are) placed past

@@ -11,9 +11,9 @@ ghost use Rattle.mh_items.specs.code.AllMoves.{AreMoves};
 ghost use Rattle.mh_items.specs.code.MoveBuilder.{IsMoveBuilder};
 ghost use Rattle.mh_canon_states.specs.code.FoundStates.{IsStateClosure, AreCanonicalStates};
 ghost use Rattle.mh_canon.specs.code.EdgesOfMoves.{AreEdgesOfMoves, HasEdges};
+ghost use Rattle.mh_canon_states.specs.Limits.{max_states};
 
 use crate::kernel_set::KernelIndex;
-use mh_canon_states::MAX_STATES;
 use mh_grammar::{Edge, Grammar, Sequence};
 use mh_items::{Move, MoveBuilder};
 use mh_items_kernels::{Automaton, StatesFault, start_kernel};
@@ -28,9 +28,9 @@ pub fn canonical<const W: usize>(
 ) -> Result<Automaton<W>, StatesFault>
     requires fits { FitsSets W grammar.now }
     ensures ok { IfOk result (IsCanonical (plain_of grammar.now)) }
-    ensures few { IfOk result (λ a. length a.kernels ≤ MAX_STATES) }
-    ensures exact { IfOk result (λ _. CanonicalExceeds (plain_of grammar.now) MAX_STATES → ⊥) }
-    ensures over { result ≡ Err StatesFault.TooManyStates → CanonicalExceeds (plain_of grammar.now) MAX_STATES }
+    ensures few { IfOk result (λ a. length a.kernels ≤ max_states) }
+    ensures exact { IfOk result (λ _. CanonicalExceeds (plain_of grammar.now) max_states → ⊥) }
+    ensures exceeds { result ≡ Err StatesFault.TooManyStates → CanonicalExceeds (plain_of grammar.now) max_states }
     ensures automaton { IfOk result (IsAutomaton (plain_of grammar.now)) }
 {
     let mut kernels = start_kernels(alloc, grammar)?;
@@ -55,8 +55,8 @@ fn collect<const W: usize>(
     requires starts { AreStarts (length grammar.now.starts) kernels.old.set.keys }
     requires none { edges.old.items ≡ [] }
     ensures ok { OnOk result (IsCanonical (plain_of grammar.now) (record { kernels = kernels.new.set.keys; edges = edges.new.items })) }
-    ensures few { OnOk result (length kernels.new.set.keys ≤ MAX_STATES) }
-    ensures over { result ≡ Err StatesFault.TooManyStates → CanonicalExceeds (plain_of grammar.now) MAX_STATES }
+    ensures few { OnOk result (length kernels.new.set.keys ≤ max_states) }
+    ensures exceeds { result ≡ Err StatesFault.TooManyStates → CanonicalExceeds (plain_of grammar.now) max_states }
 {
     let mut mover = MoveBuilder::new(alloc, grammar)?;
     'states: while edges.len() < kernels.all().len() {
@@ -80,11 +80,11 @@ fn edges_of<const W: usize>(
     requires mover { IsMoveBuilder (plain_of grammar.now) mover.old }
     requires state { state < length kernels.old.set.keys }
     requires states { AreCanonicalStates (plain_of grammar.now) kernels.old.set.keys }
-    requires few { length kernels.old.set.keys ≤ MAX_STATES }
+    requires few { length kernels.old.set.keys ≤ max_states }
     ensures ok { IfOk result (λ row. HasEdges (plain_of grammar.now) state kernels.old.set.keys kernels.new.set.keys row) }
     ensures mover { IfOk result (λ _. IsMoveBuilder (plain_of grammar.now) mover.new) }
-    ensures few { IfOk result (λ _. length kernels.new.set.keys ≤ MAX_STATES) }
-    ensures over { result ≡ Err StatesFault.TooManyStates → CanonicalExceeds (plain_of grammar.now) MAX_STATES }
+    ensures few { IfOk result (λ _. length kernels.new.set.keys ≤ max_states) }
+    ensures exceeds { result ≡ Err StatesFault.TooManyStates → CanonicalExceeds (plain_of grammar.now) max_states }
 {
     let moves = mover.moves(alloc, grammar, &kernels.all()[state])?;
     place_all(alloc, grammar, moves, kernels)
@@ -116,10 +116,10 @@ fn place_all<const W: usize>(
 ) -> Result<Sequence<Edge>, StatesFault>
     requires small { W ≤ 8 }
     requires states { AreCanonicalStates (plain_of grammar.now) kernels.old.set.keys }
-    requires few { length kernels.old.set.keys ≤ MAX_STATES }
+    requires few { length kernels.old.set.keys ≤ max_states }
     ensures ok { IfOk result (λ row. AreEdgesOfMoves (plain_of grammar.now) moves.entry.items kernels.old.set.keys kernels.new.set.keys row) }
-    ensures few { IfOk result (λ _. length kernels.new.set.keys ≤ MAX_STATES) }
-    ensures over { result ≡ Err StatesFault.TooManyStates → (closed : KernelOf) → IsStateClosure (plain_of grammar.now) closed → AreMoves (plain_of grammar.now) closed moves.entry.items → CanonicalExceeds (plain_of grammar.now) MAX_STATES }
+    ensures few { IfOk result (λ _. length kernels.new.set.keys ≤ max_states) }
+    ensures exceeds { result ≡ Err StatesFault.TooManyStates → (closed : KernelOf) → IsStateClosure (plain_of grammar.now) closed → AreMoves (plain_of grammar.now) closed moves.entry.items → CanonicalExceeds (plain_of grammar.now) max_states }
 {
     // Only the contract uses the grammar.
     let _grammar = grammar;

@@ -1,9 +1,10 @@
 //! The kernels of a collection in an index by hash.
 ghost use Rattle.std.specs.Prelude.{◌≡◌, ◌<◌, ◌≤◌, ℕ, [], Err, IfOk};
 ghost use Rattle.mh_grammar.specs.Placed.{Placed};
+ghost use Rattle.mh_canon_states.specs.Limits.{max_states};
 
 use indexmap::IndexSet;
-use mh_canon_states::{MAX_STATES, number};
+use mh_canon_states::number;
 use mh_items_kernels::{Kernel, StatesFault};
 use std::alloc::{AllocError, AllocFailed, Global};
 
@@ -46,8 +47,8 @@ impl<const W: usize> KernelIndex<W> {
     /// least `MAX_STATES`.
     pub(crate) fn place(&mut self, kernel: Kernel<W>) -> Result<u32, StatesFault>
         requires { W ≤ 8 }
-        ensures ok { IfOk result (λ at. Placed self.old.set.keys self.new.set.keys kernel.entry at × (at < MAX_STATES)) }
-        ensures over { result ≡ Err StatesFault.TooManyStates → (at : ℕ) × Placed self.old.set.keys self.new.set.keys kernel.entry at × (MAX_STATES ≤ at) }
+        ensures ok { IfOk result (λ at. Placed self.old.set.keys self.new.set.keys kernel.entry at × (at < max_states)) }
+        ensures exceeds { result ≡ Err StatesFault.TooManyStates → (at : ℕ) × Placed self.old.set.keys self.new.set.keys kernel.entry at × (max_states ≤ at) }
     {
         let at = self.insert(kernel)?;
         number(at)

@@ -37,10 +37,10 @@ IsStateClosure-close g k closed s of_closed same = record {
 pub IsCanonicalState-move : (g : PlainGrammar) (closed : Items) (k : Kernel) (X : Symbol) → IsStateClosure g closed → IsAfterDot g closed X → IsMove g closed X k → IsCanonicalState g k
 IsCanonicalState-move g closed k X source behind move =
     let look = Holds-core_item g closed source.kernel behind.production behind.dot behind.place in
-    let next : Moved g (Holds closed) X behind.production (suc behind.dot) look.0 = items.Moved.moved look.1 (drop_from-slice_get (rhs_of g behind.production) behind.dot X behind.behind) in
+    let next : Moved g (Holds closed) X behind.production (suc behind.dot) look.0 = items.Moved.moved look.1 (drop_from-slice_get (rhs_of g behind.production) behind.dot X behind.at_dot) in
     record {
       kernel = move.kernel;
-      some = record { production = behind.production; dot = suc behind.dot; look = look.0; holds = (move.same behind.production (suc behind.dot) look.0).1 next };
+      has_item = record { production = behind.production; dot = suc behind.dot; look = look.0; holds = (move.same behind.production (suc behind.dot) look.0).1 next };
       reach = record {
         start = source.start;
         path = X ∷ source.path;
@@ -63,13 +63,13 @@ AreCanonicalStates-edges g closed symbols old new row source behind s e = record
 }
 
 pub AreStateEdges-none : (g : PlainGrammar) (closed : Items) (kernels : List Kernel) → AreStateEdges g closed [] kernels kernels []
-AreStateEdges-none g closed kernels = record { moves = []; each = tt; on = refl; placed = refl }
+AreStateEdges-none g closed kernels = record { moves = []; each = tt; symbols_are = refl; placed = refl }
 
 pub AreStateEdges-push : (g : PlainGrammar) (closed : Items) (symbols : List Symbol) (old mid new : List Kernel) (row : List Edge) (X : Symbol) (k : Kernel) (n : ℕ) → AreStateEdges g closed symbols old mid row → IsMove g closed X k → Placed mid new k n → AreStateEdges g closed (symbols ++ X ∷ []) old new (row ++ record { symbol = X; target = n } ∷ [])
 AreStateEdges-push g closed symbols old mid new row X k n e m p = record {
   moves = e.moves ++ k ∷ [];
   each = zip_push (IsMove g closed) symbols e.moves X k e.each m;
-  on = map-append (λ (f : Edge). f.symbol) row (record { symbol = X; target = n } ∷ []) ∙ ap (λ xs. xs ++ X ∷ []) e.on;
+  symbols_are = map-append (λ (f : Edge). f.symbol) row (record { symbol = X; target = n } ∷ []) ∙ ap (λ xs. xs ++ X ∷ []) e.symbols_are;
   placed = rw (map-append (λ (f : Edge). f.target) row (record { symbol = X; target = n } ∷ [])) (AllPlaced-push old mid new e.moves (targets_of row) k n e.placed p);
 }
 
@@ -104,7 +104,7 @@ walks_each g [] s = tt
 walks_each g (k ∷ kernels) s = (
   record {
     known = s.0.reach.known;
-    some = record { production = s.0.some.production; dot = s.0.some.dot; look = s.0.some.look; holds = (s.0.reach.same s.0.some.production s.0.some.dot s.0.some.look).0 s.0.some.holds };
+    has_item = record { production = s.0.has_item.production; dot = s.0.has_item.dot; look = s.0.has_item.look; holds = (s.0.reach.same s.0.has_item.production s.0.has_item.dot s.0.has_item.look).0 s.0.has_item.holds };
   },
   walks_each g kernels s.1,
 )
@@ -122,7 +122,7 @@ CanonicalExceeds-states g kernels limit s o =
           let sets : AreSameItems (Holds a.0) (Holds b.0) = AreSameItems-trans (Holds a.0) (items_of_walk g v) (Holds b.0) a.2.same (AreSameItems-trans (items_of_walk g v) (items_of_walk g w) (Holds b.0) same (AreSameItems-sym (Holds b.0) (items_of_walk g w) b.2.same)) in
           let one : b.0 ≡ a.0 = sym (kernel_same g a.0 b.0 a.2.state.kernel b.2.state.kernel sets) in
           s.distinct.same i j a.0 a.1 (b.1 ∙ ap Some one);
-      over = omega (arith, walks_len g kernels all);
+      exceeds = omega (arith, walks_len g kernels all);
     }
 
 -- If a kernel is placed at or after the limit, more item sets are reached than the limit.

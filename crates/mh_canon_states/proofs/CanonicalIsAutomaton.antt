@@ -17,7 +17,7 @@ use Rattle.mh_items_kernels.specs.KernelTypes.{Kernel}
 use Rattle.mh_items_kernels.specs.KernelTypes.{Automaton}
 use Rattle.mh_items_kernels.specs.Kernels.{Holds}
 use Rattle.mh_items_kernels.specs.Automaton.{kernel_at, kernel_of, start_kernel, IsAutomaton}
-use Rattle.mh_canon_states.specs.declared.limits.TheConstants.{MAX_STATES}
+use Rattle.mh_canon_states.specs.Limits.{max_states}
 use Rattle.mh_canon_states.specs.Canonical.{IsCanonical, Walk, items_of_walk, IsWalkOf, CanonicalExceeds}
 use Rattle.mh_canon_states.proofs.PartialCollection.{IsItemList-start}
 use Rattle.mh_canon_states.proofs.CollectionIsCanonical.{slice_get-kernel_at, items_within}
@@ -58,9 +58,9 @@ module _ (g : PlainGrammar) (a : Automaton) (h : IsCanonical g a) where
       absurd (omega arith)
   dot_moved s p d look i (X ∷ path) within l k m same = Moved-positive_dot g (Close g (PathItems g i path)) X p d look ((same p d look).0 k)
 
-  pub IsAutomaton-canonical : length a.kernels ≤ MAX_STATES → IsAutomaton g a
+  pub IsAutomaton-canonical : length a.kernels ≤ max_states → IsAutomaton g a
   IsAutomaton-canonical few = record {
-    enough = enough;
+    enough_states = enough;
     few = omega arith;
     rows = h.rows;
     each = λ s l. (h.each s l).0;
@@ -92,7 +92,7 @@ module _ (g : PlainGrammar) (a : Automaton) (h : IsCanonical g a) where
   led : (walks : List Walk) → AllByRecursion (IsWalkOf g) walks → (ks : List Kernel) × AllZip IsLed walks ks
   led [] w = ([], tt)
   led (v ∷ walks) w =
-      let s = h.complete v.start v.path w.0.known w.0.some in
+      let s = h.complete v.start v.path w.0.known w.0.has_item in
       let rest = led walks w.1 in
       (kernel_at a s.0 ∷ rest.0, ((contains_at a.kernels s.0 (kernel_at a s.0) (slice_get-kernel_at a s.0 s.1), s.2), rest.1))
 
@@ -109,4 +109,4 @@ module _ (g : PlainGrammar) (a : Automaton) (h : IsCanonical g a) where
             o.distinct i j v.0 w.0 v.1 w.1 (AreSameItems-trans (items_of_walk g v.0) (Holds k) (items_of_walk g w.0) (AreSameItems-sym (Holds k) (items_of_walk g v.0) one.1) two.1);
       } in
       let le = length-distinct_in a.kernels r.0 apart (λ k c. let i = at_contains r.0 k c in let v = zip_right IsLed o.walks r.0 r.1 i.0 k i.1 in let one : IsLed v.0 k = v.2 in one.0) in
-      omega (arith, o.over, zip_length IsLed o.walks r.0 r.1)
+      omega (arith, o.exceeds, zip_length IsLed o.walks r.0 r.1)

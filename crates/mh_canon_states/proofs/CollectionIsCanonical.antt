@@ -79,16 +79,16 @@ module _ (g : PlainGrammar) (a : Automaton) (b : PartialCollection g a.kernels a
   target : (s : ℕ) (X : Symbol) (u : ℕ) → leads_to a s X ≡ Some u → HasMove g a s X × (u < length a.kernels) × AreSameItems (kernel_of a u) (move_of g a s X)
   target s X u e =
       let l : s < length a.kernels = omega (arith, edges_within a s u X e, done) in
-      let to = (row s l).leads X u e in
+      let to = (row s l).targets_are X u e in
       let m = slice_get_within a.kernels u to.0 to.1 in
       let one = kernel_at-slice_get a u to.0 to.1 in
       let same : AreSameItems (kernel_of a u) (move_of g a s X) = rw one to.2 in
-      let item = HasItem-same (kernel_of a u) (move_of g a s X) same (state u m).some in
+      let item = HasItem-same (kernel_of a u) (move_of g a s X) same (state u m).has_item in
       (record { production = item.production; dot = item.dot; look = item.look; moves = item.holds }, m, same)
 
   pub IsCanonical-done : IsCanonical g a
   IsCanonical-done = record {
-    each = λ s l. let k = state s l in (k.kernel, k.some);
+    each = λ s l. let k = state s l in (k.kernel, k.has_item);
     rows = done;
     starts = starts;
     sound = λ s l. (state s l).reach;
@@ -99,5 +99,5 @@ module _ (g : PlainGrammar) (a : Automaton) (b : PartialCollection g a.kernels a
     order = λ s l. (row s l).rising;
     edge = edge;
     target = target;
-    breadth = b.order;
+    breadth_first = b.order;
   }

@@ -65,13 +65,13 @@ find_edge-contains (f ∷ row) X c = go (same_symbol f.symbol X) refl (find_edge
 -- moves an item.
 pub record IsEdgeRow (g : PlainGrammar) (kernels : List Kernel) (k : Kernel) (row : List Edge) : Type 0 where
   pub rising : IsRising IsEdgeBefore row
-  pub leads : (X : Symbol) (u : ℕ) → find_edge row X ≡ Some u → (m : Kernel) × (slice_get kernels u ≡ Some m) × AreSameItems (Holds m) (Moved g (Close g (Holds k)) X)
+  pub targets_are : (X : Symbol) (u : ℕ) → find_edge row X ≡ Some u → (m : Kernel) × (slice_get kernels u ≡ Some m) × AreSameItems (Holds m) (Moved g (Close g (Holds k)) X)
   pub all : (X : Symbol) → HasItem (Moved g (Close g (Holds k)) X) → (u : ℕ) × (find_edge row X ≡ Some u)
 
 pub IsEdgeRow-kept : (g : PlainGrammar) (old new : List Kernel) (k : Kernel) (row : List Edge) → ((i : ℕ) (m : Kernel) → slice_get old i ≡ Some m → slice_get new i ≡ Some m) → IsEdgeRow g old k row → IsEdgeRow g new k row
 IsEdgeRow-kept g old new k row kept r = record {
   rising = r.rising;
-  leads = λ X u e. let m = r.leads X u e in (m.0, kept u m.0 m.1, m.2);
+  targets_are = λ X u e. let m = r.targets_are X u e in (m.0, kept u m.0 m.1, m.2);
   all = r.all;
 }
 
@@ -81,17 +81,17 @@ after_dot_of_moved g closed X p d a (items.Moved.moved {d = d'} {y} h e) = recor
   production = p;
   dot = d';
   place = (h.0, h.1, h.2, h.3);
-  behind = get_from_drop (rhs_of g p) d' X y e;
+  at_dot = get_from_drop (rhs_of g p) d' X y e;
 }
 
 pub IsEdgeRow-new : (g : PlainGrammar) (k : Kernel) (closed : Items) (symbols : List Symbol) (old new : List Kernel) (row : List Edge) → AreSameItems (Holds closed) (Close g (Holds k)) → IsRising IsSymbolBefore symbols → ((X : Symbol) → Contains symbols X ↔ IsAfterDot g closed X) → AreStateEdges g closed symbols old new row → IsEdgeRow g new k row
 IsEdgeRow-new g k closed symbols old new row same rising exact e = record {
-  rising = rising_edges row (rw (← e.on) at rising);
-  leads = λ X u f.
-      let m = found_move g closed new row e.moves (rw (← e.on) at e.each) (AllPlaced-numbers old new e.moves (targets_of row) e.placed) X u f in
+  rising = rising_edges row (rw (← e.symbols_are) at rising);
+  targets_are = λ X u f.
+      let m = found_move g closed new row e.moves (rw (← e.symbols_are) at e.each) (AllPlaced-numbers old new e.moves (targets_of row) e.placed) X u f in
       (m.0, m.1, AreSameItems-trans (Holds m.0) (Moved g (Holds closed) X) (Moved g (Close g (Holds k)) X) m.2.same (Moved-same g (Holds closed) (Close g (Holds k)) X same));
   all = λ X h.
       let here = HasItem-same (Moved g (Close g (Holds k)) X) (Moved g (Holds closed) X) (AreSameItems-sym (Moved g (Holds closed) X) (Moved g (Close g (Holds k)) X) (Moved-same g (Holds closed) (Close g (Holds k)) X same)) h in
       let c = (exact X).1 (after_dot_of_moved g closed X here.production here.dot here.look here.holds) in
-      find_edge-contains row X (rw (← e.on) at c);
+      find_edge-contains row X (rw (← e.symbols_are) at c);
 }

@@ -5,3 +5,7 @@ pub mod CanonicalIsAutomaton
 pub mod OneCanonical
 pub mod ItemSets
 pub mod AreCanonicalStates
+pub mod ItemsOfGrammar
+pub mod ListedKernels
+pub mod MovedKernels
+pub mod SomeCanonical

@@ -142,7 +142,7 @@ module _ (g : PlainGrammar) (a : Automaton) (h : IsCanonical g a) where
       record {
         items = map below (edges_at a s);
         next = record { symbols = symbols_of (edges_at a s); rising = rising_symbols (edges_at a s) (h.order s l); exact = moving s l; each = z.0 };
-        names = z.1;
+        numbers = z.1;
       }
 
   module _ (starts : List Kernel) (len : length starts ≡ length g.starts) (begins : take (length g.starts) a.kernels ≡ starts) where
@@ -214,7 +214,7 @@ module _ (g : PlainGrammar) (a : Automaton) (h : IsCanonical g a) where
           let l = slice_get_within a.kernels s k e in
           let same : edges_at a s ≡ edges.0 = (let c = slice_get-edges_at a s (slice_get_within a.edges s edges.0 edges.1) in let d = edges.1 in cc) in
           rw (← kernel_at-slice_get a s k e, ← edges.2, ← same) (next_row s l);
-      order = rw len h.breadth;
+      order = rw len h.breadth_first;
     }
 
 -- Two rows of edges with equal symbols and equal targets are equal.

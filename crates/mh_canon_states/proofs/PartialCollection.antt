@@ -42,7 +42,7 @@ IsItemList-start g i l = record {
 IsCanonicalState-start : (g : PlainGrammar) (i : ℕ) → i < length g.starts → IsCanonicalState g (start_kernel i)
 IsCanonicalState-start g i l = record {
   kernel = IsItemList-start g i l;
-  some = record {
+  has_item = record {
     production = i;
     dot = 0;
     look = End;
@@ -100,13 +100,13 @@ PartialCollection-start g kernels s = record {
 }
 
 -- The closure of a kernel that was found is the closure of a state.
-pub PartialCollection-source : (g : PlainGrammar) (kernels : List Kernel) (edges : List (List Edge)) (i : ℕ) (k : Kernel) (closed : Items) → PartialCollection g kernels edges → slice_get kernels i ≡ Some k → IsItemList g closed → AreSameItems (Holds closed) (Close g (Holds k)) → IsStateClosure g closed
-PartialCollection-source g kernels edges i k closed w at of_closed same =
+pub PartialCollection-closure : (g : PlainGrammar) (kernels : List Kernel) (edges : List (List Edge)) (i : ℕ) (k : Kernel) (closed : Items) → PartialCollection g kernels edges → slice_get kernels i ≡ Some k → IsItemList g closed → AreSameItems (Holds closed) (Close g (Holds k)) → IsStateClosure g closed
+PartialCollection-closure g kernels edges i k closed w at of_closed same =
     IsStateClosure-close g k closed (All-contains (IsCanonicalState g) kernels k w.states.each (contains_at kernels i k at)) of_closed same
 
 pub PartialCollection-step : (g : PlainGrammar) (kernels new : List Kernel) (edges : List (List Edge)) (k : Kernel) (closed : Items) (symbols : List Symbol) (row : List Edge) → PartialCollection g kernels edges → slice_get kernels (length edges) ≡ Some k → IsItemList g closed → AreSameItems (Holds closed) (Close g (Holds k)) → IsRising IsSymbolBefore symbols → ((X : Symbol) → Contains symbols X ↔ IsAfterDot g closed X) → AreStateEdges g closed symbols kernels new row → PartialCollection g new (edges ++ row ∷ [])
 PartialCollection-step g kernels new edges k closed symbols row w at of_closed same rising exact e =
-    let source = PartialCollection-source g kernels edges (length edges) k closed w at of_closed same in
+    let source = PartialCollection-closure g kernels edges (length edges) k closed w at of_closed same in
     let behind = All-weaker (Contains symbols) (IsAfterDot g closed) (λ X c. (exact X).0 c) symbols (All-contains_itself symbols) in
     let grows = AllPlaced-grows kernels new e.moves (targets_of row) e.placed in
     let kept = AllPlaced-kept kernels new e.moves (targets_of row) e.placed in

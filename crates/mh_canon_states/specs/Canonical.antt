@@ -25,7 +25,7 @@ all_targets a = concat (map targets_of a.edges)
 
 -- The automaton is the canonical collection of the grammar (Knuth 1965), numbered breadth-first.
 pub record IsCanonical (g : PlainGrammar) (a : Automaton) : Type 0 where
-  -- Each kernel is the only list for its set of items, and is not empty.
+  -- Each kernel lists its set of items in the one form of such lists (`IsItemList`), and is not empty.
   pub each : (s : ℕ) → s < length a.kernels → IsItemList g (kernel_at a s) × HasItem (kernel_of a s)
   pub rows : length a.edges ≡ length a.kernels
   -- The start kernels come first.
@@ -40,7 +40,7 @@ pub record IsCanonical (g : PlainGrammar) (a : Automaton) : Type 0 where
   pub edge : (s : ℕ) (X : Symbol) → s < length a.kernels → HasMove g a s X → (u : ℕ) × (leads_to a s X ≡ Some u)
   pub target : (s : ℕ) (X : Symbol) (u : ℕ) → leads_to a s X ≡ Some u → HasMove g a s X × (u < length a.kernels) × AreSameItems (kernel_of a u) (move_of g a s X)
   -- State by state, each edge leads to a state that was found before or to the next new state.
-  pub breadth : InFirstSightOrder (length g.starts) (all_targets a) (length a.kernels)
+  pub breadth_first : InFirstSightOrder (length g.starts) (all_targets a) (length a.kernels)
 
 -- A start and a path of symbols, the newest symbol first.
 pub record Walk : Type 0 where
@@ -54,11 +54,11 @@ items_of_walk g w = PathItems g w.start w.path
 -- The walk begins at a start of the grammar and leads to a nonempty item set.
 pub record IsWalkOf (g : PlainGrammar) (w : Walk) : Type 0 where
   pub known : w.start < length g.starts
-  pub some : HasItem (items_of_walk g w)
+  pub has_item : HasItem (items_of_walk g w)
 
 -- More different nonempty item sets are reached than the limit admits (Knuth 1965; the limit is this project's own).
 pub record CanonicalExceeds (g : PlainGrammar) (limit : ℕ) : Type 0 where
   pub walks : List Walk
   pub each : All (IsWalkOf g) walks
   pub distinct : (i j : ℕ) (v w : Walk) → slice_get walks i ≡ Some v → slice_get walks j ≡ Some w → AreSameItems (items_of_walk g v) (items_of_walk g w) → i ≡ j
-  pub over : limit < length walks
+  pub exceeds : limit < length walks

@@ -2,6 +2,8 @@
 //! and the upper bound of the number of states.
 #![tactic(auto)]
 
+mod laws;
 mod limits;
 
+pub use laws::some_canonical;
 pub use limits::{MAX_STATES, number};

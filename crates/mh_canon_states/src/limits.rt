@@ -1,5 +1,6 @@
 //! The upper bound of the number of states.
 ghost use Rattle.std.specs.Prelude.{◌≡◌, ◌<◌, ◌≤◌, Err, IfOk};
+ghost use Rattle.mh_canon_states.specs.Limits.{max_states};
 
 use mh_items_kernels::StatesFault;
 
@@ -8,8 +9,8 @@ pub const MAX_STATES: usize = 200_000;
 
 /// Returns the index of a state as its number, or `TooManyStates` if the index is at least `MAX_STATES`.
 pub fn number(at: usize) -> Result<u32, StatesFault>
-    ensures ok { IfOk result (λ n. (n ≡ at) × (n < MAX_STATES)) }
-    ensures over { result ≡ Err StatesFault.TooManyStates → MAX_STATES ≤ at }
+    ensures ok { IfOk result (λ n. (n ≡ at) × (n < max_states)) }
+    ensures exceeds { result ≡ Err StatesFault.TooManyStates → max_states ≤ at }
 {
     if at >= MAX_STATES {
         return Err(StatesFault::TooManyStates);

@@ -25,7 +25,7 @@ rows_push [] r = refl
 rows_push (x ∷ rows) r = ap (λ (l : List TableRow). row_of x ∷ l) (rows_push rows r)
 
 pub RowsBelow-start : (t : TableData) → RowsBelow t 0 []
-RowsBelow-start t = record { rising = tt; each = tt; below = tt; short = tt; complete = λ s lt h. absurd (let l : ⊥ = omega (arith, lt) in l); cheap = λ s lt h. absurd (let l : ⊥ = omega (arith, lt) in l) }
+RowsBelow-start t = record { rising = tt; each = tt; below = tt; are_short = tt; complete = λ s lt h. absurd (let l : ⊥ = omega (arith, lt) in l); failing_are_cheap = λ s lt h. absurd (let l : ⊥ = omega (arith, lt) in l) }
 
 -- Costs.
 
@@ -66,9 +66,9 @@ module _ (t : TableData) (n : ℕ) (rows : List TableRow) (h : RowsBelow t n row
     rising = h.rising;
     each = h.each;
     below = recursion-weaker (λ (row : TableRow). row.state < n) (λ row. row.state < n + 1) (λ row l. omega arith) rows h.below;
-    short = h.short;
+    are_short = h.are_short;
     complete = λ s lt fails. elim (below_next s n lt) [ inl less ↦ h.complete s less fails | inr is ↦ absurd (none (rw is at fails)) ];
-    cheap = λ s lt fails. elim (below_next s n lt) [ inl less ↦ h.cheap s less fails | inr is ↦ absurd (none (rw is at fails)) ];
+    failing_are_cheap = λ s lt fails. elim (below_next s n lt) [ inl less ↦ h.failing_are_cheap s less fails | inr is ↦ absurd (none (rw is at fails)) ];
   }
 
   pub RowsBelow-row : (f : Facts t) (start : ℕ) (w : List ℕ) → FailsFirst t start w n → FailsWithinMaxCost t n → RowsBelow t (n + 1) (rows ++ record { state = n; start = start; sentence = w } ∷ [])
@@ -78,12 +78,12 @@ module _ (t : TableData) (n : ℕ) (rows : List TableRow) (h : RowsBelow t n row
         rising = rising-push IsRowBefore rows r h.rising (λ x c. recursion_contains (λ (row : TableRow). row.state < n) rows h.below x c);
         each = recursion-push (λ (row : TableRow). FailsFirst t row.start row.sentence row.state) rows r h.each first;
         below = recursion-push (λ (row : TableRow). row.state < n + 1) rows r (recursion-weaker (λ (row : TableRow). row.state < n) (λ row. row.state < n + 1) (λ row l. omega arith) rows h.below) (omega arith);
-        short = recursion-push (λ (row : TableRow). length row.sentence ≤ max_sentence_cost) rows r h.short (first_short t f start w n first cheap);
+        are_short = recursion-push (λ (row : TableRow). length row.sentence ≤ max_sentence_cost) rows r h.are_short (first_short t f start w n first cheap);
         complete = λ s lt fails. elim (below_next s n lt) [
           | inl less ↦ (let c = h.complete s less fails in (c.0, Contains-append_left rows (r ∷ []) c.0 c.1, c.2))
           | inr is ↦ (r, Contains-push rows r, sym is)
         ];
-        cheap = λ s lt fails. elim (below_next s n lt) [ inl less ↦ h.cheap s less fails | inr is ↦ rw is cheap ];
+        failing_are_cheap = λ s lt fails. elim (below_next s n lt) [ inl less ↦ h.failing_are_cheap s less fails | inr is ↦ rw is cheap ];
       }
 
   -- The row of the state is appended.
@@ -96,8 +96,8 @@ module _ (t : TableData) (n : ℕ) (rows : List TableRow) (h : RowsBelow t n row
   pub too_long : (c : ℕ) → LeastCost t n (Some c) → max_sentence_cost < c → TooLongAt t n
   too_long c least dear = record {
     failing = ((least.1).0, (least.1).1, (least.1).2);
-    dear = λ start w fails. (let le = least.0 start w fails in over c (cost_of_word t w) le dear);
-    lowest = λ s lt fails. h.cheap s lt fails;
+    all_too_long = λ start w fails. (let le = least.0 start w fails in over c (cost_of_word t w) le dear);
+    lowest = λ s lt fails. h.failing_are_cheap s lt fails;
   }
     where
       over : (c n : ℕ) → c ≤ min n cap → max_sentence_cost < c → max_sentence_cost < n
@@ -115,8 +115,8 @@ module _ (t : TableData) (f : Facts t) (rows : List TableRow) (h : RowsBelow t (
 
   pub not_too_long : (s : ℕ) → TooLongAt t s → ⊥
   not_too_long s long =
-      let cheap = h.cheap s (known s long.failing) long.failing in
-      let dear = long.dear cheap.0 cheap.1 cheap.2 in
+      let cheap = h.failing_are_cheap s (known s long.failing) long.failing in
+      let dear = long.all_too_long cheap.0 cheap.1 cheap.2 in
       let le = cheap.3 in
       omega arith
 
@@ -125,7 +125,7 @@ module _ (t : TableData) where
   pub made : Facts t → (n : ℕ) → n ≡ length t.states → (rows : Vec Row Global) → RowsBelow t n (rows_of rows.items) → IsCatalogueResult t (Ok rows)
   made f n all rows below =
       let h : RowsBelow t (length t.states) (rows_of rows.items) = subst (λ (m : ℕ). RowsBelow t m (rows_of rows.items)) all below in
-      record { ok = is_catalogue t f (rows_of rows.items) h; short = h.short; none = not_too_long t f (rows_of rows.items) h; long = λ s e. absurd (cc) }
+      record { ok = is_catalogue t f (rows_of rows.items) h; short = h.are_short; none_too_long = not_too_long t f (rows_of rows.items) h; too_long = λ s e. absurd (cc) }
 
   pub not_made : (fault : CatalogueFault) → ((s : ℕ) → fault ≡ TooLong s → TooLongAt t s) → IsCatalogueResult t (Err fault)
-  not_made fault long = record { ok = tt; short = tt; none = tt; long = λ s e. long s cc }
+  not_made fault long = record { ok = tt; short = tt; none_too_long = tt; too_long = λ s e. long s cc }

@@ -25,7 +25,7 @@ fn add_row(
     requires state { state < length reach.now.states }
     requires rows { RowsBelow reach.now state (rows_of rows.old.items) }
     ensures ok { OnOk result (RowsBelow reach.now (state + 1) (rows_of rows.new.items)) }
-    ensures long { (s : ℕ) → result ≡ Err (CatalogueFault.TooLong s) → TooLongAt reach.now s }
+    ensures too_long { (s : ℕ) → result ≡ Err (CatalogueFault.TooLong s) → TooLongAt reach.now s }
 {
     match reach.cost_of(state) {
         None => Ok(()),

@@ -17,7 +17,7 @@ pub fn catalogue(alloc: Global, table: &Halting) -> Result<Vec<Row>, CatalogueFa
     ensures ok { IfOk result (λ rows. Catalogue table.now (rows_of rows.items)) }
     ensures short { IfOk result (λ rows. AreShort (rows_of rows.items)) }
     ensures none { IfOk result (λ _. (s : ℕ) → TooLongAt table.now s → ⊥) }
-    ensures long { (s : ℕ) → result ≡ Err (CatalogueFault.TooLong s) → TooLongAt table.now s }
+    ensures too_long { (s : ℕ) → result ≡ Err (CatalogueFault.TooLong s) → TooLongAt table.now s }
 {
     let inner = table.table();
     inner.facts();

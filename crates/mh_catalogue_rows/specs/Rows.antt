@@ -25,5 +25,5 @@ AreShort rows = AllByRecursion (λ row. length row.sentence ≤ max_sentence_cos
 pub record IsCatalogueResult (t : TableData) (made : Result (Vec Row Global) CatalogueFault) : Type 0 where
   pub ok : IfOk made (λ rows. Catalogue t (rows_of rows.items))
   pub short : IfOk made (λ rows. AreShort (rows_of rows.items))
-  pub none : IfOk made (λ _. (s : ℕ) → TooLongAt t s → ⊥)
-  pub long : (s : ℕ) → made ≡ Err (TooLong s) → TooLongAt t s
+  pub none_too_long : IfOk made (λ _. (s : ℕ) → TooLongAt t s → ⊥)
+  pub too_long : (s : ℕ) → made ≡ Err (TooLong s) → TooLongAt t s

@@ -25,7 +25,7 @@ use Rattle.mh_check.specs.code.Places.{EntrySentence, without_entries, place_of,
 use Rattle.mh_tables_core.proofs.RefusingState.{state_refused}
 use Rattle.mh_check.proofs.FailsOnce.{fails_once}
 
--- A sentence with its entry is one of the sentences.
+-- If a sentence is in the list with entries, it is in the list without entries.
 contains_sentence : (done : List EntrySentence) (x : EntrySentence) → Contains done x → Contains (without_entries done) x.sentence
 contains_sentence done x c =
     let at = at_contains done x c in
@@ -34,15 +34,15 @@ contains_sentence done x c =
 -- The sentence y, with its entry.
 pub record SentenceWithEntry (done : List EntrySentence) (y : MsgSentence) : Type 0 where
   pub of_item : EntrySentence
-  pub among : Contains done of_item
+  pub sentence_listed : Contains done of_item
   pub is : of_item.sentence ≡ y
 
 item_there : (z : EntrySentence) (done : List EntrySentence) (y : MsgSentence) → SentenceWithEntry done y → SentenceWithEntry (z ∷ done) y
-item_there z done y found = record { of_item = found.of_item; among = (suc found.among.0, omega (arith, found.among.1), found.among.2); is = found.is }
+item_there z done y found = record { of_item = found.of_item; sentence_listed = (suc found.sentence_listed.0, omega (arith, found.sentence_listed.1), found.sentence_listed.2); is = found.is }
 
 item_at : (done : List EntrySentence) (k : ℕ) (y : MsgSentence) → slice_get (without_entries done) k ≡ Some y → SentenceWithEntry done y
 item_at [] k y is = cc
-item_at (z ∷ done) zero y is = record { of_item = z; among = (0, omega arith, refl); is = cc }
+item_at (z ∷ done) zero y is = record { of_item = z; sentence_listed = (0, omega arith, refl); is = cc }
 item_at (z ∷ done) (suc k) y is = item_there z done y (item_at done k y is)
 
 item_of : (done : List EntrySentence) (y : MsgSentence) → Contains (without_entries done) y → SentenceWithEntry done y
@@ -65,9 +65,9 @@ module _ (t : TableData) where
   sound_more : (xs : List MsgSentence) (x : MsgSentence) (s : ℕ) → Sound t xs → FailsIn t x s → ((y : MsgSentence) → Contains xs y → FailsIn t y s → ⊥) → Sound t (xs ++ x ∷ [])
   sound_more xs x s sound fails free = record {
     each = λ y c. elim (contains_push xs x y c) [ inl d ↦ sound.each y d | inr e ↦ (s, subst (λ (z : MsgSentence). FailsIn t z s) (sym e) fails) ];
-    apart = λ i j r y z at_i at_j in_y in_z. elim (get_cases xs x i y at_i) [
+    distinct = λ i j r y z at_i at_j in_y in_z. elim (get_cases xs x i y at_i) [
       | inl a ↦ elim (get_cases xs x j z at_j) [
-        | inl b ↦ sound.apart i j r y z a b in_y in_z
+        | inl b ↦ sound.distinct i j r y z a b in_y in_z
         | inr b ↦ absurd (clash i r y z a b.1 in_y in_z)
       ]
       | inr a ↦ elim (get_cases xs x j z at_j) [
@@ -84,7 +84,7 @@ module _ (t : TableData) where
           free y (contains_at xs i y at) (subst (λ (k : ℕ). FailsIn t y k) same in_y)
 
   sound_none : Sound t []
-  sound_none = record { each = λ x c. absurd (contains_none x c); apart = λ i j s x y at_i at_j in_x in_y. cc }
+  sound_none = record { each = λ x c. absurd (contains_none x c); distinct = λ i j s x y at_i at_j in_x in_y. cc }
 
   sentences_push : (done : List EntrySentence) (x : EntrySentence) → without_entries (done ++ x ∷ []) ≡ without_entries done ++ x.sentence ∷ []
   sentences_push done x = map-append (λ (y : EntrySentence). y.sentence) done (x ∷ [])
@@ -120,7 +120,7 @@ module _ (t : TableData) where
     free : slice_get places s ≡ Some None → (y : MsgSentence) → Contains (without_entries done) y → FailsIn t y s → ⊥
     free empty y c in_y =
         let at = item_of done y c in
-        let kept = placed.kept at.of_item s at.among (subst (λ (u : MsgSentence). FailsIn t u s) (sym at.is) in_y) in
+        let kept = placed.kept at.of_item s at.sentence_listed (subst (λ (u : MsgSentence). FailsIn t u s) (sym at.is) in_y) in
         not_both (slice_get places s) (place_of at.of_item) empty kept
       where
         not_both : (o : Option (Option SentencePlace)) (p : SentencePlace) → o ≡ Some None → o ≡ Some (Some p) → ⊥

@@ -49,7 +49,7 @@ module _ (t : TableData) where
       let place : at ≡ length x.tokens - 1 = cc in omega arith
   never_sound a m x f sound (Shared y s c in_y in_x) =
       let at = at_contains a y c in
-      let same : at.0 ≡ length a = sound.apart at.0 (length a) s y x (get_left a (x ∷ m) at.0 y at.1) (get_after_prefix a x m) in_y in_x in
+      let same : at.0 ≡ length a = sound.distinct at.0 (length a) s y x (get_left a (x ∷ m) at.0 y at.1) (get_after_prefix a x m) in_y in_x in
       let within : at.0 < length a = slice_get_within a at.0 y at.1 in omega arith
 
   breaks_once : (a : List MsgSentence) (x : MsgSentence) (f g : SoundnessFault) → Sound t a → BreaksSoundness t a x f → BreaksSoundness t a x g → f ≡ g
@@ -70,7 +70,7 @@ module _ (t : TableData) where
       let state : s' ≡ s = fails_once t x s' s in_x' in_x in
       let at = at_contains a y c in
       let at' = at_contains a y' c' in
-      let place : at.0 ≡ at'.0 = sound.apart at.0 at'.0 s y y' at.1 at'.1 in_y (subst (λ (k : ℕ). FailsIn t y' k) state in_y') in
+      let place : at.0 ≡ at'.0 = sound.distinct at.0 at'.0 s y y' at.1 at'.1 in_y (subst (λ (k : ℕ). FailsIn t y' k) state in_y') in
       let both : Some y ≡ Some y' = sym at.1 ∙ ap (slice_get a) place ∙ at'.1 in
       let same : y ≡ y' = cc in λ i. SharedBy (same i).line x.line (sym state i)
 

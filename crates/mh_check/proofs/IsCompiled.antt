@@ -103,7 +103,7 @@ pub record EntryOf (k : ℕ) (es : List Entry) (x : EntrySentence) : Type 0 wher
   pub entry : Entry
   pub number : x.entry ≡ k + place
   pub at : slice_get es place ≡ Some entry
-  pub among : Contains entry.sentences x.sentence
+  pub sentence_listed : Contains entry.sentences x.sentence
 
 item_among : (k : ℕ) (xs : List MsgSentence) (x : EntrySentence) → Contains (sentences_of_entry k xs) x → (x.entry ≡ k) × Contains xs x.sentence
 item_among k [] x c = absurd (contains_none x c)
@@ -115,8 +115,8 @@ item_among k (y ∷ xs) x c = elim (contains_cases (entry_sentence k y) (sentenc
 entry_of : (k : ℕ) (es : List Entry) (x : EntrySentence) → Contains (sentences_of_entries k es) x → EntryOf k es x
 entry_of k [] x c = absurd (contains_none x c)
 entry_of k (e ∷ es) x c = elim (Contains-append_cases (sentences_of_entry k e.sentences) (sentences_of_entries (k + 1) es) x c) [
-  | inl d ↦ (let in_e = item_among k e.sentences x d in record { place = 0; entry = e; number = in_e.0 ∙ omega arith; at = refl; among = in_e.1 })
-  | inr d ↦ (let on = entry_of (k + 1) es x d in record { place = suc on.place; entry = on.entry; number = on.number ∙ omega arith; at = on.at; among = on.among })
+  | inl d ↦ (let in_e = item_among k e.sentences x d in record { place = 0; entry = e; number = in_e.0 ∙ omega arith; at = refl; sentence_listed = in_e.1 })
+  | inr d ↦ (let on = entry_of (k + 1) es x d in record { place = suc on.place; entry = on.entry; number = on.number ∙ omega arith; at = on.at; sentence_listed = on.sentence_listed })
 ]
 
 item_there : (k : ℕ) (xs : List MsgSentence) (x : MsgSentence) → Contains xs x → Contains (sentences_of_entry k xs) (entry_sentence k x)
@@ -162,7 +162,7 @@ module _ (t : TableData) (file : MsgFile) (places : List (Option SentencePlace))
           entry = of_entry.entry;
           sentence = found.0.sentence;
           of_file = contains_at file.entries of_entry.place of_entry.entry of_entry.at;
-          of_entry = of_entry.among;
+          of_entry = of_entry.sentence_listed;
           fails = found.2;
           is = (let both : Some message ≡ Some of_entry.entry.message = sym is ∙ here in cc);
         }

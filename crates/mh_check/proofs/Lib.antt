@@ -1,4 +1,4 @@
-mod FailsOnce
+pub mod FailsOnce
 pub mod ArePlaces
 pub mod IsCompiled
 pub mod Missing

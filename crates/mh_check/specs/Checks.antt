@@ -19,7 +19,7 @@ FailsIn t x s = Fails t x.start x.tokens s
 -- Each sentence fails in some state, and no two fail in the same state.
 pub record Sound (t : TableData) (xs : List MsgSentence) : Type 0 where
   pub each : (x : MsgSentence) → Contains xs x → (s : ℕ) × FailsIn t x s
-  pub apart : (i j s : ℕ) (x y : MsgSentence) → slice_get xs i ≡ Some x → slice_get xs j ≡ Some y → FailsIn t x s → FailsIn t y s → i ≡ j
+  pub distinct : (i j s : ℕ) (x y : MsgSentence) → slice_get xs i ≡ Some x → slice_get xs j ≡ Some y → FailsIn t x s → FailsIn t y s → i ≡ j
 
 -- The reason why a sentence breaks soundness, with the lines of the sentences.
 pub data SoundnessFault : Type 0 where

@@ -12,7 +12,7 @@ use mh_tables_core::Halting;
 /// compiled to exactly one list of messages or has a first fault.
 pub fn checked_once(table: &Halting)
     ensures fault { (xs : List MsgSentence) (a b : SoundnessFault) → FirstFault table.now xs a → FirstFault table.now xs b → a ≡ b }
-    ensures apart { (xs : List MsgSentence) (fault : SoundnessFault) → Sound table.now xs → FirstFault table.now xs fault → ⊥ }
+    ensures not_both { (xs : List MsgSentence) (fault : SoundnessFault) → Sound table.now xs → FirstFault table.now xs fault → ⊥ }
     ensures either { (file : MsgFile) → AreSentencesOf (length table.now.grammar.starts) table.now.grammar.tokens file → ((messages : List (Option (List ℕ))) × IsCompiled table.now file messages) ⊎ ((fault : SoundnessFault) × FirstFault table.now (sentences_of file) fault) }
     ensures messages { (file : MsgFile) (a b : List (Option (List ℕ))) → IsCompiled table.now file a → IsCompiled table.now file b → a ≡ b }
 {

@@ -12,4 +12,6 @@ pub use compiled::{Compiled, compare};
 pub use compiling::{CheckFault, compile};
 pub use laws::checked_once;
 pub use places::failing_state;
-pub use texts::{check_fault_line, compiled_text, ending_text, file_fault_line, write_early};
+pub use texts::{
+    check_fault_line, compiled_text, ending_text, file_fault_line, write_early, write_shared,
+};

@@ -1,7 +1,7 @@
 //! The texts of faults and of compiled messages. Each `write_` function appends to a text.
 ghost use Rattle.std.specs.Prelude.{◌≡◌, ◌≤◌, ◌^◌, ◌++◌, length, decimal, IfOk, OnOk};
 ghost use Rattle.mh_run.specs.Verdicts.{ending_for};
-ghost use Rattle.mh_msgfile.specs.Messages.{ReportsFault as TellsFile};
+ghost use Rattle.mh_msgfile.specs.Messages.{ReportsFault as ReportsFileFault};
 ghost use Rattle.mh_check.specs.Compiling.{ReportsCheckFault, message_at};
 ghost use Rattle.mh_check.specs.Texts.{place_text, file_line, ending_text as ending_line, early_text, shared_text, check_line, state_text, message_text, compiled_text as compiled_lines};
 
@@ -40,7 +40,7 @@ fn write_file_fault(
     name: &[u8],
     fault: &MsgFault,
 ) -> Result<(), Memory>
-    ensures { OnOk result (TellsFile fault.now (λ found. text.new.items ≡ text.old.items ++ file_line name.now found)) }
+    ensures { OnOk result (ReportsFileFault fault.now (λ found. text.new.items ≡ text.old.items ++ file_line name.now found)) }
 {
     match fault {
         MsgFault::Shape { line } => {
@@ -74,7 +74,7 @@ fn write_file_fault(
 /// Returns the line for the error output that reports a fault of the messages file with this name. Fails if memory runs
 /// out, or if the fault is that memory ran out.
 pub fn file_fault_line(alloc: Global, name: &[u8], fault: &MsgFault) -> Result<Vec<u8>, Memory>
-    ensures { IfOk result (λ text. TellsFile fault.now (λ found. text.items ≡ file_line name.now found)) }
+    ensures { IfOk result (λ text. ReportsFileFault fault.now (λ found. text.items ≡ file_line name.now found)) }
 {
     let mut text = Vec::new(alloc);
     write_file_fault(alloc, &mut text, name, fault)?;
@@ -104,8 +104,10 @@ pub fn write_early(alloc: Global, text: &mut Vec<u8>, at: u32) -> Result<(), Mem
     Ok(())
 }
 
+/// Appends the text that a sentence fails in the state in which the sentence of an earlier line fails. Fails only if
+/// memory runs out.
 #[tactic(auto, unfolding(crate::specs::Texts::shared_text))]
-fn write_shared(alloc: Global, text: &mut Vec<u8>, state: u32, line: u32) -> Result<(), Memory>
+pub fn write_shared(alloc: Global, text: &mut Vec<u8>, state: u32, line: u32) -> Result<(), Memory>
     ensures { OnOk result (text.new.items ≡ text.old.items ++ shared_text state line) }
 {
     text.extend_from_slice(b"state ")?;

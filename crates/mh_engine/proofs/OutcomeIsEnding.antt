@@ -74,16 +74,16 @@ module _ (t : TableData) (f : Facts t) (start : ℕ) (w : List ℕ) (lt : start 
     run = after t r.steps (initial start w)
 
     table_is : r.position.table ≡ t
-    table_is = ap (λ (x : Position). x.table) (sym r.leads.there) ∙ table_after r.steps first
+    table_is = ap (λ (x : Position). x.table) (sym r.leads.reaches) ∙ table_after r.steps first
 
     states_are : r.position.pairs.states ≡ run.stack
-    states_are = ap (λ (x : Position). x.pairs.states) (sym r.leads.there) ∙ (same r.steps).states
+    states_are = ap (λ (x : Position). x.pairs.states) (sym r.leads.reaches) ∙ (same r.steps).states
 
     left_is : r.position.left ≡ run.left
-    left_is = ap (λ (x : Position). x.left) (sym r.leads.there) ∙ (same r.steps).same_left
+    left_is = ap (λ (x : Position). x.left) (sym r.leads.reaches) ∙ (same r.steps).same_left
 
     pub trees_are : r.position.pairs.trees ≡ trees_after t r.steps (initial start w) []
-    trees_are = ap (λ (x : Position). x.pairs.trees) (sym r.leads.there) ∙ (same r.steps).same_trees
+    trees_are = ap (λ (x : Position). x.pairs.trees) (sym r.leads.reaches) ∙ (same r.steps).same_trees
 
     move_is : run_move_of t (top_of run.stack) run.left ≡ m
     move_is = ap (λ (s : List ℕ). run_move_of t (top_of s) run.left) (sym states_are) ∙ ap (λ (l : List ℕ). run_move_of t (top_of r.position.pairs.states) l) (sym left_is) ∙ ap (λ (u : TableData). run_move_of u (top_of r.position.pairs.states) r.position.left) (sym table_is) ∙ at
@@ -94,12 +94,12 @@ module _ (t : TableData) (f : Facts t) (start : ℕ) (w : List ℕ) (lt : start 
     -- No step of this run makes too many pairs or too high a tree.
     pub fits : IsTooDeep t start w → ⊥
     fits (k, e) = elim (cases_lt k (suc r.steps)) [
-      | inl low ↦ (let ok = sym (ap too_deep (same k).same_trees) ∙ r.leads.fits k (omega arith) in let both = sym e ∙ ok in cc)
+      | inl low ↦ (let ok = sym (ap too_deep (same k).same_trees) ∙ r.leads.not_too_deep k (omega arith) in let both = sym e ∙ ok in cc)
       | inr high ↦ (
           let split : k ≡ r.steps + (k - r.steps) = omega arith in
           let stay : trees_after t k (initial start w) [] ≡ trees_after t r.steps (initial start w) [] =
           ap (λ (i : ℕ). trees_after t i (initial start w) []) split ∙ trees_add t r.steps (k - r.steps) (initial start w) [] ∙ trees_stay t (k - r.steps) run (trees_after t r.steps (initial start w) []) m move_is h in
-          let ok = ap too_deep stay ∙ ap too_deep (sym (same r.steps).same_trees) ∙ r.leads.fits r.steps (omega arith) in
+          let ok = ap too_deep stay ∙ ap too_deep (sym (same r.steps).same_trees) ∙ r.leads.not_too_deep r.steps (omega arith) in
           let both = sym e ∙ ok in cc)
     ]
 

@@ -51,14 +51,14 @@ not_below_limit n none = elim (cases_lt n 4000) [ inl lt ↦ absurd (none lt) | 
 -- A sound position whose next move is a reduction has what that reduction needs.
 pub can_reduce : (c : Position) (p : ℕ) → Facts c.table → IsSound c → next_move c ≡ Reduces p → CanReduce c p
 can_reduce c p f s e =
-    let run = IsRunStack-of_trees c.table c.pairs.states c.pairs.trees s.grown in
+    let run = IsRunStack-of_trees c.table c.pairs.states c.pairs.trees s.trees_match in
     let by = reduces_from_move c.table (top_of c.pairs.states) c.left p e in
     let found = finds_states_and_edge c.table f c.pairs.states run p by in
     let range = f.ordinary (top_of c.pairs.states) p by in
     record {
       ordinary = range.0;
       known = range.1;
-      pairs = let l = s.grown.len in let a = found.states in omega arith;
+      pairs = let l = s.trees_match.len in let a = found.states in omega arith;
       below = edge_source c.table _ found.goto.0 (N (lhs_of c.table.grammar p)) found.goto.1;
       goto = found.goto;
     }
@@ -66,26 +66,26 @@ can_reduce c p f s e =
 pub reduced_is : (c : Position) (p : ℕ) → Facts c.table → IsSound c → next_move c ≡ Reduces p → (g : ℕ) → edge_of c.table (top_of (without_last (length (rhs_of c.table.grammar p)) c.pairs).states) (N (lhs_of c.table.grammar p)) ≡ Some g
     → resumed c ≡ record { table = c.table; pairs = pushed (without_last (length (rhs_of c.table.grammar p)) c.pairs) g (Node p (forest_of (drop (length c.pairs.trees - length (rhs_of c.table.grammar p)) c.pairs.trees))); left = c.left; refused = false }
 reduced_is c p f s e g edge =
-    let run = IsRunStack-of_trees c.table c.pairs.states c.pairs.trees s.grown in
+    let run = IsRunStack-of_trees c.table c.pairs.states c.pairs.trees s.trees_match in
     let found = finds_states_and_edge c.table f c.pairs.states run p (reduces_from_move c.table (top_of c.pairs.states) c.left p e) in
     let same : found.goto.0 ≡ g = let a = sym found.goto.1 ∙ edge in cc in
     let is = reduce_is c.table p c.pairs.states found in
     by_move c (Reduces p) e ∙ rw (is, same) refl
 
 top_is : (c : Position) → IsSound c → top_of c.pairs.states ≡ get_or c.pairs.states (length c.pairs.trees) 0
-top_is c s = let l = s.grown.len in ap (λ (k : ℕ). get_or c.pairs.states k 0) (omega arith)
+top_is c s = let l = s.trees_match.len in ap (λ (k : ℕ). get_or c.pairs.states k 0) (omega arith)
 
 pub shifted_sound : (c : Position) (j z : ℕ) → Facts c.table → IsSound c → next_move c ≡ Shifts j → c.left ≡ z ∷ [] → length c.pairs.trees < 4000
     → IsSound (record { table = c.table; pairs = pushed c.pairs j (Leaf z); left = []; refused = false })
 shifted_sound c j z f s e l few =
     let shift = f.shifts (top_of c.pairs.states) z j (shifts_from_move c.table (top_of c.pairs.states) z [] j (subst (λ (left : List ℕ). run_move_of c.table (top_of c.pairs.states) left ≡ Shifts j) l e)) in
     record {
-      grown = TreesMatchStack-push c.table c.pairs.states c.pairs.trees (T z) j (Leaf z) s.grown (ap (λ (u : ℕ). edge_of c.table u (T z)) (sym (top_is c s)) ∙ shift) refl;
-      fits = shift_fits c.pairs.trees z s.fits few;
+      trees_match = TreesMatchStack-push c.table c.pairs.states c.pairs.trees (T z) j (Leaf z) s.trees_match (ap (λ (u : ℕ). edge_of c.table u (T z)) (sym (top_is c s)) ∙ shift) refl;
+      not_too_deep = shift_fits c.pairs.trees z s.not_too_deep few;
     }
 
 pub shifted_fits : (c : Position) (j z : ℕ) → IsSound c → next_move c ≡ Shifts j → c.left ≡ z ∷ [] → length c.pairs.trees < 4000 → too_deep (resumed c).pairs.trees ≡ false
-shifted_fits c j z s e l few = ap (λ (p : Position). too_deep p.pairs.trees) (resumed_shift c j z e l) ∙ shift_fits c.pairs.trees z s.fits few
+shifted_fits c j z s e l few = ap (λ (p : Position). too_deep p.pairs.trees) (resumed_shift c j z e l) ∙ shift_fits c.pairs.trees z s.not_too_deep few
 
 pub shifted_deep : (c : Position) (j z : ℕ) → next_move c ≡ Shifts j → c.left ≡ z ∷ [] → 4000 ≤ length c.pairs.trees → too_deep (resumed c).pairs.trees ≡ true
 shifted_deep c j z e l many = ap (λ (p : Position). too_deep p.pairs.trees) (resumed_shift c j z e l) ∙ deep_pairs (c.pairs.trees ++ Leaf z ∷ []) (omega (arith, length-append c.pairs.trees (Leaf z ∷ [])))
@@ -101,7 +101,7 @@ module _ (c : Position) (p : ℕ) (f : Facts c.table) (s : IsSound c) (e : next_
   trees_is = ap (λ (q : Position). q.pairs.trees) (by_move c (Reduces p) e)
 
   pub reduced_fits : kept < 4000 → All (λ t. height_of t < 4000) (drop kept c.pairs.trees) → too_deep (resumed c).pairs.trees ≡ false
-  reduced_fits few low = ap too_deep trees_is ∙ reduce_fits c.pairs.trees kept p (omega arith) s.fits few low
+  reduced_fits few low = ap too_deep trees_is ∙ reduce_fits c.pairs.trees kept p (omega arith) s.not_too_deep few low
 
   pub reduced_many : 4000 ≤ kept → too_deep (resumed c).pairs.trees ≡ true
   reduced_many many = ap too_deep trees_is ∙ reduce_many c.pairs.trees kept p (omega arith) many
@@ -112,14 +112,14 @@ module _ (c : Position) (p : ℕ) (f : Facts c.table) (s : IsSound c) (e : next_
   pub reduced_sound : (g : ℕ) → edge_of c.table (top_of (without_last (length (rhs_of c.table.grammar p)) c.pairs).states) (N (lhs_of c.table.grammar p)) ≡ Some g → kept < 4000 → All (λ t. height_of t < 4000) (drop kept c.pairs.trees)
       → IsSound (after_reduction c p g)
   reduced_sound g edge few low =
-      let run = IsRunStack-of_trees c.table c.pairs.states c.pairs.trees s.grown in
+      let run = IsRunStack-of_trees c.table c.pairs.states c.pairs.trees s.trees_match in
       let by = reduces_from_move c.table (top_of c.pairs.states) c.left p e in
       let found = finds_states_and_edge c.table f c.pairs.states run p by in
       let same : found.goto.0 ≡ g = let a = sym found.goto.1 ∙ edge in cc in
       let is = reduce_is c.table p c.pairs.states found in
       record {
-        grown = TreesMatchStack-reduce c.table f c.pairs.states _ c.pairs.trees p s.grown by (reduced c.table p c.pairs.states _ (rw same at is));
-        fits = reduce_fits c.pairs.trees kept p (omega arith) s.fits few low;
+        trees_match = TreesMatchStack-reduce c.table f c.pairs.states _ c.pairs.trees p s.trees_match by (reduced c.table p c.pairs.states _ (rw same at is));
+        not_too_deep = reduce_fits c.pairs.trees kept p (omega arith) s.not_too_deep few low;
       }
 
 -- After a shift, the checkpoint that the code makes has the position after the next step.
@@ -192,7 +192,7 @@ pub asking_moves : (c : Position) → CanOffer (phase_of c) → next_move c ≡ 
 unfolding phase_of
 asking_moves c a = asking_where c.refused c a
 
--- No token is offered if the state asks for one.
+-- If the state asks for a token, no token is left to read.
 asks_empty : (t : TableData) (s : ℕ) (left : List ℕ) → run_move_of t s left ≡ Asks → left ≡ []
 asks_empty t s [] e = refl
 asks_empty t s (z ∷ left) e = absurd (no_ask_with_token t s z left e)

@@ -40,13 +40,13 @@ can_front (suc m) (suc n) c le h = (h.0, can_front m n (resumed c) (omega arith)
 
 pub StepsLeadTo-append : (n m : ℕ) (a b c : Position) → StepsLeadTo n a b → StepsLeadTo m b c → StepsLeadTo (n + m) a c
 StepsLeadTo-append n m a b c l k = record {
-  made = can_add n m a l.made (subst (CanMakeSteps m) (sym l.there) k.made);
-  there = after_add n m a ∙ ap (after_steps m) l.there ∙ k.there;
-  fits = λ j le. elim (cases_lt j n) [
-    | inl lt ↦ l.fits j (omega arith)
+  can_step = can_add n m a l.can_step (subst (CanMakeSteps m) (sym l.reaches) k.can_step);
+  reaches = after_add n m a ∙ ap (after_steps m) l.reaches ∙ k.reaches;
+  not_too_deep = λ j le. elim (cases_lt j n) [
+    | inl lt ↦ l.not_too_deep j (omega arith)
     | inr ge ↦ (
         let e : j ≡ n + (j - n) = omega arith in
-        ap (λ (i : ℕ). too_deep (after_steps i a).pairs.trees) e ∙ ap (λ (p : Position). too_deep p.pairs.trees) (after_add n (j - n) a ∙ ap (after_steps (j - n)) l.there) ∙ k.fits (j - n) (omega arith))
+        ap (λ (i : ℕ). too_deep (after_steps i a).pairs.trees) e ∙ ap (λ (p : Position). too_deep p.pairs.trees) (after_add n (j - n) a ∙ ap (after_steps (j - n)) l.reaches) ∙ k.not_too_deep (j - n) (omega arith))
   ];
 }
 
@@ -69,23 +69,23 @@ after_rest (z ∷ zs) n a h =
 
 leads_rest : (zs : List ℕ) (n : ℕ) (a b : Position) → StepsLeadTo n a b → StepsLeadTo n (with_left a zs) (with_left b zs)
 leads_rest zs n a b l =
-    let all = after_rest zs n a l.made in
+    let all = after_rest zs n a l.can_step in
     record {
-      made = all.0;
-      there = all.1 ∙ ap (λ (p : Position). with_left p zs) l.there;
-      fits = λ m le. ap (λ (p : Position). too_deep p.pairs.trees) (after_rest zs m a (can_front m n a le l.made)).1 ∙ l.fits m le;
+      can_step = all.0;
+      reaches = all.1 ∙ ap (λ (p : Position). with_left p zs) l.reaches;
+      not_too_deep = λ m le. ap (λ (p : Position). too_deep p.pairs.trees) (after_rest zs m a (can_front m n a le l.can_step)).1 ∙ l.not_too_deep m le;
     }
 
 deep_rest : (zs : List ℕ) (a : Position) → SettlesTooDeep a → SettlesTooDeep (with_left a zs)
 deep_rest zs a d =
-    let all = after_rest zs d.steps a d.made in
-    record { steps = d.steps; made = all.0; deep = ap (λ (p : Position). too_deep p.pairs.trees) all.1 ∙ d.deep }
+    let all = after_rest zs d.steps a d.can_step in
+    record { steps = d.steps; can_step = all.0; deep = ap (λ (p : Position). too_deep p.pairs.trees) all.1 ∙ d.deep }
 
 deep_join : (n : ℕ) (a b : Position) → StepsLeadTo n a b → SettlesTooDeep b → SettlesTooDeep a
 deep_join n a b l d = record {
   steps = n + d.steps;
-  made = can_add n d.steps a l.made (subst (CanMakeSteps d.steps) (sym l.there) d.made);
-  deep = ap (λ (p : Position). too_deep p.pairs.trees) (after_add n d.steps a ∙ ap (after_steps d.steps) l.there) ∙ d.deep;
+  can_step = can_add n d.steps a l.can_step (subst (CanMakeSteps d.steps) (sym l.reaches) d.can_step);
+  deep = ap (λ (p : Position). too_deep p.pairs.trees) (after_add n d.steps a ∙ ap (after_steps d.steps) l.reaches) ∙ d.deep;
 }
 
 phase_rest : (zs : List ℕ) (c : Position) → (next_move c ≡ Asks → ⊥) → phase_of (with_left c zs) ≡ phase_of c
@@ -99,22 +99,22 @@ pub record IsTokenOffered (t : TableData) (start : ℕ) (w : List ℕ) (i z : �
   pub steps : ℕ
   pub leads : StepsLeadTo steps (initial_position t start (take (i + 1) w)) c
   pub waits : c.left ≡ z ∷ []
-  pub calm : c.refused ≡ false
+  pub not_refused : c.refused ≡ false
   pub within : i < length w
 
 -- The initial position is before the first token.
 pub IsBeforeToken-start : (t : TableData) (start : ℕ) (w : List ℕ) (c : Position) → c ≡ initial_position t start [] → IsBeforeToken t start w 0 c
 IsBeforeToken-start t start w c e = subst (IsBeforeToken t start w 0) (sym e) (record {
   steps = 0;
-  leads = record { made = tt; there = refl; fits = λ m le. let z : m ≡ 0 = omega arith in rw z refl };
+  leads = record { can_step = tt; reaches = refl; not_too_deep = λ m le. let z : m ≡ 0 = omega arith in rw z refl };
   empty = refl;
-  calm = refl;
+  not_refused = refl;
   within = omega arith;
 })
 
 -- Reductions keep a position before its token.
 pub IsBeforeToken-settled : (t : TableData) (start : ℕ) (w : List ℕ) (i : ℕ) (c d : Position) → IsBeforeToken t start w i c → SettlesTo c d → IsBeforeToken t start w i d
-IsBeforeToken-settled t start w i c d r s = record { steps = r.steps + s.steps; leads = StepsLeadTo-append r.steps s.steps (initial_position t start (take i w)) c d r.leads s.leads; empty = s.left ∙ r.empty; calm = s.calm r.calm; within = r.within }
+IsBeforeToken-settled t start w i c d r s = record { steps = r.steps + s.steps; leads = StepsLeadTo-append r.steps s.steps (initial_position t start (take i w)) c d r.leads s.leads; empty = s.left ∙ r.empty; not_refused = s.not_refused r.not_refused; within = r.within }
 
 -- An offer of the next token of the sentence.
 pub IsTokenOffered-offered : (t : TableData) (start : ℕ) (w : List ℕ) (i z k : ℕ) (c d : Position) → IsBeforeToken t start w i c → i < length w → z ≡ get_or w i k → d ≡ offered c z → IsTokenOffered t start w i z d
@@ -124,7 +124,7 @@ IsTokenOffered-offered t start w i z k c d r lt is e =
       steps = r.steps;
       leads = subst (λ (l : List ℕ). StepsLeadTo r.steps (initial_position t start l) (offered c z)) front (leads_one r.steps (initial_position t start (take i w)) c z r.leads);
       waits = ap (λ (l : List ℕ). l ++ z ∷ []) r.empty;
-      calm = r.calm;
+      not_refused = r.not_refused;
       within = lt;
     })
   where
@@ -133,7 +133,7 @@ IsTokenOffered-offered t start w i z k c d r lt is e =
 
 -- Reductions keep a token offered.
 pub IsTokenOffered-settled : (t : TableData) (start : ℕ) (w : List ℕ) (i z : ℕ) (c d : Position) → IsTokenOffered t start w i z c → SettlesTo c d → IsTokenOffered t start w i z d
-IsTokenOffered-settled t start w i z c d r s = record { steps = r.steps + s.steps; leads = StepsLeadTo-append r.steps s.steps (initial_position t start (take (i + 1) w)) c d r.leads s.leads; waits = s.left ∙ r.waits; calm = s.calm r.calm; within = r.within }
+IsTokenOffered-settled t start w i z c d r s = record { steps = r.steps + s.steps; leads = StepsLeadTo-append r.steps s.steps (initial_position t start (take (i + 1) w)) c d r.leads s.leads; waits = s.left ∙ r.waits; not_refused = s.not_refused r.not_refused; within = r.within }
 
 -- Steps of the run on a prefix are steps of the run on the whole sentence.
 whole : (t : TableData) (start : ℕ) (w : List ℕ) (i n : ℕ) (c : Position) → StepsLeadTo n (initial_position t start (take i w)) c → StepsLeadTo n (initial_position t start w) (with_left c (drop i w))
@@ -149,7 +149,7 @@ pub IsTokenOffered-too_deep : (t : TableData) (start : ℕ) (w : List ℕ) (i z 
 IsTokenOffered-too_deep t start w i z c r d = whole_deep t start w (i + 1) (deep_join r.steps (initial_position t start (take (i + 1) w)) c r.leads d)
 
 pub SettlesTooDeep-step : (c : Position) → CanResume (phase_of c) → too_deep (resumed c).pairs.trees ≡ true → SettlesTooDeep c
-SettlesTooDeep-step c g d = record { steps = 1; made = (g, tt); deep = d }
+SettlesTooDeep-step c g d = record { steps = 1; can_step = (g, tt); deep = d }
 
 abbrev reaches_at : (t : TableData) (start : ℕ) (w : List ℕ) (i n read : ℕ) (c : Position) (p : Phase) → StepsLeadTo n (initial_position t start (take i w)) c → i ≤ length w → phase_of c ≡ p → (next_move c ≡ Asks → ⊥) → read + length c.left ≡ i → ReachesPhase t start w p read
 reaches_at t start w i n read c p l le e h k = record {
@@ -225,12 +225,12 @@ IsBeforeToken-next t start w i z s y c d r e is fits =
     let new = resumed_shift c m.0 z m.1 r.waits in
     let go : CanResume (phase_of c) = subst CanResume (sym e) tt in
     let lt = r.within in
-    let one : StepsLeadTo 1 c (resumed c) = record { made = (go, tt); there = refl; fits = λ k le. elim (cases_lt k 1) [ inl low ↦ (let z0 : k ≡ 0 = omega arith in rw z0 (subst (λ (p : Position). too_deep p.pairs.trees ≡ false) r.leads.there (r.leads.fits r.steps (omega arith)))) | inr high ↦ (let o1 : k ≡ 1 = omega arith in rw o1 fits) ] } in
+    let one : StepsLeadTo 1 c (resumed c) = record { can_step = (go, tt); reaches = refl; not_too_deep = λ k le. elim (cases_lt k 1) [ inl low ↦ (let z0 : k ≡ 0 = omega arith in rw z0 (subst (λ (p : Position). too_deep p.pairs.trees ≡ false) r.leads.reaches (r.leads.not_too_deep r.steps (omega arith)))) | inr high ↦ (let o1 : k ≡ 1 = omega arith in rw o1 fits) ] } in
     subst (IsBeforeToken t start w (i + 1)) (sym is) (record {
       steps = r.steps + 1;
       leads = StepsLeadTo-append r.steps 1 (initial_position t start (take (i + 1) w)) c (resumed c) r.leads one;
       empty = ap (λ (p : Position). p.left) new;
-      calm = ap (λ (p : Position). p.refused) new;
+      not_refused = ap (λ (p : Position). p.refused) new;
       within = omega arith;
     })
 
@@ -277,13 +277,13 @@ no_other_phase_at_token c z l r none shifts handles accepts = go (phase_of c) re
     go phases.Rejected e = never_rejected c r e
 
 pub IsBeforeToken-table : (t : TableData) (start : ℕ) (w : List ℕ) (i : ℕ) (c : Position) → IsBeforeToken t start w i c → c.table ≡ t
-IsBeforeToken-table t start w i c r = ap (λ (p : Position). p.table) (sym r.leads.there) ∙ table_after r.steps (initial_position t start (take i w))
+IsBeforeToken-table t start w i c r = ap (λ (p : Position). p.table) (sym r.leads.reaches) ∙ table_after r.steps (initial_position t start (take i w))
 
 pub settles_table : (c d : Position) → SettlesTo c d → d.table ≡ c.table
-settles_table c d s = ap (λ (p : Position). p.table) (sym s.leads.there) ∙ table_after s.steps c
+settles_table c d s = ap (λ (p : Position). p.table) (sym s.leads.reaches) ∙ table_after s.steps c
 
-pub asks_here : (c : Position) (s : ℕ) → phase_of c ≡ phases.InputNeeded s → CanOffer (phase_of c)
-asks_here c s e = subst CanOffer (sym e) tt
+pub can_offer_at_ask : (c : Position) (s : ℕ) → phase_of c ≡ phases.InputNeeded s → CanOffer (phase_of c)
+can_offer_at_ask c s e = subst CanOffer (sym e) tt
 
-pub shifts_here : (c : Position) (s y : ℕ) → phase_of c ≡ phases.Shifting s y → CanResume (phase_of c)
-shifts_here c s y e = subst CanResume (sym e) tt
+pub can_resume_at_shift : (c : Position) (s y : ℕ) → phase_of c ≡ phases.Shifting s y → CanResume (phase_of c)
+can_resume_at_shift c s y e = subst CanResume (sym e) tt

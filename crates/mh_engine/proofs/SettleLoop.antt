@@ -39,37 +39,38 @@ pub reduce_phase_move : (c : Position) (q p : ℕ) → phase_of c ≡ phases.Abo
 unfolding phase_of
 reduce_phase_move c q p e = reducing_where c.refused c q p e
 
-pub can_reduce_on : (c : Position) (q p : ℕ) → phase_of c ≡ phases.AboutToReduce q p → CanResume (phase_of c)
-can_reduce_on c q p e = subst CanResume (sym e) tt
+pub can_resume_at_reduction : (c : Position) (q p : ℕ) → phase_of c ≡ phases.AboutToReduce q p → CanResume (phase_of c)
+can_resume_at_reduction c q p e = subst CanResume (sym e) tt
 
 -- The facts on the position after a reduction.
 record Reduction (c : Position) (p : ℕ) : Type 0 where
-  made : reduce c.table p c.pairs.states ≡ Some (resumed c).pairs.states
+  reduced : reduce c.table p c.pairs.states ≡ Some (resumed c).pairs.states
   same_left : (resumed c).left ≡ c.left
   not_refused : (resumed c).refused ≡ false
   shorter : length (resumed c).pairs.states + length (rhs_of c.table.grammar p) ≡ length c.pairs.states + 1
 
 reduction : (c : Position) (p : ℕ) → Facts c.table → IsSound c → next_move c ≡ Reduces p → Reduction c p
 reduction c p f s e =
-    let run = IsRunStack-of_trees c.table c.pairs.states c.pairs.trees s.grown in
+    let run = IsRunStack-of_trees c.table c.pairs.states c.pairs.trees s.trees_match in
     let found = finds_states_and_edge c.table f c.pairs.states run p (reduces_from_move c.table (top_of c.pairs.states) c.left p e) in
     let is = reduce_is c.table p c.pairs.states found in
     let states : (resumed c).pairs.states ≡ take (length c.pairs.states - length (rhs_of c.table.grammar p)) c.pairs.states ++ found.goto.0 ∷ [] = ap (λ (x : Position). x.pairs.states) (by_move c (Reduces p) e) ∙ rw is refl in
     let kept : List ℕ = take (length c.pairs.states - length (rhs_of c.table.grammar p)) c.pairs.states in
     let room = found.states in
     record {
-      made = is ∙ ap (λ (l : List ℕ). Some l) (sym states);
+      reduced = is ∙ ap (λ (l : List ℕ). Some l) (sym states);
       same_left = ap (λ (x : Position). x.left) (by_move c (Reduces p) e) ∙ rw is refl;
       not_refused = ap (λ (x : Position). x.refused) (by_move c (Reduces p) e);
       shorter = let l : length (resumed c).pairs.states ≡ length (kept ++ found.goto.0 ∷ []) = ap length states in omega (arith, length-append kept (found.goto.0 ∷ []), length-take-le (length c.pairs.states - length (rhs_of c.table.grammar p)) c.pairs.states (omega arith));
     }
 
--- The invariant of the loop of `settle`.
+-- The invariant of the loop of `settle`: the stack from index `floor` on is the result of the last `count` reductions,
+-- none of which removed the state at that index.
 pub record SettleInvariant (first now : Position) (floor count : ℕ) : Type 0 where
   pub steps : ℕ
   pub leads : StepsLeadTo steps first now
   pub left : now.left ≡ first.left
-  pub calm : first.refused ≡ false → now.refused ≡ false
+  pub not_refused : first.refused ≡ false → now.refused ≡ false
   pub kept : CheckpointFacts now
   pub relative : Relative now.table kept.look now.pairs.states floor count
 
@@ -78,15 +79,15 @@ SettleInvariant-few first now floor count p = Relative-few now.table p.kept.halt
 
 begins_at : (c : Position) (k : CheckpointFacts c) (floor : ℕ) → floor ≡ length c.pairs.trees - 1 → Relative c.table k.look c.pairs.states floor 0
 begins_at c k floor e =
-    let l = k.sound.grown.len in
-    subst (λ (n : ℕ). Relative c.table k.look c.pairs.states n 0) (omega arith) (Relative-start c.table k.look c.pairs.states (IsRunStack-of_trees c.table c.pairs.states c.pairs.trees k.sound.grown))
+    let l = k.sound.trees_match.len in
+    subst (λ (n : ℕ). Relative c.table k.look c.pairs.states n 0) (omega arith) (Relative-start c.table k.look c.pairs.states (IsRunStack-of_trees c.table c.pairs.states c.pairs.trees k.sound.trees_match))
 
 pub SettleInvariant-start : (first : Position) (floor : ℕ) → CheckpointFacts first → floor ≡ length first.pairs.trees - 1 → SettleInvariant first first floor 0
 SettleInvariant-start first floor k e = record {
   steps = 0;
-  leads = record { made = tt; there = refl; fits = λ m le. let z : m ≡ 0 = omega arith in rw z k.sound.fits };
+  leads = record { can_step = tt; reaches = refl; not_too_deep = λ m le. let z : m ≡ 0 = omega arith in rw z k.sound.not_too_deep };
   left = refl;
-  calm = λ r. r;
+  not_refused = λ r. r;
   kept = k;
   relative = begins_at first k floor e;
 }
@@ -94,11 +95,11 @@ SettleInvariant-start first floor k e = record {
 -- A step that does not make the tree too deep is appended to the steps so far.
 leads_more : (n : ℕ) (first now : Position) → StepsLeadTo n first now → CanResume (phase_of now) → too_deep (resumed now).pairs.trees ≡ false → StepsLeadTo (suc n) first (resumed now)
 leads_more n first now l g fits =
-    let there : after_steps (suc n) first ≡ resumed now = after_steps-suc n first ∙ ap resumed l.there in
+    let there : after_steps (suc n) first ≡ resumed now = after_steps-suc n first ∙ ap resumed l.reaches in
     record {
-      made = CanMakeSteps-suc n first l.made (subst (λ (p : Position). CanResume (phase_of p)) (sym l.there) g);
-      there = there;
-      fits = λ m le. elim (cases_lt m (suc n)) [ inl lt ↦ l.fits m (omega arith) | inr ge ↦ (let e : m ≡ suc n = omega arith in rw e (ap (λ (p : Position). too_deep p.pairs.trees) there ∙ fits)) ];
+      can_step = CanMakeSteps-suc n first l.can_step (subst (λ (p : Position). CanResume (phase_of p)) (sym l.reaches) g);
+      reaches = there;
+      not_too_deep = λ m le. elim (cases_lt m (suc n)) [ inl lt ↦ l.not_too_deep m (omega arith) | inr ge ↦ (let e : m ≡ suc n = omega arith in rw e (ap (λ (p : Position). too_deep p.pairs.trees) there ∙ fits)) ];
     }
 
 same_look : (a b : Option ℕ) → look_list a ≡ look_list b → a ≡ b
@@ -112,7 +113,7 @@ module _ (first now new : Position) (floor count q p : ℕ) (h : SettleInvariant
   one = reduction now p h.kept.halting.facts h.kept.sound (reduce_phase_move now q p at)
 
   new_leads : StepsLeadTo (suc h.steps) first new
-  new_leads = subst (StepsLeadTo (suc h.steps) first) (sym is) (leads_more h.steps first now h.leads (can_reduce_on now q p at) fits)
+  new_leads = subst (StepsLeadTo (suc h.steps) first) (sym is) (leads_more h.steps first now h.leads (can_resume_at_reduction now q p at) fits)
 
   new_left : new.left ≡ now.left
   new_left = ap (λ (x : Position). x.left) is ∙ one.same_left
@@ -131,39 +132,39 @@ module _ (first now new : Position) (floor count q p : ℕ) (h : SettleInvariant
 
   pub progress_above : floor < length new.pairs.trees → SettleInvariant first new floor (count + 1)
   progress_above lt =
-      let l = k.sound.grown.len in
+      let l = k.sound.trees_match.len in
       let s = new_states in
       let next : run_move_of now.table (top_of now.pairs.states) (look_list h.kept.look) ≡ Reduces p = subst (λ (left : List ℕ). run_move_of now.table (top_of now.pairs.states) left ≡ Reduces p) (sym h.kept.left_is) (reduce_phase_move now q p at) in
-      let more = Relative-step now.table h.kept.look now.pairs.states (resumed now).pairs.states floor count p h.relative next (omega arith) one.made in
+      let more = Relative-step now.table h.kept.look now.pairs.states (resumed now).pairs.states floor count p h.relative next (omega arith) one.reduced in
       let c : suc count ≡ count + 1 = omega arith in
       record {
         steps = suc h.steps;
         leads = new_leads;
         left = new_left ∙ h.left;
-        calm = λ r. new_not_refused;
+        not_refused = λ r. new_not_refused;
         kept = k;
         relative = subst (λ (n : ℕ). Relative new.table k.look new.pairs.states floor n) c (subst (λ (o : Option ℕ). Relative new.table o new.pairs.states floor (suc count)) new_look
             (subst (λ (x : Position). Relative x.table h.kept.look x.pairs.states floor (suc count)) (sym is) (subst (λ (t : TableData). Relative t h.kept.look (resumed now).pairs.states floor (suc count)) (sym (resumed_table now)) more)));
       }
 
   pub progress_below : (lower : ℕ) → lower ≡ length new.pairs.trees - 1 → SettleInvariant first new lower 0
-  progress_below lower e = record { steps = suc h.steps; leads = new_leads; left = new_left ∙ h.left; calm = λ r. new_not_refused; kept = k; relative = begins_at new k lower e }
+  progress_below lower e = record { steps = suc h.steps; leads = new_leads; left = new_left ∙ h.left; not_refused = λ r. new_not_refused; kept = k; relative = begins_at new k lower e }
 
   -- There is at least one tree after a reduction.
   pub some_tree : 0 < length new.pairs.trees
   some_tree =
-      let run = IsRunStack-of_trees now.table now.pairs.states now.pairs.trees h.kept.sound.grown in
+      let run = IsRunStack-of_trees now.table now.pairs.states now.pairs.trees h.kept.sound.trees_match in
       let found = finds_states_and_edge now.table h.kept.halting.facts now.pairs.states run p (reduces_from_move now.table (top_of now.pairs.states) now.left p (reduce_phase_move now q p at)) in
       let room = found.states in
-      let l = k.sound.grown.len in
+      let l = k.sound.trees_match.len in
       let s = new_states in omega arith
 
 pub settles : (first now : Position) (floor count : ℕ) → SettleInvariant first now floor count → ((q p : ℕ) → phase_of now ≡ phases.AboutToReduce q p → ⊥) → SettlesTo first now
-settles first now floor count h none = record { steps = h.steps; leads = h.leads; left = h.left; calm = h.calm; settled = none }
+settles first now floor count h none = record { steps = h.steps; leads = h.leads; left = h.left; not_refused = h.not_refused; settled = none }
 
 pub settles_deep : (first now : Position) (floor count q p : ℕ) → SettleInvariant first now floor count → phase_of now ≡ phases.AboutToReduce q p → too_deep (resumed now).pairs.trees ≡ true → SettlesTooDeep first
 settles_deep first now floor count q p h at deep = record {
   steps = suc h.steps;
-  made = CanMakeSteps-suc h.steps first h.leads.made (subst (λ (x : Position). CanResume (phase_of x)) (sym h.leads.there) (can_reduce_on now q p at));
-  deep = ap (λ (x : Position). too_deep x.pairs.trees) (after_steps-suc h.steps first ∙ ap resumed h.leads.there) ∙ deep;
+  can_step = CanMakeSteps-suc h.steps first h.leads.can_step (subst (λ (x : Position). CanResume (phase_of x)) (sym h.leads.reaches) (can_resume_at_reduction now q p at));
+  deep = ap (λ (x : Position). too_deep x.pairs.trees) (after_steps-suc h.steps first ∙ ap resumed h.leads.reaches) ∙ deep;
 }

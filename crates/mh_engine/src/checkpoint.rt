@@ -52,7 +52,7 @@ impl<'t> Model for Checkpoint<'t> {
 /// from 0.
 pub fn begin<'t>(table: &'t Halting, start: u16) -> Checkpoint<'t>
     requires { start < length table.now.grammar.starts }
-    ensures made { result ≡ initial_position table.now start [] }
+    ensures value { result ≡ initial_position table.now start [] }
     ensures branch { HasPosition (new_branch start) result }
 {
     Checkpoint {
@@ -147,9 +147,9 @@ impl<'t> Checkpoint<'t> {
     /// Returns the checkpoint with this token offered; the token stays offered until it is shifted. Fails only if
     /// memory runs out.
     pub fn offer(&self, token: Token) -> Result<Checkpoint<'t>, Memory>
-        requires asking { CanOffer (phase_of self.now) }
+        requires can_offer { CanOffer (phase_of self.now) }
         requires token { token < self.now.table.grammar.tokens }
-        ensures made { IfOk result (λ c. c ≡ offered self.now token) }
+        ensures value { IfOk result (λ c. c ≡ offered self.now token) }
         ensures branch { IfOk result (λ c. (b : Branch) → HasPosition b self.now → HasPosition (with_token b token) c) }
     {
         Ok(Checkpoint {
@@ -175,7 +175,7 @@ impl<'t> Checkpoint<'t> {
     /// The checkpoint after the offered token is shifted to the state `target`.
     fn shift(&self, alloc: Global, target: u32) -> Result<Checkpoint<'t>, ResumeFault>
         requires { next_move self.now ≡ Shifts target }
-        ensures made { IfOk result (λ c. c ≡ resumed self.now) }
+        ensures value { IfOk result (λ c. c ≡ resumed self.now) }
         ensures fits { OnOk result (too_deep (resumed self.now).pairs.trees ≡ false) }
         ensures deep { IfErr result (λ fault. fault ≡ faults.TooDeep → too_deep (resumed self.now).pairs.trees ≡ true) }
     {
@@ -198,8 +198,8 @@ impl<'t> Checkpoint<'t> {
     /// The checkpoint after a reduction of the production.
     fn reduce(&self, alloc: Global, production: u32) -> Result<Checkpoint<'t>, ResumeFault>
         requires next { next_move self.now ≡ Reduces production }
-        requires can { CanReduce self.now production }
-        ensures made { IfOk result (λ c. c ≡ resumed self.now) }
+        requires can_reduce { CanReduce self.now production }
+        ensures value { IfOk result (λ c. c ≡ resumed self.now) }
         ensures fits { OnOk result (too_deep (resumed self.now).pairs.trees ≡ false) }
         ensures deep { IfErr result (λ fault. fault ≡ faults.TooDeep → too_deep (resumed self.now).pairs.trees ≡ true) }
     {
@@ -225,7 +225,7 @@ impl<'t> Checkpoint<'t> {
     /// step would make more than 4,000 pairs of a state and a tree, or a tree higher than 4,000.
     pub fn resume(&self, alloc: Global) -> Result<Checkpoint<'t>, ResumeFault>
         requires { CanResume (phase_of self.now) }
-        ensures made { IfOk result (λ c. c ≡ resumed self.now) }
+        ensures value { IfOk result (λ c. c ≡ resumed self.now) }
         ensures branch { IfOk result (λ c. (b : Branch) → HasPosition b self.now → HasPosition (with_step b) c) }
         ensures fits { OnOk result (too_deep (resumed self.now).pairs.trees ≡ false) }
         ensures deep { IfErr result (λ fault. fault ≡ faults.TooDeep → too_deep (resumed self.now).pairs.trees ≡ true) }

@@ -11,5 +11,4 @@ mod stack;
 pub use checkpoint::{Checkpoint, begin};
 pub use fault::ResumeFault;
 pub use phase::Phase;
-pub use reductions::settle;
 pub use sentence::{TreeOutcome, run_with_trees};

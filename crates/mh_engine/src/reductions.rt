@@ -10,7 +10,7 @@ use std::alloc::Global;
 
 /// Returns the checkpoint after all reductions that come next. Fails with `TooDeep` if one of them would make more than
 /// 4,000 pairs of a state and a tree, or a tree higher than 4,000.
-pub fn settle<'t>(alloc: Global, from: Checkpoint<'t>) -> Result<Checkpoint<'t>, ResumeFault>
+pub(crate) fn settle<'t>(alloc: Global, from: Checkpoint<'t>) -> Result<Checkpoint<'t>, ResumeFault>
     ensures settled { IfOk result (λ c. SettlesTo from.entry c) }
     ensures deep { IfErr result (λ fault. fault ≡ faults.TooDeep → SettlesTooDeep from.entry) }
 {

@@ -105,7 +105,7 @@ fn feed<'t>(
     token: Token,
 ) -> Result<TokenOutcome<'t>, ResumeFault>
     requires empty { at.left ≡ [] }
-    requires calm { at.refused ≡ false }
+    requires not_refused { at.refused ≡ false }
     requires token { token < at.table.grammar.tokens }
     ensures read { IfOk result (λ outcome. (t : TableData) (start : ℕ) (w : List ℕ) → IsBeforeGivenToken t start w place token at.entry → IsTokenOutcome t start w place outcome) }
     ensures deep { IfErr result (λ fault. fault ≡ faults.TooDeep → (t : TableData) (start : ℕ) (w : List ℕ) → IsBeforeGivenToken t start w place token at.entry → IsReachedOutcome t start w outcomes.TooDeep) }
@@ -140,7 +140,7 @@ fn feed<'t>(
 
 /// The checkpoint with the token offered; it replaces the checkpoint `asking`.
 fn offer_to<'t>(asking: Checkpoint<'t>, token: Token) -> Result<Checkpoint<'t>, Memory>
-    requires asking { CanOffer (phase_of asking) }
+    requires can_offer { CanOffer (phase_of asking) }
     requires token { token < asking.table.grammar.tokens }
     ensures { IfOk result (λ c. c ≡ offered asking.entry token) }
 {
@@ -150,7 +150,7 @@ fn offer_to<'t>(asking: Checkpoint<'t>, token: Token) -> Result<Checkpoint<'t>, 
 /// The checkpoint after the next step; it replaces the checkpoint `from`.
 fn resume_from<'t>(alloc: Global, from: Checkpoint<'t>) -> Result<Checkpoint<'t>, ResumeFault>
     requires { CanResume (phase_of from) }
-    ensures made { IfOk result (λ c. c ≡ resumed from.entry) }
+    ensures value { IfOk result (λ c. c ≡ resumed from.entry) }
     ensures fits { OnOk result (too_deep (resumed from.entry).pairs.trees ≡ false) }
     ensures deep { IfErr result (λ fault. fault ≡ faults.TooDeep → too_deep (resumed from.entry).pairs.trees ≡ true) }
 {

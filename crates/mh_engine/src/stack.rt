@@ -54,9 +54,9 @@ impl Model for Stack {
 
     ghost size = { λ v. length v.trees };
 
-    ghost use Rattle.mh_engine.specs.code.BelowIsShorter.{below_is_shorter};
+    ghost use Rattle.mh_engine.specs.code.BelowIsShorter.{depth_within_pairs};
 
-    ghost size_decreases = { λ s h. below_is_shorter s.link };
+    ghost size_decreases = { λ s h. depth_within_pairs s.link };
 }
 
 // Drops the cells that have no other owner in a loop, because a recursion over a long stack would overflow the call

@@ -35,9 +35,9 @@ HasNoFault-push j before t c h front behind x e s f = elim (split_push before t 
 
 pub IsFirstOccurrence-push : (before earlier : List Term) (t x : Term) → IsFirstOccurrence before earlier t → IsFirstOccurrence (before ++ x ∷ []) earlier t
 IsFirstOccurrence-push before earlier t x s = record {
-  front = s.front;
-  behind = s.behind ++ x ∷ [];
-  split = ap (λ l. l ++ x ∷ []) s.split ∙ append_assoc s.front (t ∷ s.behind) (x ∷ []);
+  prefix = s.prefix;
+  suffix = s.suffix ++ x ∷ [];
+  split = ap (λ l. l ++ x ∷ []) s.split ∙ append_assoc s.prefix (t ∷ s.suffix) (x ∷ []);
   instance = s.instance;
   new = s.new;
   others = s.others;
@@ -64,8 +64,8 @@ AreFound-new before fs t a i new = record {
     | inl old ↦ (let l = slice_get_within fs k x old in
         rw (take-append-le k fs (t ∷ []) (omega arith)) (IsFirstOccurrence-push before (take k fs) x t (a.each k x old)))
     | inr last ↦ rw (last.0, last.1, take-append_seam fs (t ∷ [])) (record {
-      front = before;
-      behind = [];
+      prefix = before;
+      suffix = [];
       split = refl;
       instance = i;
       new = new;
@@ -80,13 +80,13 @@ pub found_is_earlier_instance : (before fs : List Term) (t : Term) → AreFound 
 found_is_earlier_instance before fs t a c =
     let at = at_contains fs t c in
     let s = a.each at.0 t at.1 in
-    (rw s.split (Contains-append_right s.front (t ∷ s.behind) t (contains_here t s.behind)), s.instance)
+    (rw s.split (Contains-append_right s.prefix (t ∷ s.suffix) t (contains_here t s.suffix)), s.instance)
 
 -- If the limit is reached, there are at least 20,000 found instances.
 pub max_instances_found : (before fs : List Term) → AreFound before fs → HasMaxInstances before → 20000 ≤ length fs
 max_instances_found before fs a f =
-    let le = length-distinct_in fs f.some f.distinct (λ x c. let w = f.found c.0 x c.1 in a.all x (rw c.2 at w).0 (rw c.2 at w).1) in
-    omega (arith, le, f.full)
+    let le = length-distinct_in fs f.terms f.distinct (λ x c. let w = f.found c.0 x c.1 in a.all x (rw c.2 at w).0 (rw c.2 at w).1) in
+    omega (arith, le, f.count)
 
 -- Lemmas on the term t with the given number in a list of different terms.
 module _ (ts : List Term) (d : AreDistinct ts) (number : ℕ) (t : Term) (here : slice_get ts number ≡ Some t) (numbers : List ℕ) (below : All (λ n. n < length ts) numbers) where
@@ -156,10 +156,10 @@ module _ (ts : List Term) (d : AreDistinct ts) (number : ℕ) (t : Term) (here :
           | inr m ↦ absurd (bad (l, m))
         ]
         | inr l ↦ expansion.IsFault.full fits is_new (record {
-          some = terms_at ts numbers;
+          terms = terms_at ts numbers;
           found = λ k d m. found_is_earlier_instance before (terms_at ts numbers) (get_or (terms_at ts numbers) k d) s.found (contains_at (terms_at ts numbers) k (get_or (terms_at ts numbers) k d) (slice_get-get_or (terms_at ts numbers) k d m));
           distinct = s.found.distinct;
-          full = omega (arith, length-map numbers (term_at ts));
+          count = omega (arith, length-map numbers (term_at ts));
         })
       ]
 

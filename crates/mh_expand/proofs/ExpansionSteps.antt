@@ -32,7 +32,7 @@ use Rattle.mh_expand.proofs.IsExpanding.{AreNumbersOf-longer}
 pub record ProducersSoFar (j : Joined) (formals : List ℕ) (ts us : List Term) (old found : List ℕ) (producers : List Applied) (rhs : List Part) : Type 0 where
   pub few : length found ≤ 20000
   pub grows : IsExtendedBy ts us
-  pub through : (before : List Term) (t : Term) → arguments t ≡ terms_at ts formals → IsInstanceSearch j before ts old → FindsProducers j before ts us old found t producers rhs
+  pub finds : (before : List Term) (t : Term) → arguments t ≡ terms_at ts formals → IsInstanceSearch j before ts old → FindsProducers j before ts us old found t producers rhs
 
 -- The number of a producer's term, after terms have been appended.
 pub record IsNumberOfProducer (formals : List ℕ) (us vs : List Term) (a : Applied) (number : ℕ) : Type 0 where
@@ -41,7 +41,7 @@ pub record IsNumberOfProducer (formals : List ℕ) (us vs : List Term) (a : Appl
 
 module _ (j : Joined) (formals : List ℕ) (ts : List Term) (old : List ℕ) where
   pub producers_none : length old ≤ 20000 → ProducersSoFar j formals ts ts old old [] []
-  producers_none few = record { few = few; grows = IsExtendedBy-refl ts; through = λ before t e s. FindsProducers-none j before ts old t s }
+  producers_none few = record { few = few; grows = IsExtendedBy-refl ts; finds = λ before t e s. FindsProducers-none j before ts old t s }
 
   module _ (below : All (λ n. n < length ts) formals) (us vs : List Term) (found : List ℕ) (items : List Applied) (i : ℕ) (a : Applied) (rhs : List Part) (number : ℕ) (so_far : ProducersSoFar j formals ts us old found (take i items) rhs) (inside : i < length items) (item : a ≡ get_or items i a) (producer : IsNumberOfProducer formals us vs a number) where
     term_of_number : (t : Term) → arguments t ≡ terms_at ts formals → term_at vs number ≡ replaced_term_of (arguments t) a
@@ -51,19 +51,19 @@ module _ (j : Joined) (formals : List ℕ) (ts : List Term) (old : List ℕ) whe
     producers_more new p few found_so = record {
       few = few;
       grows = IsExtendedBy-trans ts us vs so_far.grows producer.grows;
-      through = λ before t e s.
-          let w = so_far.through before t e s in
+      finds = λ before t e s.
+          let w = so_far.finds before t e s in
           let here = before ++ map (replaced_term_of (arguments t)) (take i items) in
-          let f = rw (term_of_number t e) at (found_so here (IsInstanceSearch-grows j here us vs found w.went.search producer.grows)) in
+          let f = rw (term_of_number t e) at (found_so here (IsInstanceSearch-grows j here us vs found w.terms_found.search producer.grows)) in
           rw (take_step items i a inside item) (FindsProducers-step j before ts us vs old found new t (take i items) rhs a p w producer.grows f);
     }
 
     pub producers_fail : (fault : ExpandFault) → ((before : List Term) → IsInstanceSearch j before vs found → IsMemoryOr (IsFault j before (term_at vs number)) fault) → (before : List Term) (t : Term) → arguments t ≡ terms_at ts formals → IsInstanceSearch j before ts old → IsMemoryOr (IsFirstFaultIn j (before ++ map (replaced_term_of (arguments t)) items)) fault
     producers_fail fault failed before t e s =
-        let w = so_far.through before t e s in
+        let w = so_far.finds before t e s in
         let side = map (replaced_term_of (arguments t)) (take i items) in
-        let f = rw (term_of_number t e) at (failed (before ++ side) (IsInstanceSearch-grows j (before ++ side) us vs found w.went.search producer.grows)) in
-        rw (producer_terms_split (arguments t) items i a inside item) (IsFirstFaultIn-here j before side ts us old found (replaced_term_of (arguments t) a) (map (replaced_term_of (arguments t)) (drop (suc i) items)) fault w.went f)
+        let f = rw (term_of_number t e) at (failed (before ++ side) (IsInstanceSearch-grows j (before ++ side) us vs found w.terms_found.search producer.grows)) in
+        rw (producer_terms_split (arguments t) items i a inside item) (IsFirstFaultIn-here j before side ts us old found (replaced_term_of (arguments t) a) (map (replaced_term_of (arguments t)) (drop (suc i) items)) fault w.terms_found f)
 
 -- ALTERNATIVES
 
@@ -72,11 +72,11 @@ module _ (j : Joined) (formals : List ℕ) (ts : List Term) (old : List ℕ) whe
 pub record AlternativesSoFar (j : Joined) (formals : List ℕ) (ts us : List Term) (old found : List ℕ) (alternatives : List JoinedAlternative) (productions : List InstanceProduction) : Type 0 where
   pub few : length found ≤ 20000
   pub grows : IsExtendedBy ts us
-  pub through : (before : List Term) (t : Term) → arguments t ≡ terms_at ts formals → IsInstanceSearch j before ts old → FindsAlternatives j before ts us old found t alternatives productions
+  pub finds : (before : List Term) (t : Term) → arguments t ≡ terms_at ts formals → IsInstanceSearch j before ts old → FindsAlternatives j before ts us old found t alternatives productions
 
 module _ (j : Joined) (formals : List ℕ) (ts : List Term) (old : List ℕ) where
   pub alternatives_none : length old ≤ 20000 → AlternativesSoFar j formals ts ts old old [] []
-  alternatives_none few = record { few = few; grows = IsExtendedBy-refl ts; through = λ before t e s. FindsAlternatives-none j before ts old t s }
+  alternatives_none few = record { few = few; grows = IsExtendedBy-refl ts; finds = λ before t e s. FindsAlternatives-none j before ts old t s }
 
   module _ (below : All (λ n. n < length ts) formals) (us : List Term) (found : List ℕ) (items : List JoinedAlternative) (i : ℕ) (a : JoinedAlternative) (productions : List InstanceProduction) (so_far : AlternativesSoFar j formals ts us old found (take i items) productions) (inside : i < length items) (item : a ≡ get_or items i a) where
     args_kept : (t : Term) → arguments t ≡ terms_at ts formals → arguments t ≡ terms_at us formals
@@ -86,16 +86,16 @@ module _ (j : Joined) (formals : List ℕ) (ts : List Term) (old : List ℕ) whe
     alternatives_more vs new p grows few went = record {
       few = few;
       grows = IsExtendedBy-trans ts us vs so_far.grows grows;
-      through = λ before t e s.
-          let w = so_far.through before t e s in
-          rw (take_step items i a inside item) (FindsAlternatives-step j before ts us vs old found new t (take i items) productions a p w (went (before ++ flat_map (right_side t) (take i items)) t (args_kept t e) w.went.search));
+      finds = λ before t e s.
+          let w = so_far.finds before t e s in
+          rw (take_step items i a inside item) (FindsAlternatives-step j before ts us vs old found new t (take i items) productions a p w (went (before ++ flat_map (right_side t) (take i items)) t (args_kept t e) w.terms_found.search));
     }
 
     pub alternatives_fail : (fault : ExpandFault) → ((before : List Term) (x : Term) → arguments x ≡ terms_at us formals → IsInstanceSearch j before us found → IsMemoryOr (IsFirstFaultIn j (before ++ right_side x a)) fault) → (before : List Term) (t : Term) → arguments t ≡ terms_at ts formals → IsInstanceSearch j before ts old → IsMemoryOr (IsFirstFaultIn j (before ++ flat_map (right_side t) items)) fault
     alternatives_fail fault failed before t e s =
         let seen = flat_map (right_side t) (take i items) in
         let rest = flat_map (right_side t) (drop (suc i) items) in
-        let f = IsFirstFaultIn-append j ((before ++ seen) ++ right_side t a) rest fault (failed (before ++ seen) t (args_kept t e) (so_far.through before t e s).went.search) in
+        let f = IsFirstFaultIn-append j ((before ++ seen) ++ right_side t a) rest fault (failed (before ++ seen) t (args_kept t e) (so_far.finds before t e s).terms_found.search) in
         rw (ap (λ l. before ++ l) (right_sides_split t items i a inside item) ∙ append_regroup before seen (right_side t a) rest) f
 
 -- START SYMBOLS
@@ -103,7 +103,7 @@ module _ (j : Joined) (formals : List ℕ) (ts : List Term) (old : List ℕ) whe
 -- The search has found the terms of these start symbols, and their numbers.
 pub record StartsSoFar (j : Joined) (ts us : List Term) (old found rules starts : List ℕ) : Type 0 where
   pub few : length found ≤ 20000
-  pub through : IsInstanceSearch j [] ts old → FindsTerms j [] (map start_term rules) ts us old found × AreNumbersOf (terms_at us found) starts (map start_term rules)
+  pub finds : IsInstanceSearch j [] ts old → FindsTerms j [] (map start_term rules) ts us old found × AreNumbersOf (terms_at us found) starts (map start_term rules)
 
 -- The number of a start symbol is in range, and the head of its term is its rule.
 pub start_number_in_range : (us vs : List Term) (n : Application) (number : ℕ) → Placed us vs (node_term us n) number → number < length vs
@@ -114,7 +114,7 @@ start_number_head us vs n number placed = ap head_of (term_at-slice_get vs numbe
 
 module _ (j : Joined) (ts : List Term) (old : List ℕ) where
   pub starts_none : length old ≤ 20000 → StartsSoFar j ts ts old old [] []
-  starts_none few = record { few = few; through = λ s. (FindsTerms-none j [] ts old s, tt) }
+  starts_none few = record { few = few; finds = λ s. (FindsTerms-none j [] ts old s, tt) }
 
   module _ (us vs : List Term) (found items : List ℕ) (i : ℕ) (starts args : List ℕ) (number : ℕ) (so_far : StartsSoFar j ts us old found (take i items) starts) (inside : i < length items) (none : args ≡ []) (placed : Placed us vs (node_term us (record { head = Rule (get_or items i 0); args = args })) number) where
     abbrev rule : ℕ
@@ -132,8 +132,8 @@ module _ (j : Joined) (ts : List Term) (old : List ℕ) where
     pub starts_more : (new : List ℕ) (p : ℕ) → length new ≤ 20000 → ((before : List Term) → IsInstanceSearch j before vs found → FindsTerm j before vs (term_at vs number) found new (Instance p)) → StartsSoFar j ts vs old new (take (i + 1) items) (starts ++ p ∷ [])
     starts_more new p few found_so = record {
       few = few;
-      through = λ s.
-          let w = so_far.through s in
+      finds = λ s.
+          let w = so_far.finds s in
           let f = rw its_start at (found_so seen (IsInstanceSearch-grows j seen us vs found w.0.search grows)) in
           let list : map start_term (take (i + 1) items) ≡ seen ++ start_term rule ∷ [] = ap (map start_term) (take_step items i rule inside (get_or_own_default items i 0 inside)) ∙ map-append start_term (take i items) (rule ∷ []) in
           let longer = IsPrefixOf-found us vs found new w.0.search.below grows f.grows in
@@ -145,7 +145,7 @@ module _ (j : Joined) (ts : List Term) (old : List ℕ) where
 
     pub starts_fail : (fault : ExpandFault) → ((before : List Term) → IsInstanceSearch j before vs found → IsMemoryOr (IsFault j before (term_at vs number)) fault) → IsInstanceSearch j [] ts old → IsMemoryOr (IsFirstFaultIn j (map start_term items)) fault
     starts_fail fault failed s =
-        let w = so_far.through s in
+        let w = so_far.finds s in
         let f = rw its_start at (failed seen (IsInstanceSearch-grows j seen us vs found w.0.search grows)) in
         let whole : map start_term items ≡ seen ++ start_term rule ∷ map start_term (drop (suc i) items) = ap (map start_term) (split_at items i rule inside (get_or_own_default items i 0 inside)) ∙ map-append start_term (take i items) (rule ∷ drop (suc i) items) in
         rw whole (IsFirstFaultIn-here j [] seen ts us old found (start_term rule) (map start_term (drop (suc i) items)) fault w.0 f)

@@ -54,7 +54,8 @@ FindsTerms-none j before ts ns s = record { terms = IsExtendedBy-refl ts; number
 pub appended_trans : (a b c : List ℕ) → (more : List ℕ) × (b ≡ a ++ more) → (more : List ℕ) × (c ≡ b ++ more) → (more : List ℕ) × (c ≡ a ++ more)
 appended_trans a b c p q = (p.0 ++ q.0, q.1 ∙ ap (λ l. l ++ q.0) p.1 ∙ append_assoc a p.0 q.0)
 
--- Two consecutive lists of found terms without faults are one such list.
+-- If the search finds the terms of two consecutive lists without a fault, it finds those of the lists appended without
+-- a fault.
 pub FindsTerms-append : (j : Joined) (before seen rest ts us vs : List Term) (old mid new : List ℕ) → FindsTerms j before seen ts us old mid → FindsTerms j (before ++ seen) rest us vs mid new → FindsTerms j before (seen ++ rest) ts vs old new
 FindsTerms-append j before seen rest ts us vs old mid new w v = record {
   terms = IsExtendedBy-trans ts us vs w.terms v.terms;
@@ -70,10 +71,10 @@ pub IsFirstFaultIn-here : (j : Joined) (before seen ts us : List Term) (old new 
 IsFirstFaultIn-here j before seen ts us old new t rest e w c =
     IsMemoryOr-weaker (IsFault j (before ++ seen) t) (IsFirstFaultIn j (before ++ (seen ++ t ∷ rest))) (λ x f. record {
       before = before ++ seen;
-      here = t;
+      term = t;
       after = rest;
       split = sym (append_assoc before seen (t ∷ rest));
-      clear = w.search.clear;
+      no_fault = w.search.clear;
       fault = f;
     }) e c
 
@@ -81,45 +82,45 @@ pub IsFirstFaultIn-append : (j : Joined) (xs ys : List Term) (e : ExpandFault) �
 IsFirstFaultIn-append j xs ys e c =
     IsMemoryOr-weaker (IsFirstFaultIn j xs) (IsFirstFaultIn j (xs ++ ys)) (λ x f. record {
       before = f.before;
-      here = f.here;
+      term = f.term;
       after = f.after ++ ys;
-      split = ap (λ l. l ++ ys) f.split ∙ append_assoc f.before (f.here ∷ f.after) ys;
-      clear = f.clear;
+      split = ap (λ l. l ++ ys) f.split ∙ append_assoc f.before (f.term ∷ f.after) ys;
+      no_fault = f.no_fault;
       fault = f.fault;
     }) e c
 
 -- The search has found the terms of these producers, and the parts of the right side are those of the terms.
 pub record FindsProducers (j : Joined) (before ts us : List Term) (old new : List ℕ) (t : Term) (producers : List Applied) (rhs : List Part) : Type 0 where
-  pub went : FindsTerms j before (map (replaced_term_of (arguments t)) producers) ts us old new
+  pub terms_found : FindsTerms j before (map (replaced_term_of (arguments t)) producers) ts us old new
   pub parts : AllZip (IsPart (terms_at us new)) (map (replaced_term_of (arguments t)) producers) rhs
 
 pub FindsProducers-none : (j : Joined) (before ts : List Term) (ns : List ℕ) (t : Term) → IsInstanceSearch j before ts ns → FindsProducers j before ts ts ns ns t [] []
-FindsProducers-none j before ts ns t s = record { went = FindsTerms-none j before ts ns s; parts = tt }
+FindsProducers-none j before ts ns t s = record { terms_found = FindsTerms-none j before ts ns s; parts = tt }
 
 pub FindsProducers-step : (j : Joined) (before ts us vs : List Term) (old mid new : List ℕ) (t : Term) (producers : List Applied) (rhs : List Part) (a : Applied) (p : Part) → FindsProducers j before ts us old mid t producers rhs → IsExtendedBy us vs → FindsTerm j (before ++ map (replaced_term_of (arguments t)) producers) vs (replaced_term_of (arguments t) a) mid new p → FindsProducers j before ts vs old new t (producers ++ a ∷ []) (rhs ++ p ∷ [])
 FindsProducers-step j before ts us vs old mid new t producers rhs a p w g f =
     let side = map (replaced_term_of (arguments t)) producers in
     let one = FindsTerms-one j (before ++ side) us vs (replaced_term_of (arguments t) a) mid new p g f in
     let list : map (replaced_term_of (arguments t)) (producers ++ a ∷ []) ≡ side ++ replaced_term_of (arguments t) a ∷ [] = map-append (replaced_term_of (arguments t)) producers (a ∷ []) in
-    let longer = IsPrefixOf-found us vs mid new w.went.search.below g f.grows in
+    let longer = IsPrefixOf-found us vs mid new w.terms_found.search.below g f.grows in
     record {
-      went = rw list (FindsTerms-append j before side (replaced_term_of (arguments t) a ∷ []) ts us vs old mid new w.went one);
+      terms_found = rw list (FindsTerms-append j before side (replaced_term_of (arguments t) a ∷ []) ts us vs old mid new w.terms_found one);
       parts = rw list (zip_push (IsPart (terms_at vs new)) side rhs (replaced_term_of (arguments t) a) p (zip_weaker (IsPart (terms_at us mid)) (IsPart (terms_at vs new)) (IsPart-kept (terms_at us mid) (terms_at vs new) longer) side rhs w.parts) f.part);
     }
 
 -- No terms are found for no alternatives.
 pub FindsAlternatives-none : (j : Joined) (before ts : List Term) (ns : List ℕ) (t : Term) → IsInstanceSearch j before ts ns → FindsAlternatives j before ts ts ns ns t [] []
-FindsAlternatives-none j before ts ns t s = record { went = FindsTerms-none j before ts ns s; made = tt }
+FindsAlternatives-none j before ts ns t s = record { terms_found = FindsTerms-none j before ts ns s; are_productions = tt }
 
 pub right_sides-push : (t : Term) (alternatives : List JoinedAlternative) (a : JoinedAlternative) → flat_map (right_side t) (alternatives ++ a ∷ []) ≡ flat_map (right_side t) alternatives ++ right_side t a
 right_sides-push t alternatives a = flat_map-append (right_side t) alternatives (a ∷ []) ∙ ap (λ l. flat_map (right_side t) alternatives ++ l) (append-nil (right_side t a))
 
 pub FindsAlternatives-step : (j : Joined) (before ts us vs : List Term) (old mid new : List ℕ) (t : Term) (alternatives : List JoinedAlternative) (productions : List InstanceProduction) (a : JoinedAlternative) (p : InstanceProduction) → FindsAlternatives j before ts us old mid t alternatives productions → FindsAlternative j (before ++ flat_map (right_side t) alternatives) us vs mid new t a p → FindsAlternatives j before ts vs old new t (alternatives ++ a ∷ []) (productions ++ p ∷ [])
 FindsAlternatives-step j before ts us vs old mid new t alternatives productions a p w v =
-    let longer = IsPrefixOf-found us vs mid new w.went.search.below v.went.terms v.went.numbers in
+    let longer = IsPrefixOf-found us vs mid new w.terms_found.search.below v.terms_found.terms v.terms_found.numbers in
     record {
-      went = rw (right_sides-push t alternatives a) (FindsTerms-append j before (flat_map (right_side t) alternatives) (right_side t a) ts us vs old mid new w.went v.went);
-      made = zip_push (IsProduction (terms_at vs new) t) alternatives productions a p (zip_weaker (IsProduction (terms_at us mid) t) (IsProduction (terms_at vs new) t) (IsProduction-kept (terms_at us mid) (terms_at vs new) longer t) alternatives productions w.made) v.made;
+      terms_found = rw (right_sides-push t alternatives a) (FindsTerms-append j before (flat_map (right_side t) alternatives) (right_side t a) ts us vs old mid new w.terms_found v.terms_found);
+      are_productions = zip_push (IsProduction (terms_at vs new) t) alternatives productions a p (zip_weaker (IsProduction (terms_at us mid) t) (IsProduction (terms_at vs new) t) (IsProduction-kept (terms_at us mid) (terms_at vs new) longer t) alternatives productions w.are_productions) v.is_production;
     }
 
 pub producer_terms_split : (fs : List Term) (items : List Applied) (i : ℕ) (a : Applied) → i < length items → a ≡ get_or items i a → map (replaced_term_of fs) items ≡ map (replaced_term_of fs) (take i items) ++ replaced_term_of fs a ∷ map (replaced_term_of fs) (drop (suc i) items)

@@ -90,7 +90,7 @@ module _ (j : Joined) (e : Expanded) (w : IsExpanded j e) (ready : IsJoinedReady
       let l = slice_get_within (found_terms j w.terms) at.0 t at.1 in
       elim (right_arity_or_not j t) [
         | inl f ↦ f
-        | inr f ↦ absurd (w.clear (take at.0 (found_terms j w.terms)) (drop (suc at.0) (found_terms j w.terms)) t (Arity (text j t)) (split_at (found_terms j w.terms) at.0 t l (sym (get_or_from_slice_get (found_terms j w.terms) at.0 t t at.1))) (expansion.IsFault.count f))
+        | inr f ↦ absurd (w.no_fault (take at.0 (found_terms j w.terms)) (drop (suc at.0) (found_terms j w.terms)) t (Arity (text j t)) (split_at (found_terms j w.terms) at.0 t l (sym (get_or_from_slice_get (found_terms j w.terms) at.0 t t at.1))) (expansion.IsFault.count f))
       ]
 
   reached_fits : (t : Term) → IsReached j t → HasRightArity j t

@@ -44,12 +44,12 @@ right_arity_or_not j t = takes_or j (head_of t) (length (arguments t))
 pub IsExpandable-found : (j : Joined) (before ts : List Term) → HasNoFault j before → AreFound before ts → (k : ℕ) (t : Term) → slice_get ts k ≡ Some t → IsExpandable j t
 IsExpandable-found j before ts clear found k t e =
     let s = found.each k t e in
-    let fits : HasRightArity j t = elim (right_arity_or_not j t) [ inl f ↦ f | inr f ↦ absurd (clear s.front s.behind t (expansion_arity j t) s.split (expansion.IsFault.count f)) ] in
+    let fits : HasRightArity j t = elim (right_arity_or_not j t) [ inl f ↦ f | inr f ↦ absurd (clear s.prefix s.suffix t (expansion_arity j t) s.split (expansion.IsFault.count f)) ] in
     record {
       instance = s.instance;
-      fits = fits;
-      short = elim (cases_lt 1000 (length (text j t))) [
-        | inl l ↦ absurd (clear s.front s.behind t (expansion_long j t) s.split (expansion.IsFault.long fits (record { instance = s.instance; new = λ c. s.new (s.others t c s.instance) }) l))
+      right_arity = fits;
+      short_name = elim (cases_lt 1000 (length (text j t))) [
+        | inl l ↦ absurd (clear s.prefix s.suffix t (expansion_long j t) s.split (expansion.IsFault.long fits (record { instance = s.instance; new = λ c. s.new (s.others t c s.instance) }) l))
         | inr l ↦ l
       ];
     }
@@ -101,10 +101,10 @@ pub IsExpanding-start : (j : Joined) (ts us : List Term) (numbers starts : List 
 IsExpanding-start j ts us numbers starts rank distinct few w r = record {
   few = few;
   within = omega arith;
-  search = rw (found_terms-none j) w.went.search;
+  search = rw (found_terms-none j) w.terms_found.search;
   order = expansion.IsFindingOrder.none;
   each = tt;
-  ranks = AreRanks-grows j.on_error ts us rank distinct w.went.terms r;
+  ranks = AreRanks-grows j.on_error ts us rank distinct w.terms_found.terms r;
 }
 
 IsInstanceOf-kept : (j : Joined) (xs ys : List Term) → IsPrefixOf xs ys → (t : Term) (i : Instance) → IsInstanceOf j xs t i → IsInstanceOf j ys t i
@@ -134,12 +134,12 @@ module _ (j : Joined) (ts : List Term) (numbers : List ℕ) (instances : List In
     first_next : IsFindingOrder j (take (length instances) (terms_at ts numbers) ++ next ∷ [])
     first_next =
         let s = w.search.found.each (length instances) next next_here in
-        expansion.IsFindingOrder.more s.front s.behind w.order s.split s.instance s.new s.others
+        expansion.IsFindingOrder.more s.prefix s.suffix w.order s.split s.instance s.new s.others
 
     pub fault_next : (e : ExpandFault) → IsMemoryOr (IsFirstFaultIn j (found_terms j (take (length instances) (terms_at ts numbers)) ++ producers_of j (term_at ts (get_or numbers (length instances) 0)))) e → IsMemoryOr (IsFirstFault j) e
     unfolding next
     fault_next e c = IsMemoryOr-weaker (IsFirstFaultIn j (found_terms j (take (length instances) (terms_at ts numbers)) ++ producers_of j next)) (IsFirstFault j) (λ x f. record {
-      gone = take (length instances) (terms_at ts numbers) ++ next ∷ [];
+      found = take (length instances) (terms_at ts numbers) ++ next ∷ [];
       order = first_next;
       fails = rw (found_terms-push j (take (length instances) (terms_at ts numbers)) next) f;
     }) e c
@@ -150,7 +150,7 @@ module _ (j : Joined) (ts : List Term) (numbers : List ℕ) (instances : List In
         let old_terms = terms_at ts numbers in
         let new_terms = terms_at us new in
         let n = length instances in
-        let longer = IsPrefixOf-found ts us numbers new w.search.below v.went.terms v.went.numbers in
+        let longer = IsPrefixOf-found ts us numbers new w.search.below v.terms_found.terms v.terms_found.numbers in
         let len : length old_terms ≡ length numbers = length-map numbers (term_at ts) in
         let count : length (instances ++ i ∷ []) ≡ n + 1 = length_push instances i in
         let front : take n new_terms ≡ take n old_terms = rw longer.longer (take-append-le n old_terms longer.more (omega arith)) in
@@ -161,10 +161,10 @@ module _ (j : Joined) (ts : List Term) (numbers : List ℕ) (instances : List In
         record {
           few = few;
           within = omega (arith, count, length-map new (term_at us));
-          search = rw (all, found_terms-push j (take n old_terms) next) v.went.search;
+          search = rw (all, found_terms-push j (take n old_terms) next) v.terms_found.search;
           order = rw all first_next;
-          each = rw all (zip_push (IsInstanceOf j new_terms) (take n old_terms) instances next i (zip_weaker (IsInstanceOf j old_terms) (IsInstanceOf j new_terms) (IsInstanceOf-kept j old_terms new_terms longer) (take n old_terms) instances w.each) v.made);
-          ranks = AreRanks-grows j.on_error ts us rank distinct v.went.terms w.ranks;
+          each = rw all (zip_push (IsInstanceOf j new_terms) (take n old_terms) instances next i (zip_weaker (IsInstanceOf j old_terms) (IsInstanceOf j new_terms) (IsInstanceOf-kept j old_terms new_terms longer) (take n old_terms) instances w.each) v.is_instance);
+          ranks = AreRanks-grows j.on_error ts us rank distinct v.terms_found.terms w.ranks;
         }
 
   -- When all instances are expanded, the result is the expansion.
@@ -180,12 +180,12 @@ module _ (j : Joined) (ts : List Term) (numbers : List ℕ) (instances : List In
         order = order;
         starts = named;
         each = rw instances_are (rw all at w.each);
-        clear = search.clear;
+        no_fault = search.clear;
       }
 
 -- The first fault of the start terms is the first fault of the expansion.
 pub IsFirstFault-start : (j : Joined) (e : ExpandFault) → IsMemoryOr (IsFirstFaultIn j (start_terms j)) e → IsMemoryOr (IsFirstFault j) e
-IsFirstFault-start j e c = IsMemoryOr-weaker (IsFirstFaultIn j (start_terms j)) (IsFirstFault j) (λ x f. record { gone = []; order = expansion.IsFindingOrder.none; fails = rw (found_terms-none j) f }) e c
+IsFirstFault-start j e c = IsMemoryOr-weaker (IsFirstFaultIn j (start_terms j)) (IsFirstFault j) (λ x f. record { found = []; order = expansion.IsFindingOrder.none; fails = rw (found_terms-none j) f }) e c
 
 pub IsPrefixOf-refl : (xs : List Term) → IsPrefixOf xs xs
 IsPrefixOf-refl xs = record { more = []; longer = sym (append-nil xs) }

@@ -44,7 +44,7 @@ module _ (j : Joined) (us : List Term) (t : Term) (before after : List Term) (sp
             )
       ]
 
--- A prefix of the order of finding without a fault has at most 20,000 instances.
+-- If the terms found, in their order, have no fault up to some term, these terms are at most 20,000.
 few_in_finding_order : (j : Joined) (ts : List Term) → IsFindingOrder j ts → HasNoFault j (found_terms j ts) → length ts ≤ 20000
 few_in_finding_order j [] expansion.IsFindingOrder.none clear = omega arith
 few_in_finding_order j ts (expansion.IsFindingOrder.more {ts = us} {t} before after a split i new others) clear =
@@ -59,19 +59,19 @@ few_in_finding_order j ts (expansion.IsFindingOrder.more {ts = us} {t} before af
           clear_before before after t (Expansion (head_name j (head_of t))) split (expansion.IsFault.full fits
           (record { instance = i; new = λ c. new (others t c i) })
           (record {
-            some = us;
+            terms = us;
             found = λ k d l.
                 let u = get_or us k d in
                 let c = contains_at us k u (slice_get-get_or us k d l) in
                 (earlier_instances_before j us t before after split i new us a [] (sym (append-nil us)) u c, IsReached-instance j u (finding_order_reached j us a u c));
             distinct = finding_order_distinct j us a;
-            full = full;
+            count = full;
           }))
           )
     ]
 
 pub few_instances : (j : Joined) (e : Expanded) → IsExpanded j e → length e.instances ≤ 20000
 few_instances j e w =
-    let few = few_in_finding_order j w.terms w.order w.clear in
+    let few = few_in_finding_order j w.terms w.order w.no_fault in
     let many = zip_length (IsInstanceOf j w.terms) w.terms e.instances w.each in
     omega arith

@@ -31,7 +31,7 @@ replaced_term_of fs a = replaced fs (term_of a)
 pub record IsReplacing (old new fs : List Term) (n : Application) (rest : List Applied) (t : Term) : Type 0 where
   pub grows : IsExtendedBy old new
   pub below : All (λ a. a < length new) n.args
-  pub means : apply_all (node_term new n) (map (replaced_term_of fs) rest) ≡ t
+  pub term_is : apply_all (node_term new n) (map (replaced_term_of fs) rest) ≡ t
 
 map_map : {X Y Z : Type 0} (f : Y → Z) (g : X → Y) (xs : List X) → map f (map g xs) ≡ map (λ x. f (g x)) xs
 map_map f g [] = refl
@@ -44,9 +44,9 @@ pub IsReplacing-start : (ts fs : List Term) (n : Application) (a : Applied) → 
 IsReplacing-start ts fs n a w = record {
   grows = IsExtendedBy-refl ts;
   below = w.below;
-  means =
+  term_is =
       let whole = ap (replaced fs) (term_of-out a) ∙ replaced-apply_all fs (Atom (out-Applied a).head) (map term_of (out-Applied a).args) in
-      ap (λ t. apply_all t (map (replaced_term_of fs) (out-Applied a).args)) w.means ∙ ap (apply_all (replaced_head fs (out-Applied a).head)) (sym (map_map (replaced fs) term_of (out-Applied a).args)) ∙ sym whole;
+      ap (λ t. apply_all t (map (replaced_term_of fs) (out-Applied a).args)) w.term_is ∙ ap (apply_all (replaced_head fs (out-Applied a).head)) (sym (map_map (replaced fs) term_of (out-Applied a).args)) ∙ sym whole;
 }
 
 -- The invariant after one more actual.
@@ -54,16 +54,16 @@ pub IsReplacing-step : (old mid new fs : List Term) (n : Application) (a : Appli
 IsReplacing-step old mid new fs n a rest t number w g e = record {
   grows = IsExtendedBy-trans old mid new w.grows g;
   below = All-push (λ x. x < length new) n.args number (λ k d l. omega (arith, w.below k d l, ap length g.1, length-append mid g.0)) (slice_get_within new number (replaced_term_of fs a) e);
-  means =
+  term_is =
       let kept = node_term-kept mid new n g w.below in
       let push : node_term new (record { head = n.head; args = n.args ++ number ∷ [] }) ≡ Apply (node_term mid n) (replaced_term_of fs a) =
       ap (apply_all (Atom n.head)) (map-append (term_at new) n.args (number ∷ []))
       ∙ apply_all-push (Atom n.head) (terms_at new n.args) (term_at new number)
       ∙ ap (λ f. Apply f (term_at new number)) kept
       ∙ ap (Apply (node_term mid n)) (term_at-slice_get new number (replaced_term_of fs a) e) in
-      ap (λ f. apply_all f (map (replaced_term_of fs) rest)) push ∙ w.means;
+      ap (λ f. apply_all f (map (replaced_term_of fs) rest)) push ∙ w.term_is;
 }
 
 -- The invariant at the end, when all actuals are replaced.
 pub IsReplacing-done : (old mid new fs : List Term) (n : Application) (t : Term) (number : ℕ) → IsReplacing old mid fs n [] t → Placed mid new (node_term mid n) number → IsExtendedBy old new × (slice_get new number ≡ Some t)
-IsReplacing-done old mid new fs n t number w p = (IsExtendedBy-trans old mid new w.grows (IsExtendedBy-placed mid new (node_term mid n) number p), p.at ∙ ap Some w.means)
+IsReplacing-done old mid new fs n t number w p = (IsExtendedBy-trans old mid new w.grows (IsExtendedBy-placed mid new (node_term mid n) number p), p.at ∙ ap Some w.term_is)

@@ -95,7 +95,7 @@ module _ (ns : List Application) (w : AreNodes ns) where
 
   -- A number below m is the only number of its term.
   record AreUniqueNumbers (m : ℕ) : Type 0 where
-    one : (i j : ℕ) → i < m → i < length ns → j < length ns → term_at (terms_of ns) i ≡ term_at (terms_of ns) j → i ≡ j
+    unique : (i j : ℕ) → i < m → i < length ns → j < length ns → term_at (terms_of ns) i ≡ term_at (terms_of ns) j → i ≡ j
 
   one_numbers : (m : ℕ) → AreUniqueNumbers m → (a b : List ℕ) → AllByRecursion (λ n. n < m) a → AllByRecursion (λ n. n < length ns) a → AllByRecursion (λ n. n < length ns) b → terms_at (terms_of ns) a ≡ terms_at (terms_of ns) b → a ≡ b
   one_numbers m h [] [] p r q e = refl
@@ -104,7 +104,7 @@ module _ (ns : List Application) (w : AreNodes ns) where
   one_numbers m h (x ∷ a) (y ∷ b) p r q e =
       let head : term_at (terms_of ns) x ≡ term_at (terms_of ns) y = cc in
       let rest : terms_at (terms_of ns) a ≡ terms_at (terms_of ns) b = cc in
-      let first = h.one x y p.0 r.0 q.0 head in
+      let first = h.unique x y p.0 r.0 q.0 head in
       let others = one_numbers m h a b p.1 r.1 q.1 rest in
       λ i. first i ∷ others i
 
@@ -112,9 +112,9 @@ module _ (ns : List Application) (w : AreNodes ns) where
   all_below i n xs l a = recursion_from_All (λ x. x < n) xs (λ k d m. omega (arith, a k d m))
 
   are_one : (m : ℕ) → AreUniqueNumbers m
-  are_one zero = record { one = λ i j l. absurd (omega arith) }
+  are_one zero = record { unique = λ i j l. absurd (omega arith) }
   are_one (suc m) = record {
-    one = λ i j l inside k e.
+    unique = λ i j l inside k e.
         let n = get_within ns i inside in
         let o = get_within ns j k in
         let same : node_term (terms_of ns) n.0 ≡ node_term (terms_of ns) o.0 = sym (meaning i n.0 n.1) ∙ e ∙ meaning j o.0 o.1 in
@@ -131,7 +131,7 @@ module _ (ns : List Application) (w : AreNodes ns) where
         let len = terms_of-length ns in
         let l : i < length ns = omega (arith, slice_get_within (terms_of ns) i t e) in
         let k : j < length ns = omega (arith, slice_get_within (terms_of ns) j t f) in
-        (are_one (length ns)).one i j l l k (term_at-slice_get (terms_of ns) i t e ∙ sym (term_at-slice_get (terms_of ns) j t f));
+        (are_one (length ns)).unique i j l l k (term_at-slice_get (terms_of ns) i t e ∙ sym (term_at-slice_get (terms_of ns) j t f));
   }
 
 -- Inserting a node keeps the nodes right.

@@ -97,10 +97,10 @@ not_after j e w ys b (u ∷ m) q = absurd (no_more j e w u (front_next j ys b w.
 
 -- If all instances are found without a fault, there is no first fault.
 pub expanded_has_no_fault : (j : Joined) (e : Expanded) → IsExpanded j e → (x : ExpandFault) → IsFirstFault j x → ⊥
-expanded_has_no_fault j e w x f = elim (fronts j f.gone f.order w.terms w.order) [
-  | inl l ↦ w.clear f.fails.before (f.fails.after ++ flat_map (producers_of j) l.0) f.fails.here x
-      (ap (found_terms j) l.1 ∙ found_terms-append j f.gone l.0 ∙ ap (λ v. v ++ flat_map (producers_of j) l.0) f.fails.split ∙ append_assoc f.fails.before (f.fails.here ∷ f.fails.after) (flat_map (producers_of j) l.0)) f.fails.fault
-  | inr r ↦ w.clear f.fails.before f.fails.after f.fails.here x (ap (found_terms j) (sym (not_after j e w f.gone f.order r.0 r.1)) ∙ f.fails.split) f.fails.fault
+expanded_has_no_fault j e w x f = elim (fronts j f.found f.order w.terms w.order) [
+  | inl l ↦ w.no_fault f.fails.before (f.fails.after ++ flat_map (producers_of j) l.0) f.fails.term x
+      (ap (found_terms j) l.1 ∙ found_terms-append j f.found l.0 ∙ ap (λ v. v ++ flat_map (producers_of j) l.0) f.fails.split ∙ append_assoc f.fails.before (f.fails.term ∷ f.fails.after) (flat_map (producers_of j) l.0)) f.fails.fault
+  | inr r ↦ w.no_fault f.fails.before f.fails.after f.fails.term x (ap (found_terms j) (sym (not_after j e w f.found f.order r.0 r.1)) ∙ f.fails.split) f.fails.fault
 ]
 
 -- The fault of a term is unique.
@@ -116,28 +116,28 @@ same_fault j before t x y (expansion.IsFault.full f n l) (expansion.IsFault.long
 same_fault j before t x y (expansion.IsFault.full f n l) (expansion.IsFault.full g m k) = refl
 
 same_fails : (j : Joined) (ts : List Term) (x y : ExpandFault) → IsFirstFaultIn j ts x → IsFirstFaultIn j ts y → x ≡ y
-same_fails j ts x y f g = elim (compare_splits f.before g.before f.here g.here f.after g.after (sym f.split ∙ g.split)) [
-  | inl s ↦ same_fault j g.before g.here x y (rw (s.0, s.1) at f.fault) g.fault
+same_fails j ts x y f g = elim (compare_splits f.before g.before f.term g.term f.after g.after (sym f.split ∙ g.split)) [
+  | inl s ↦ same_fault j g.before g.term x y (rw (s.0, s.1) at f.fault) g.fault
   | inr s ↦ elim s [
-    | inl r ↦ absurd (g.clear f.before r.0 f.here x r.1 f.fault)
-    | inr r ↦ absurd (f.clear g.before r.0 g.here y r.1 g.fault)
+    | inl r ↦ absurd (g.no_fault f.before r.0 f.term x r.1 f.fault)
+    | inr r ↦ absurd (f.no_fault g.before r.0 g.term y r.1 g.fault)
   ]
 ]
 
 longer_fails : (j : Joined) (xs ys more : List Term) (x : ExpandFault) → ys ≡ xs ++ more → IsFirstFaultIn j (found_terms j xs) x → IsFirstFaultIn j (found_terms j ys) x
 longer_fails j xs ys more x e f = record {
   before = f.before;
-  here = f.here;
+  term = f.term;
   after = f.after ++ flat_map (producers_of j) more;
-  split = ap (found_terms j) e ∙ found_terms-append j xs more ∙ ap (λ v. v ++ flat_map (producers_of j) more) f.split ∙ append_assoc f.before (f.here ∷ f.after) (flat_map (producers_of j) more);
-  clear = f.clear;
+  split = ap (found_terms j) e ∙ found_terms-append j xs more ∙ ap (λ v. v ++ flat_map (producers_of j) more) f.split ∙ append_assoc f.before (f.term ∷ f.after) (flat_map (producers_of j) more);
+  no_fault = f.no_fault;
   fault = f.fault;
 }
 
 pub fault_unique : (j : Joined) (x y : ExpandFault) → IsFirstFault j x → IsFirstFault j y → x ≡ y
-fault_unique j x y f g = elim (fronts j f.gone f.order g.gone g.order) [
-  | inl l ↦ same_fails j (found_terms j g.gone) x y (longer_fails j f.gone g.gone l.0 x l.1 f.fails) g.fails
-  | inr r ↦ same_fails j (found_terms j f.gone) x y f.fails (longer_fails j g.gone f.gone r.0 y r.1 g.fails)
+fault_unique j x y f g = elim (fronts j f.found f.order g.found g.order) [
+  | inl l ↦ same_fails j (found_terms j g.found) x y (longer_fails j f.found g.found l.0 x l.1 f.fails) g.fails
+  | inr r ↦ same_fails j (found_terms j f.found) x y f.fails (longer_fails j g.found f.found r.0 y r.1 g.fails)
 ]
 
 -- The list of instances is unique.

@@ -10,10 +10,10 @@ use Rattle.mh_rules.specs.declared.joined.Applied.{Applied}
 use Rattle.mh_rules.specs.declared.joined.JoinedAlternative.{JoinedAlternative}
 use Rattle.mh_rules.specs.declared.joined.JoinedRule.{JoinedRule}
 use Rattle.mh_rules.specs.declared.joined.Joined.{Joined}
-use Rattle.mh_expand.specs.declared.search.TheConstants.{MAX_NAME}
+use Rattle.mh_expand.specs.Limits.{max_name}
 use Rattle.mh_expand.specs.declared.fault.ExpandFault.{ExpandFault}
 use Rattle.mh_expand.specs.declared.fault.ExpandFault.TheVariants.{Arity, Expansion, Memory}
-use Rattle.mh_rules.specs.declared.instances.TheConstants.{MAX_INSTANCES}
+use Rattle.mh_rules.specs.Limits.{max_instances}
 use Rattle.mh_rules.specs.declared.instances.Part.{Part}
 use Rattle.mh_rules.specs.declared.instances.Part.TheVariants as parts
 use Rattle.mh_rules.specs.declared.instances.InstanceProduction.{InstanceProduction}
@@ -96,15 +96,15 @@ pub record IsNewInstance (before : List Term) (t : Term) : Type 0 where
 
 -- The largest allowed number of different instances has been found before.
 pub record HasMaxInstances (before : List Term) : Type 0 where
-  pub some : List Term
-  pub found : All (λ t. Contains before t × IsInstance t) some
-  pub distinct : AreDistinct some
-  pub full : length some ≡ MAX_INSTANCES
+  pub terms : List Term
+  pub found : All (λ t. Contains before t × IsInstance t) terms
+  pub distinct : AreDistinct terms
+  pub count : length terms ≡ max_instances
 
 -- The fault of a term that is found after the terms `before`.
 pub data IsFault (j : Joined) (before : List Term) (t : Term) : ExpandFault → Type 0 where
   count : (HasRightArity j t → ⊥) → IsFault j before t (Arity (text j t))
-  long : HasRightArity j t → IsNewInstance before t → MAX_NAME < length (text j t) → IsFault j before t (Expansion (head_name j (head_of t)))
+  long : HasRightArity j t → IsNewInstance before t → max_name < length (text j t) → IsFault j before t (Expansion (head_name j (head_of t)))
   full : HasRightArity j t → IsNewInstance before t → HasMaxInstances before → IsFault j before t (Expansion (head_name j (head_of t)))
 
 -- No term of the list has a fault.
@@ -114,17 +114,17 @@ HasNoFault j ts = (before after : List Term) (t : Term) (fault : ExpandFault) �
 -- The first fault of the terms in a list.
 pub record IsFirstFaultIn (j : Joined) (ts : List Term) (e : ExpandFault) : Type 0 where
   pub before : List Term
-  pub here : Term
+  pub term : Term
   pub after : List Term
-  pub split : ts ≡ before ++ here ∷ after
-  pub clear : HasNoFault j before
-  pub fault : IsFault j before here e
+  pub split : ts ≡ before ++ term ∷ after
+  pub no_fault : HasNoFault j before
+  pub fault : IsFault j before term e
 
 -- The first fault in the order of finding.
 pub record IsFirstFault (j : Joined) (e : ExpandFault) : Type 0 where
-  pub gone : List Term
-  pub order : IsFindingOrder j gone
-  pub fails : IsFirstFaultIn j (found_terms j gone) e
+  pub found : List Term
+  pub order : IsFindingOrder j found
+  pub fails : IsFirstFaultIn j (found_terms j found) e
 
 -- The fault satisfies P, unless it reports that memory ran out.
 abbrev pub IsMemoryOr : (ExpandFault → Type 0) → ExpandFault → Type 0
@@ -175,4 +175,4 @@ pub record IsExpanded (j : Joined) (e : Expanded) : Type 0 where
   pub starts : AreNumbersOf terms e.starts (start_terms j)
   pub each : AllZip (IsInstanceOf j terms) terms e.instances
   -- No term that is found has a fault.
-  pub clear : HasNoFault j (found_terms j terms)
+  pub no_fault : HasNoFault j (found_terms j terms)

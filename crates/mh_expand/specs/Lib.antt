@@ -1,3 +1,4 @@
+pub mod Limits
 pub mod Expansion
 pub mod Sentences
 pub mod Terms

@@ -10,6 +10,8 @@ ghost use Rattle.mh_expand.specs.Sentences.{HasSameSentences};
 ghost use Rattle.mh_expand.specs.code.SharedTerms.{terms_of, term_at, terms_at, IsExtendedBy};
 ghost use Rattle.mh_expand.specs.code.Contract.{ExpandContract};
 ghost use Rattle.mh_expand.specs.code.InstanceSearch.{IsInstanceSearch, IsExpandable, AreRanks, FindsStarts, FindsInstance, FindsAlternatives, FindsAlternative, IsExpanding, AreExpanded};
+ghost use Rattle.mh_rules.specs.Limits.{max_instances};
+ghost use Rattle.mh_expand.specs.Limits.{max_name};
 
 use crate::applications::Application;
 use crate::fault::ExpandFault;
@@ -21,8 +23,7 @@ use crate::texts::text_within;
 use indexmap::IndexSet;
 use mh_grammar::{Memory, Name, Sequence, TokenInfo};
 use mh_rules::{
-    Expanded, Head, Instance, InstanceProduction, Joined, JoinedAlternative, JoinedRule,
-    MAX_INSTANCES, Part,
+    Expanded, Head, Instance, InstanceProduction, Joined, JoinedAlternative, JoinedRule, Part,
 };
 use std::alloc::Global;
 
@@ -41,7 +42,7 @@ pub fn expand(alloc: Global, joined: &Joined) -> Result<Expanded, ExpandFault>
     ensures ready { IfOk result IsExpandedReady }
     ensures sentences { IfOk result (HasSameSentences joined.now) }
     ensures err { IfErr result (IsMemoryOr (IsFirstFault joined.now)) }
-    ensures exact { IfOk result (λ _. (fault : ExpandFault) → IsFirstFault joined.now fault → ⊥) }
+    ensures no_fault { IfOk result (λ _. (fault : ExpandFault) → IsFirstFault joined.now fault → ⊥) }
 {
     let mut terms = Terms::new(alloc);
     expand_with(alloc, joined, &mut terms)
@@ -147,8 +148,8 @@ fn find_starts(
     terms: &mut Terms,
     found: &mut IndexSet<usize>,
 ) -> Result<Sequence<u32>, ExpandFault>
-    requires few { length found.old.keys ≤ MAX_INSTANCES }
-    ensures few { IfOk result (λ _. length found.new.keys ≤ MAX_INSTANCES) }
+    requires few { length found.old.keys ≤ max_instances }
+    ensures few { IfOk result (λ _. length found.new.keys ≤ max_instances) }
     ensures ok { IfOk result (λ s. IsInstanceSearch joined.now [] (terms_of terms.old.nodes.keys) found.old.keys →
         FindsStarts joined.now (terms_of terms.old.nodes.keys) (terms_of terms.new.nodes.keys)
         found.old.keys found.new.keys s) }
@@ -179,11 +180,11 @@ fn expand_instance(
     place: usize,
 ) -> Result<Instance, ExpandFault>
     requires place { place < length found.old.keys }
-    requires few { length found.old.keys ≤ MAX_INSTANCES }
+    requires few { length found.old.keys ≤ max_instances }
     requires below { All (λ n. n < length (terms_of terms.old.nodes.keys)) found.old.keys }
     requires fit { IsExpandable joined.now (term_at (terms_of terms.old.nodes.keys) (slice_index found.old.keys place)) }
     requires ranks { AreRanks joined.now.on_error (terms_of terms.old.nodes.keys) (get nat_eq ranks.now) }
-    ensures few { IfOk result (λ _. length found.new.keys ≤ MAX_INSTANCES) }
+    ensures few { IfOk result (λ _. length found.new.keys ≤ max_instances) }
     ensures ok { IfOk result (λ i. (before : List Term) →
         IsInstanceSearch joined.now before (terms_of terms.old.nodes.keys) found.old.keys →
         FindsInstance joined.now before (terms_of terms.old.nodes.keys) (terms_of terms.new.nodes.keys)
@@ -233,7 +234,7 @@ fn copy_of(numbers: &Sequence<usize>) -> Result<Sequence<usize>, Memory>
 /// The printed name of an instance.
 fn name_of(alloc: Global, joined: &Joined, terms: &Terms, number: usize) -> Result<Name, Memory>
     requires number { number < length (terms_of terms.now.nodes.keys) }
-    requires short { length (text joined.now (term_at (terms_of terms.now.nodes.keys) number)) ≤ MAX_NAME }
+    requires short { length (text joined.now (term_at (terms_of terms.now.nodes.keys) number)) ≤ max_name }
     ensures { IfOk result (λ n. n ≡ text joined.now (term_at (terms_of terms.now.nodes.keys) number)) }
 {
     match text_within(alloc, joined, terms, number, MAX_NAME)? {
@@ -251,9 +252,9 @@ fn expand_rule(
     number: usize,
     alternatives: &[JoinedAlternative],
 ) -> Result<Sequence<InstanceProduction>, ExpandFault>
-    requires few { length found.old.keys ≤ MAX_INSTANCES }
+    requires few { length found.old.keys ≤ max_instances }
     requires number { number < length (terms_of terms.old.nodes.keys) }
-    ensures few { IfOk result (λ _. length found.new.keys ≤ MAX_INSTANCES) }
+    ensures few { IfOk result (λ _. length found.new.keys ≤ max_instances) }
     ensures ok { IfOk result (λ ps. (before : List Term) →
         IsInstanceSearch joined.now before (terms_of terms.old.nodes.keys) found.old.keys →
         FindsAlternatives joined.now before (terms_of terms.old.nodes.keys)
@@ -287,9 +288,9 @@ fn expand_alternatives(
     formals: &[usize],
     alternatives: &[JoinedAlternative],
 ) -> Result<Sequence<InstanceProduction>, ExpandFault>
-    requires few { length found.old.keys ≤ MAX_INSTANCES }
+    requires few { length found.old.keys ≤ max_instances }
     requires formals { All (λ n. n < length (terms_of terms.old.nodes.keys)) formals.now }
-    ensures few { IfOk result (λ _. length found.new.keys ≤ MAX_INSTANCES) }
+    ensures few { IfOk result (λ _. length found.new.keys ≤ max_instances) }
     ensures ok { IfOk result (λ ps. (before : List Term) (t : Term) →
         arguments t ≡ terms_at (terms_of terms.old.nodes.keys) formals.now →
         IsInstanceSearch joined.now before (terms_of terms.old.nodes.keys) found.old.keys →
@@ -319,9 +320,9 @@ fn expand_alternative(
     formals: &[usize],
     alternative: &JoinedAlternative,
 ) -> Result<InstanceProduction, ExpandFault>
-    requires few { length found.old.keys ≤ MAX_INSTANCES }
+    requires few { length found.old.keys ≤ max_instances }
     requires formals { All (λ n. n < length (terms_of terms.old.nodes.keys)) formals.now }
-    ensures few { IfOk result (λ _. length found.new.keys ≤ MAX_INSTANCES) }
+    ensures few { IfOk result (λ _. length found.new.keys ≤ max_instances) }
     ensures grows { IfOk result (λ _. IsExtendedBy (terms_of terms.old.nodes.keys) (terms_of terms.new.nodes.keys)) }
     ensures ok { IfOk result (λ p. (before : List Term) (t : Term) →
         arguments t ≡ terms_at (terms_of terms.old.nodes.keys) formals.now →

@@ -5,6 +5,8 @@ ghost use Rattle.mh_expand.specs.Terms.{Term, head_of, head_name, text};
 ghost use Rattle.mh_expand.specs.Expansion.{IsInstance, HasRightArity, IsFault, IsMemoryOr};
 ghost use Rattle.mh_expand.specs.code.SharedTerms.{terms_of, term_at};
 ghost use Rattle.mh_expand.specs.code.InstanceSearch.{IsInstanceSearch, FindsTerm};
+ghost use Rattle.mh_rules.specs.Limits.{max_instances};
+ghost use Rattle.mh_expand.specs.Limits.{max_name};
 
 use crate::fault::ExpandFault;
 use crate::terms::Terms;
@@ -30,8 +32,8 @@ pub(crate) fn find(
     number: usize,
 ) -> Result<Part, ExpandFault>
     requires number { number < length (terms_of terms.now.nodes.keys) }
-    requires few { length found.old.keys ≤ MAX_INSTANCES }
-    ensures few { IfOk result (λ _. length found.new.keys ≤ MAX_INSTANCES) }
+    requires few { length found.old.keys ≤ max_instances }
+    ensures few { IfOk result (λ _. length found.new.keys ≤ max_instances) }
     ensures ok { IfOk result (λ p. (before : List Term) →
         IsInstanceSearch joined.now before (terms_of terms.now.nodes.keys) found.old.keys →
         FindsTerm joined.now before (terms_of terms.now.nodes.keys)
@@ -61,9 +63,9 @@ pub(crate) fn find_instance(
     rule: u64,
 ) -> Result<u32, ExpandFault>
     requires number { number < length (terms_of terms.now.nodes.keys) }
-    requires few { length found.old.keys ≤ MAX_INSTANCES }
+    requires few { length found.old.keys ≤ max_instances }
     requires rule { head_of (term_at (terms_of terms.now.nodes.keys) number) ≡ Head.Rule rule }
-    ensures few { IfOk result (λ _. length found.new.keys ≤ MAX_INSTANCES) }
+    ensures few { IfOk result (λ _. length found.new.keys ≤ max_instances) }
     ensures ok { IfOk result (λ p. (before : List Term) →
         IsInstanceSearch joined.now before (terms_of terms.now.nodes.keys) found.old.keys →
         FindsTerm joined.now before (terms_of terms.now.nodes.keys)
@@ -99,11 +101,11 @@ fn add_instance(
     rule: &Name,
 ) -> Result<u32, ExpandFault>
     requires number { number < length (terms_of terms.now.nodes.keys) }
-    requires few { length found.old.keys ≤ MAX_INSTANCES }
+    requires few { length found.old.keys ≤ max_instances }
     requires instance { IsInstance (term_at (terms_of terms.now.nodes.keys) number) }
     requires fits { HasRightArity joined.now (term_at (terms_of terms.now.nodes.keys) number) }
     requires rule { rule.now ≡ head_name joined.now (head_of (term_at (terms_of terms.now.nodes.keys) number)) }
-    ensures few { IfOk result (λ _. length found.new.keys ≤ MAX_INSTANCES) }
+    ensures few { IfOk result (λ _. length found.new.keys ≤ max_instances) }
     ensures ok { IfOk result (λ p. (before : List Term) →
         IsInstanceSearch joined.now before (terms_of terms.now.nodes.keys) found.old.keys →
         FindsTerm joined.now before (terms_of terms.now.nodes.keys)
@@ -135,8 +137,8 @@ fn may_come(
 ) -> Result<bool, Memory>
     requires { number < length (terms_of terms.now.nodes.keys) }
     ensures { IfOk result (λ b. IsTrue b
-        ↔ ((known < MAX_INSTANCES) ×
-        (length (text joined.now (term_at (terms_of terms.now.nodes.keys) number)) ≤ MAX_NAME))) }
+        ↔ ((known < max_instances) ×
+        (length (text joined.now (term_at (terms_of terms.now.nodes.keys) number)) ≤ max_name))) }
 {
     let name = text_within(alloc, joined, terms, number, MAX_NAME)?;
     Ok(known < MAX_INSTANCES && name.is_some())

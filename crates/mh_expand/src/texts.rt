@@ -31,8 +31,8 @@ pub(crate) fn text_within(
 }
 
 /// Appends the text of a term, as far as there is room. The recursion is at most `MAX_DEPTH` deep for an actual. A term
-/// that replaces a formal is less deep than the limit, because the name of the instance contains the text of the term,
-/// and the length of this name is checked.
+/// that replaces a formal is less deep than `MAX_DEPTH`: each level takes bytes of the name of the instance, and the
+/// length of this name is checked.
 fn write_term(
     text: &mut Vec<u8>,
     room: usize,

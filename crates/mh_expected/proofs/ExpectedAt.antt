@@ -39,7 +39,7 @@ asks_at b c h g =
     record {
       steps = b.resumes;
       read = run.read;
-      there = ap (λ (s : List ℕ). at s run.read run.left) (sym states) ∙ ap (at c.pairs.states run.read) (sym left ∙ none);
+      reaches = ap (λ (s : List ℕ). at s run.read run.left) (sym states) ∙ ap (at c.pairs.states run.read) (sym left ∙ none);
       asks = subst (λ (l : List ℕ). run_move_of c.table (top_of c.pairs.states) l ≡ Asks) none (asking c g);
     }
 

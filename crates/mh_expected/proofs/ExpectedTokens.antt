@@ -53,10 +53,10 @@ module _ (t : TableData) (start : ℕ) (u stack : List ℕ) (a : AsksOn t start 
 
   -- The run on the tokens and one more token reaches the same stack, with this token left.
   asked : (n : ℕ) × (after t n first ≡ at stack a.read (z ∷ []))
-  asked = longer_to t (z ∷ []) a.steps (initial start u) (at stack a.read []) a.there
+  asked = longer_to t (z ∷ []) a.steps (initial start u) (at stack a.read []) a.reaches
 
   settled : (new : List ℕ) (m : RunMove) → Settles t (Some z) stack new m → (n : ℕ) × (after t n first ≡ at new a.read (z ∷ []))
-  settled new m s = (asked.0 + s.count, after-add t asked.0 s.count first ∙ ap (after t s.count) asked.1 ∙ s.leads.there a.read [])
+  settled new m s = (asked.0 + s.count, after-add t asked.0 s.count first ∙ ap (after t s.count) asked.1 ∙ s.leads.reaches a.read [])
 
   is_expected : (new : List ℕ) (j : ℕ) → Settles t (Some z) stack new (Shifts j) → z < t.grammar.tokens → IsExpected t start u z
   is_expected new j s lt =

@@ -1,4 +1,5 @@
--- Proves that the tokens before the refused token of a sentence overshoot.
+-- Proves that, if a run refuses a token, the run on the tokens before this token overshoots, that is, asks for one
+-- more.
 use Rattle.std.proofs.Common.{◌≡◌, ℕ, ◌+◌, ◌<◌, ◌≤◌, List, ◌++◌, length, take, drop, refl, ap, sym, subst, arith, take-append-drop, length-take, ◌∙◌}
 use Rattle.std.specs.List.{AllByRecursion}
 use Rattle.mh_tables_core.specs.Table.{TableData}

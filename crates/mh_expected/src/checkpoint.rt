@@ -11,15 +11,16 @@ use mh_grammar::Memory;
 use mh_tables_core::Halting;
 use std::alloc::Global;
 
-/// Lists the tokens that are expected at a checkpoint that asks for a token: those that are expected after the tokens
-/// of each branch with the checkpoint's position. Fails only if memory runs out.
+/// Lists the tokens that the run would shift next at a checkpoint that asks for a token. For each branch with the
+/// checkpoint's position, these are the tokens that are expected after the tokens of the branch. Fails only if memory
+/// runs out.
 pub fn expected_at(
     alloc: Global,
     table: &Halting,
     checkpoint: &Checkpoint<'_>,
 ) -> Result<TokenList, Memory>
     requires table { table.now ≡ checkpoint.now.table }
-    requires asking { CanOffer (phase_of checkpoint.now) }
+    requires can_offer { CanOffer (phase_of checkpoint.now) }
     ensures { IfOk result (λ list. (b : Branch) → HasPosition b checkpoint.now → ExpectedTokens table.now b.start b.offered list) }
 {
     let states = checkpoint.states(alloc)?;

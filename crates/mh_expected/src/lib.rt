@@ -1,4 +1,4 @@
-//! Expected tokens: where a run asks for one more token, the tokens that the run would shift next.
+//! Expected tokens: if a run asks for one more token, the tokens that the run would shift next.
 #![tactic(auto)]
 
 mod checkpoint;

@@ -30,7 +30,7 @@ pub fn expected(
     tokens_shifted(alloc, table, states.as_slice())
 }
 
-/// The states of the run of a start on a sentence that overshoots, where the run asks for one more token.
+/// Returns the stack on which the run of a start on a sentence asks for one more token. The run must overshoot.
 fn states_after(
     alloc: Global,
     table: &Halting,

@@ -1,4 +1,4 @@
-//! The test of each token on a stack.
+//! Tests which tokens the run on a stack shifts.
 ghost use Rattle.std.specs.Prelude.{◌≡◌, ◌<◌, IfOk};
 ghost use Rattle.mh_tables_core.specs.Run.{IsRunStack};
 ghost use Rattle.mh_expected.specs.code.Trials.{IsTried, AreTried};
@@ -10,7 +10,7 @@ use mh_grammar::{Memory, Token};
 use mh_tables_core::{Halting, NextAction};
 use std::alloc::Global;
 
-/// True if the run on the shared stack shifts this token, after the reductions before the token.
+/// True if the run on the shared stack shifts this token, at once or after reductions.
 fn is_shifted(table: &Halting, stack: &mut Overlay<'_>, token: Token) -> Result<bool, Memory>
     requires run { IsRunStack table.now stack.old.base }
     requires token { token < table.now.grammar.tokens }

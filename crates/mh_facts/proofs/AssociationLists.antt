@@ -4,7 +4,7 @@ use Rattle.std.specs.Map.{lookup}
 
 -- The test `same` is true of two keys if and only if they are equal.
 pub record AreKeys {K : Type 0} (same : K → K → Bool) : Type 0 where
-  pub one : (x y : K) → same x y ≡ true → x ≡ y
+  pub equal : (x y : K) → same x y ≡ true → x ≡ y
   pub agree : (k : K) → same k k ≡ true
 
 module _ {K V : Type 0} {same : K → K → Bool} (keys : AreKeys same) where
@@ -16,7 +16,7 @@ module _ {K V : Type 0} {same : K → K → Bool} (keys : AreKeys same) where
   put_cases f k v other = by (same other k) refl
     where
       by : (b : Bool) → same other k ≡ b → ((other ≡ k) × (cond b v (f other) ≡ v)) ⊎ (cond b v (f other) ≡ f other)
-      by true e = inl (keys.one other k e, refl)
+      by true e = inl (keys.equal other k e, refl)
       by false e = inr refl
 
   pub put_other : (f : K → V) (k : K) (v : V) (other : K) → (other ≡ k → ⊥) → cond (same other k) v (f other) ≡ f other
@@ -48,7 +48,7 @@ module _ {K V : Type 0} {same : K → K → Bool} (keys : AreKeys same) where
   at_cases a k q v u fresh e = by (lookup (same q) a) refl
     where
       last : (b : Bool) → same q k ≡ b → cond b (Some v) None ≡ Some u → (lookup (same q) a ≡ Some u) ⊎ ((q ≡ k) × (u ≡ v))
-      last true s h = inr (keys.one q k s, (let y : Some v ≡ Some u = h in cc))
+      last true s h = inr (keys.equal q k s, (let y : Some v ≡ Some u = h in cc))
       last false s h = absurd (let y : None ≡ Some u = h in cc)
 
       by : (o : Option V) → lookup (same q) a ≡ o → (lookup (same q) a ≡ Some u) ⊎ ((q ≡ k) × (u ≡ v))

@@ -1,4 +1,4 @@
--- Proves that the rules of the search are complete: each failing sentence is refused by a derivation.
+-- Proves that the rules of the search are complete: for each failing sentence they derive that it is refused.
 use Rattle.std.proofs.Common.{◌≡◌, ℕ, zero, suc, ◌+◌, ◌-◌, ◌<◌, ◌≤◌, inl, inr, List, [], ◌∷◌, ◌++◌, length, take, drop, Some, None, Option, refl, ap, sym, arith, length-append, length-drop, append_assoc, ◌∙◌}
 use Rattle.std.proofs.lemmas.List.{take_at, nil_from_length}
 use Rattle.mh_grammar.specs.declared.types.Symbol.TheVariants.{N}
@@ -48,11 +48,11 @@ take_front : (a b : List ℕ) (n : ℕ) → n ≡ length a → take n (a ++ b) �
 take_front a b n e = take_at a b n (sym e)
 
 -- The stack after a reduction is built by facts.
-pub record Reduction (t : TableData) (r : ℕ) (v : List ℕ) (z : ℕ) (new : List ℕ) : Type 0 where
+pub record NewStackIsBuilt (t : TableData) (r : ℕ) (v : List ℕ) (z : ℕ) (new : List ℕ) : Type 0 where
   pub top : ℕ
   pub built : StackBuilt t r new top v z
 
-pub built_reduced : (t : TableData) (f : Facts t) (r : ℕ) (stack : List ℕ) (s : ℕ) (v : List ℕ) (z q : ℕ) (new : List ℕ) → StackBuilt t r stack s v z → run_move_of t s (z ∷ []) ≡ Reduces q → reduce t q stack ≡ Some new → Reduction t r v z new
+pub built_reduced : (t : TableData) (f : Facts t) (r : ℕ) (stack : List ℕ) (s : ℕ) (v : List ℕ) (z q : ℕ) (new : List ℕ) → StackBuilt t r stack s v z → run_move_of t s (z ∷ []) ≡ Reduces q → reduce t q stack ≡ Some new → NewStackIsBuilt t r v z new
 built_reduced t f r stack s v z q new b move e =
     let ordinary = (f.ordinary s q (reduces_from_move t s (z ∷ []) q move)).0 in
     let h = reduced t q stack new e in
@@ -186,7 +186,7 @@ refused_from t f i [] s n start all lt h = absurd (omega arith)
 refused_from t f i (x ∷ w) s n start all lt h =
     refused_at t i (x ∷ w) s (after t n (initial i (x ∷ w))) start all (StackIsBuilt-after t f i (x ∷ w) n (initial i (x ∷ w)) (StackIsBuilt-start t i [] x w) (refusal_left t _ _ h.move)) h
 
--- Each failing sentence is refused by a derivation of the search.
+-- For each failing sentence the rules of the search derive that it is refused.
 pub IsRefusedSentence-fails : (t : TableData) (f : Facts t) (i : ℕ) (w : List ℕ) (s : ℕ) → Fails t i w s → IsRefusedSentence t i w s
 IsRefusedSentence-fails t f i w s h =
     refused_from t f i w s h.verdict.0 h.sentence.known h.sentence.tokens h.some_token (refusal t _ _ _ h.verdict.1)

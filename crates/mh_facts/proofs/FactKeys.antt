@@ -16,7 +16,7 @@ pub fact_same : (k : FactKey) → same_fact k k ≡ true
 fact_same k = rw (number_same k.from, number_same k.production, number_same k.dot, number_same k.first, number_same k.next) refl
 
 pub fact_keys : AreKeys same_fact
-fact_keys = record { one = same_fact_is; agree = fact_same }
+fact_keys = record { equal = same_fact_is; agree = fact_same }
 
 pub sizes_more : (facts : Facts) (e : FactKey × Fact) → sizes_of (facts ++ e ∷ []) ≡ with_size (sizes_of facts) e
 sizes_more facts e = fold_push (λ sizes e. with_size sizes e) (λ k. 0) facts e

@@ -22,7 +22,7 @@ IsByLeftSideBelow-step t p old new ordinary known h f = record {
   rows = f.rows ∙ h.rows;
   all = λ n q is lt. elim (cases_lt q p) [
     | inl less ↦ f.kept n q (h.all n q is less)
-    | inr ge ↦ (let e : q ≡ p = omega arith in let row : lhs_of t.grammar p ≡ n = rw e at is.lhs in rw (e, ← row) f.here)
+    | inr ge ↦ (let e : q ≡ p = omega arith in let row : lhs_of t.grammar p ≡ n = rw e at is.lhs in rw (e, ← row) f.added)
   ];
   only = λ n q there. elim (f.only n q there) [
     | inl was ↦ h.only n q was

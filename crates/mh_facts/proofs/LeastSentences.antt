@@ -1,4 +1,4 @@
--- Proves that the second search finds the least sentences.
+-- Proves that the search over states and next tokens, after the search for facts, finds the least sentences.
 use Rattle.std.proofs.Common.{◌≡◌, ℕ, ◌+◌, ◌<◌, ◌⊎◌, inl, inr, List, [], ◌∷◌, ◌++◌, length, Some, Option, refl, sym, subst}
 use Rattle.mh_grammar.specs.declared.types.Symbol.TheVariants.{N}
 use Rattle.mh_tables_core.specs.Table.{TableData, edge_of}
@@ -28,20 +28,20 @@ HoldsAtOr LeAt reached M s y l = HasNoLaterLabel LeAt reached s y l ⊎ M l
 module _ (t : TableData) (f : Facts t) (rep : ℕ → ℕ → ℕ) (Le : List ℕ → List ℕ → Type 0) (LeAt : Label → Label → Type 0) (laws : WordOrderLaws Le) (at_laws : LabelOrderLaws Le LeAt) (store : FactKey → Option (List ℕ)) (complete : Complete t rep Le store)
     (reached : ℕ → ℕ → Option Label) (H : ℕ → ℕ → Label → Type 0) (closed : LabelsClosedBy t rep store reached H) (M : Label → Type 0) (up : (k l : Label) → M k → LeAt k l → M l) (or : (s y : ℕ) (l : Label) → H s y l → HoldsAtOr LeAt reached M s y l) where
   later_at : (s y : ℕ) (k l : Label) → LeAt k l → H s y k → HoldsAtOr LeAt reached M s y l
-  later_at s y k l le h = elim (or s y k h) [ inl b ↦ inl (b.0, b.1, at_laws.after b.0 k l b.2 le) | inr b ↦ inr (up k l b le) ]
+  later_at s y k l le h = elim (or s y k h) [ inl b ↦ inl (b.0, b.1, at_laws.transitive b.0 k l b.2 le) | inr b ↦ inr (up k l b le) ]
 
   abbrev lab : ℕ → List ℕ → Label
   lab i v = record { start = i; word = v }
 
   at_shift : (i s y z j : ℕ) (v w : List ℕ) → HoldsAtOr LeAt reached M s (rep s y) (lab i v) → run_move_of t s (y ∷ []) ≡ Shifts j → z < t.grammar.tokens → w ≡ v ++ y ∷ [] → HoldsAtOr LeAt reached M j (rep j z) (lab i w)
-  at_shift i s y z j v w (inl h) move lt word = later_at j (rep j z) (extended_label h.0 (y ∷ [])) (lab i w) (rw word (at_laws.both h.0 (lab i v) (y ∷ []) (y ∷ []) h.2 (laws.same (y ∷ [])))) (closed.shifts s y z j h.0 h.1 move lt)
-  at_shift i s y z j v w (inr h) move lt word = inr (up (lab i v) (lab i w) h (rw word (at_laws.front (lab i v) (y ∷ []))))
+  at_shift i s y z j v w (inl h) move lt word = later_at j (rep j z) (extended_label h.0 (y ∷ [])) (lab i w) (rw word (at_laws.monotone h.0 (lab i v) (y ∷ []) (y ∷ []) h.2 (laws.reflexive (y ∷ [])))) (closed.shifts s y z j h.0 h.1 move lt)
+  at_shift i s y z j v w (inr h) move lt word = inr (up (lab i v) (lab i w) h (rw word (at_laws.prefix (lab i v) (y ∷ []))))
 
   at_reduce : (i s y z q e g : ℕ) (u v w : List ℕ) → HoldsAtOr LeAt reached M s y (lab i u) → HasNoLater Le store (key s q (length (rhs_of t.grammar q)) y (rep e z)) v → IsPathEnd t s q (length (rhs_of t.grammar q)) e → run_move_of t e (z ∷ []) ≡ Reduces q
       → edge_of t s (N (lhs_of t.grammar q)) ≡ Some g → z < t.grammar.tokens → w ≡ u ++ v → HoldsAtOr LeAt reached M g (rep g z) (lab i w)
   at_reduce i s y z q e g u v w (inl h) inner end move edge lt word =
-      later_at g (rep g z) (extended_label h.0 inner.0) (lab i w) (rw word (at_laws.both h.0 (lab i u) inner.0 v h.2 inner.2)) (closed.reduces s y z q e g h.0 inner.0 h.1 inner.1 end move edge lt)
-  at_reduce i s y z q e g u v w (inr h) inner end move edge lt word = inr (up (lab i u) (lab i w) h (rw word (at_laws.front (lab i u) v)))
+      later_at g (rep g z) (extended_label h.0 inner.0) (lab i w) (rw word (at_laws.monotone h.0 (lab i u) inner.0 v h.2 inner.2)) (closed.reduces s y z q e g h.0 inner.0 h.1 inner.1 end move edge lt)
+  at_reduce i s y z q e g u v w (inr h) inner end move edge lt word = inr (up (lab i u) (lab i w) h (rw word (at_laws.prefix (lab i u) v)))
 
   -- Each word that reaches a state is no earlier than the state's stored label, or is in the set M.
   pub bound_at : (i s z : ℕ) (v : List ℕ) → i < length t.grammar.starts → z < t.grammar.tokens → ReachesState t i s z v → HoldsAtOr LeAt reached M s (rep s z) (lab i v)
@@ -85,7 +85,7 @@ module _ (t : TableData) (f : Facts t) (rep : ℕ → ℕ → ℕ) (Le : List �
   refused_candidate : (i s : ℕ) (w : List ℕ) → IsRefusedSentence t i w s → (z : ℕ) × (l : Label) × Candidate t rep reached s z l × LeAt (extended_label l (z ∷ [])) (record { start = i; word = w })
   refused_candidate i s w r =
       let b = all i s r.last r.before r.start r.known r.reaches in
-      let le : LeAt (extended_label b.0 (r.last ∷ [])) (record { start = i; word = r.before ++ r.last ∷ [] }) = at_laws.both b.0 (record { start = i; word = r.before }) (r.last ∷ []) (r.last ∷ []) b.2 (laws.same (r.last ∷ [])) in
+      let le : LeAt (extended_label b.0 (r.last ∷ [])) (record { start = i; word = r.before ++ r.last ∷ [] }) = at_laws.monotone b.0 (record { start = i; word = r.before }) (r.last ∷ []) (r.last ∷ []) b.2 (laws.reflexive (r.last ∷ [])) in
       (r.last, b.0, record { known = r.known; refuses = r.refuses; reached_at = b.1 }, subst (λ (x : List ℕ). LeAt (extended_label b.0 (r.last ∷ [])) (record { start = i; word = x })) (sym r.word) le)
 
   -- For each failing sentence there is a candidate that is no later.

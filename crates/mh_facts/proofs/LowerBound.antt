@@ -37,21 +37,21 @@ IsUp Le M = (u w : List ℕ) → M u → Le u w → M w
 
 module _ (t : TableData) (f : Facts t) (rep : ℕ → ℕ → ℕ) (Le : List ℕ → List ℕ → Type 0) (laws : WordOrderLaws Le) (store : FactKey → Option (List ℕ)) where
   later : (H : FactKey → List ℕ → Type 0) (M : List ℕ → Type 0) → IsUp Le M → ((k : FactKey) (w : List ℕ) → H k w → HoldsOr Le store M k w) → (k : FactKey) (u w : List ℕ) → Le u w → H k u → HoldsOr Le store M k w
-  later H M up or k u w le h = elim (or k u h) [ inl s ↦ inl (s.0, s.1, laws.after s.0 u w s.2 le) | inr b ↦ inr (up u w b le) ]
+  later H M up or k u w le h = elim (or k u h) [ inl s ↦ inl (s.0, s.1, laws.transitive s.0 u w s.2 le) | inr b ↦ inr (up u w b le) ]
 
   module _ (H : FactKey → List ℕ → Type 0) (closed : ClosedBy t rep store H) (M : List ℕ → Type 0) (up : IsUp Le M) (or : (k : FactKey) (w : List ℕ) → H k w → HoldsOr Le store M k w) where
     bound_shift : (r p d a x z s j : ℕ) (v w : List ℕ) → HoldsOr Le store M (key r p d a (rep s x)) v → IsPathEnd t r p d s → slice_get (rhs_of t.grammar p) d ≡ Some (T x) → run_move_of t s (x ∷ []) ≡ Shifts j → z < t.grammar.tokens → w ≡ v ++ x ∷ []
         → HoldsOr Le store M (key r p (suc d) a (rep j z)) w
     bound_shift r p d a x z s j v w (inl h) end symbol move lt word =
-        later H M up or (key r p (suc d) a (rep j z)) (h.0 ++ x ∷ []) w (rw word (laws.both h.0 v (x ∷ []) (x ∷ []) h.2 (laws.same (x ∷ [])))) (closed.shifts r p d a x z s j h.0 h.1 end symbol move lt)
-    bound_shift r p d a x z s j v w (inr h) end symbol move lt word = inr (up v w h (rw word (laws.front v (x ∷ []))))
+        later H M up or (key r p (suc d) a (rep j z)) (h.0 ++ x ∷ []) w (rw word (laws.monotone h.0 v (x ∷ []) (x ∷ []) h.2 (laws.reflexive (x ∷ [])))) (closed.shifts r p d a x z s j h.0 h.1 end symbol move lt)
+    bound_shift r p d a x z s j v w (inr h) end symbol move lt word = inr (up v w h (rw word (laws.prefix v (x ∷ []))))
 
     bound_reduce : (r p d a y z q s e g : ℕ) (u v w : List ℕ) → HoldsOr Le store M (key r p d a y) u → IsPathEnd t r p d s → slice_get (rhs_of t.grammar p) d ≡ Some (N (lhs_of t.grammar q)) → HoldsOr Le store M (key s q (length (rhs_of t.grammar q)) y (rep e z)) v
         → IsPathEnd t s q (length (rhs_of t.grammar q)) e → run_move_of t e (z ∷ []) ≡ Reduces q → edge_of t s (N (lhs_of t.grammar q)) ≡ Some g → z < t.grammar.tokens → w ≡ u ++ v → HoldsOr Le store M (key r p (suc d) a (rep g z)) w
-    bound_reduce r p d a y z q s e g u v w (inr h) end symbol inner end' move edge lt word = inr (up u w h (rw word (laws.front u v)))
-    bound_reduce r p d a y z q s e g u v w (inl h) end symbol (inr i) end' move edge lt word = inr (up v w i (rw word (laws.back u v)))
+    bound_reduce r p d a y z q s e g u v w (inr h) end symbol inner end' move edge lt word = inr (up u w h (rw word (laws.prefix u v)))
+    bound_reduce r p d a y z q s e g u v w (inl h) end symbol (inr i) end' move edge lt word = inr (up v w i (rw word (laws.suffix u v)))
     bound_reduce r p d a y z q s e g u v w (inl h) end symbol (inl i) end' move edge lt word =
-        later H M up or (key r p (suc d) a (rep g z)) (h.0 ++ i.0) w (rw word (laws.both h.0 u i.0 v h.2 i.2)) (closed.reduces r p d a y z q s e g h.0 i.0 h.1 end symbol i.1 end' move edge lt)
+        later H M up or (key r p (suc d) a (rep g z)) (h.0 ++ i.0) w (rw word (laws.monotone h.0 u i.0 v h.2 i.2)) (closed.reduces r p d a y z q s e g h.0 i.0 h.1 end symbol i.1 end' move edge lt)
 
     -- Each word of a fact is no earlier than the stored word of the fact's key, or is in the set M.
     pub bound : (r p d a z : ℕ) (v : List ℕ) (s : ℕ) → r < length t.states → z < t.grammar.tokens → p < production_count t.grammar → DerivesFact t r p d a z v s → HoldsOr Le store M (key r p d (rep r a) (rep s z)) v
@@ -124,9 +124,9 @@ Congruent-identity t = record { reduces = λ s q e g y z end edge y_lt z_lt same
 pub Congruent-representatives : (t : TableData) (rep : ℕ → ℕ → ℕ) → RepresentativesAgree t rep → Congruent t rep
 Congruent-representatives t rep h = record {
   reduces = λ s q e g y z end edge y_lt z_lt same move.
-      let a = h.there s q e g y end edge y_lt move in
-      let b : run_move_of t e (z ∷ []) ≡ Reduces q = h.back s q e g z end edge z_lt (rw (← same) a.0) in
-      let c = h.there s q e g z end edge z_lt b in
+      let a = h.to_representative s q e g y end edge y_lt move in
+      let b : run_move_of t e (z ∷ []) ≡ Reduces q = h.from_representative s q e g z end edge z_lt (rw (← same) a.0) in
+      let c = h.to_representative s q e g z end edge z_lt b in
       (b, a.1 ∙ ap (rep e) same ∙ sym c.1);
 }
 

@@ -71,7 +71,7 @@ module _ (weigh : ℕ → ℕ) (some : (x : ℕ) → 0 < weigh x) where
   first_back (x ∷ u) v = let l = cost_append weigh u v in let s = some x in orders.CostLexLe.Cheaper (omega arith)
 
   pub first_laws : WordOrderLaws (CostLexLe weigh)
-  first_laws = record { same = λ u. orders.CostLexLe.Lower refl (lex_refl u); after = first_after; both = first_both; front = first_front; back = first_back }
+  first_laws = record { reflexive = λ u. orders.CostLexLe.Lower refl (lex_refl u); transitive = first_after; monotone = first_both; prefix = first_front; suffix = first_back }
 
   sentence_both : (k l : Label) (u v : List ℕ) → SentenceLe weigh k l → CostLexLe weigh u v → SentenceLe weigh (extended_label k u) (extended_label l v)
   sentence_both k l u v (orders.SentenceLe.Over a b) h = let x = cost_append weigh k.word u in let y = cost_append weigh l.word v in orders.SentenceLe.Over (omega arith) (omega arith)
@@ -113,7 +113,7 @@ module _ (weigh : ℕ → ℕ) (some : (x : ℕ) → 0 < weigh x) where
       elim (cases_lt 0 (cost_by weigh v)) [ inl some ↦ orders.SentenceLe.Cheaper (omega arith) | inr none ↦ orders.SentenceLe.Lower (omega arith) refl (lex_prefix k.word v) ]
 
   pub sentence_laws : LabelOrderLaws (CostLexLe weigh) (SentenceLe weigh)
-  sentence_laws = record { same = λ l. orders.SentenceLe.Lower refl refl (lex_refl l.word); after = sentence_after; both = sentence_both; front = sentence_front }
+  sentence_laws = record { reflexive = λ l. orders.SentenceLe.Lower refl refl (lex_refl l.word); transitive = sentence_after; monotone = sentence_both; prefix = sentence_front }
 
 -- The orders by cost alone.
 module _ (weigh : ℕ → ℕ) where
@@ -133,17 +133,17 @@ module _ (weigh : ℕ → ℕ) where
 
   pub cost_laws : WordOrderLaws (CostLe weigh)
   cost_laws = record {
-    same = λ u. inl (omega arith);
-    after = λ u v w. through (cost_by weigh u) (cost_by weigh v) (cost_by weigh w);
-    both = cost_both;
-    front = λ u v. inl (let l = cost_append weigh u v in omega arith);
-    back = λ u v. inl (let l = cost_append weigh u v in omega arith);
+    reflexive = λ u. inl (omega arith);
+    transitive = λ u v w. through (cost_by weigh u) (cost_by weigh v) (cost_by weigh w);
+    monotone = cost_both;
+    prefix = λ u v. inl (let l = cost_append weigh u v in omega arith);
+    suffix = λ u v. inl (let l = cost_append weigh u v in omega arith);
   }
 
   pub cost_label_laws : LabelOrderLaws (CostLe weigh) (LabelCostLe weigh)
   cost_label_laws = record {
-    same = λ l. inl (omega arith);
-    after = λ k l m. through (cost_by weigh k.word) (cost_by weigh l.word) (cost_by weigh m.word);
-    both = λ k l u v. cost_both k.word l.word u v;
-    front = λ k v. inl (let l = cost_append weigh k.word v in omega arith);
+    reflexive = λ l. inl (omega arith);
+    transitive = λ k l m. through (cost_by weigh k.word) (cost_by weigh l.word) (cost_by weigh m.word);
+    monotone = λ k l u v. cost_both k.word l.word u v;
+    prefix = λ k v. inl (let l = cost_append weigh k.word v in omega arith);
   }

@@ -67,7 +67,7 @@ module _ {X : Type 0} where
         let here : row_of new k ≡ row_of rs k ++ p ∷ [] = rw (row_is rs k d lt) (row_at_set ∙ items) in
         record {
           rows = ap length is ∙ set_length rs k v;
-          here = rw here (contains_last (row_of rs k) p);
+          added = rw here (contains_last (row_of rs k) p);
           kept = λ n q h. elim (cases_eq n k) [
             | inl e ↦ (let r : row_of new n ≡ row_of rs n ++ p ∷ [] = rw e here in rw r (Contains-append_left (row_of rs n) (p ∷ []) q h))
             | inr ne ↦ rw (row_other n ne) h
@@ -83,7 +83,7 @@ module _ {X : Type 0} where
     takes_item p items =
         let was : row_of rs k ≡ v.items ++ p ∷ [] = row_is rs k d lt ∙ items in
         record {
-          was = rw was (contains_last v.items p);
+          waited = rw was (contains_last v.items p);
           kept = λ n q h. elim (cases_eq n k) [
             | inl e ↦ (
                 let r : row_of rs n ≡ v.items ++ p ∷ [] = rw e was in
@@ -105,7 +105,7 @@ module _ {X : Type 0} where
   pub QueueGains-added : (old mid new : List (Vec X)) (k : ℕ) (p : X) → ((n : ℕ) → row_of mid n ≡ row_of old n) → AddsToRow mid new k p → QueueGains (IsOne k p) old new
   QueueGains-added old mid new k p same f = record {
     kept = λ n q h. f.kept n q (rw (same n) h);
-    all = λ n q is. rw (is.0, is.1) f.here;
+    all = λ n q is. rw (is.0, is.1) f.added;
     only = λ n q h. elim (f.only n q h) [ inl was ↦ inl (rw (same n) at was) | inr is ↦ inr is ];
   }
 

@@ -54,11 +54,11 @@ reduce_on t n c stack above read z q e g left a top m lt high edge =
 pub record RunsAlong (t : TableData) (r p d : ℕ) (stack : List ℕ) (read : ℕ) (v : List ℕ) (z : ℕ) (rest : List ℕ) (s : ℕ) : Type 0 where
   pub steps : ℕ
   pub above : List ℕ
-  pub stands : after t steps (at stack read (v ++ z ∷ rest)) ≡ at (stack ++ above) (read + length v) (z ∷ rest)
-  pub high : length above ≡ d
+  pub reaches : after t steps (at stack read (v ++ z ∷ rest)) ≡ at (stack ++ above) (read + length v) (z ∷ rest)
+  pub height : length above ≡ d
   pub top : top_of (stack ++ above) ≡ s
   pub last : get_or (r ∷ above) d 0 ≡ s
-  pub along : (k : ℕ) (x : Symbol) → k < d → slice_get (rhs_of t.grammar p) k ≡ Some x → edge_of t (get_or (r ∷ above) k 0) x ≡ Some (get_or (r ∷ above) (k + 1) 0)
+  pub edges : (k : ℕ) (x : Symbol) → k < d → slice_get (rhs_of t.grammar p) k ≡ Some x → edge_of t (get_or (r ∷ above) k 0) x ≡ Some (get_or (r ∷ above) (k + 1) 0)
 
 -- The tokens after the first token of v, z and `rest`.
 abbrev pub rest_after_first : List ℕ → ℕ → List ℕ → List ℕ
@@ -96,12 +96,12 @@ module _ (t : TableData) (f : Facts t) where
       record {
         steps = h.steps + 1;
         above = h.above ++ j ∷ [];
-        stands = rw left (shift_on t h.steps (at stack read (v ++ x ∷ (z ∷ rest))) (stack ++ h.above) (read + length v) x j (z ∷ rest) h.stands (rw h.top move)
+        reaches = rw left (shift_on t h.steps (at stack read (v ++ x ∷ (z ∷ rest))) (stack ++ h.above) (read + length v) x j (z ∷ rest) h.reaches (rw h.top move)
             ∙ rw read' (ap (λ (l : List ℕ). at l (read + length w) (z ∷ rest)) (append_assoc stack h.above (j ∷ []))));
-        high = let e = h.high in length_more (h.above ++ j ∷ []) h.above j refl ∙ omega arith;
+        height = let e = h.height in length_more (h.above ++ j ∷ []) h.above j refl ∙ omega arith;
         top = rw (← append_assoc stack h.above (j ∷ [])) (push_top (stack ++ h.above) j);
-        last = last_more r h.above d j h.high;
-        along = along_more t r p d h.above s j (T x) h.high h.last symbol edge h.along;
+        last = last_more r h.above d j h.height;
+        edges = along_more t r p d h.above s j (T x) h.height h.last symbol edge h.edges;
       }
 
   ran_reduce : (r p d y z q : ℕ) (u v w : List ℕ) (s e g : ℕ) (stack : List ℕ) (read : ℕ) (rest rest' : List ℕ) → v ++ z ∷ rest ≡ y ∷ rest' → (h : RunsAlong t r p d stack read u y rest' s) → slice_get (rhs_of t.grammar p) d ≡ Some (N (lhs_of t.grammar q)) → 0 < length stack
@@ -109,31 +109,31 @@ module _ (t : TableData) (f : Facts t) where
       → RunsAlong t r p (suc d) stack read w z rest g
   ran_reduce r p d y z q u v w s e g stack read rest rest' front h symbol lt inner move edge word =
       let left : w ++ z ∷ rest ≡ u ++ (v ++ z ∷ rest) = rw word (append_assoc u v (z ∷ rest)) in
-      let first : after t h.steps (at stack read (u ++ (v ++ z ∷ rest))) ≡ at (stack ++ h.above) (read + length u) (v ++ z ∷ rest) = rw front h.stands in
+      let first : after t h.steps (at stack read (u ++ (v ++ z ∷ rest))) ≡ at (stack ++ h.above) (read + length u) (v ++ z ∷ rest) = rw front h.reaches in
       let both : after t (h.steps + inner.steps) (at stack read (u ++ (v ++ z ∷ rest))) ≡ at ((stack ++ h.above) ++ inner.above) (read + length u + length v) (z ∷ rest) =
-      after-add t h.steps inner.steps (at stack read (u ++ (v ++ z ∷ rest))) ∙ rw first inner.stands in
+      after-add t h.steps inner.steps (at stack read (u ++ (v ++ z ∷ rest))) ∙ rw first inner.reaches in
       let read' : read + length u + length v ≡ read + length w = let l = ap length word ∙ length-append u v in omega arith in
       record {
         steps = h.steps + inner.steps + 1;
         above = h.above ++ g ∷ [];
-        stands = rw left (reduce_on t (h.steps + inner.steps) (at stack read (u ++ (v ++ z ∷ rest))) (stack ++ h.above) inner.above (read + length u + length v) z q e g rest both inner.top move
-            (let l = length-append stack h.above in omega arith) inner.high (rw h.top edge)
+        reaches = rw left (reduce_on t (h.steps + inner.steps) (at stack read (u ++ (v ++ z ∷ rest))) (stack ++ h.above) inner.above (read + length u + length v) z q e g rest both inner.top move
+            (let l = length-append stack h.above in omega arith) inner.height (rw h.top edge)
             ∙ rw read' (ap (λ (l : List ℕ). at l (read + length w) (z ∷ rest)) (append_assoc stack h.above (g ∷ []))));
-        high = let e = h.high in length_more (h.above ++ g ∷ []) h.above g refl ∙ omega arith;
+        height = let e = h.height in length_more (h.above ++ g ∷ []) h.above g refl ∙ omega arith;
         top = rw (← append_assoc stack h.above (g ∷ [])) (push_top (stack ++ h.above) g);
-        last = last_more r h.above d g h.high;
-        along = along_more t r p d h.above s g (N (lhs_of t.grammar q)) h.high h.last symbol edge h.along;
+        last = last_more r h.above d g h.height;
+        edges = along_more t r p d h.above s g (N (lhs_of t.grammar q)) h.height h.last symbol edge h.edges;
       }
 
   pub derives_ran : (r p d a z : ℕ) (v : List ℕ) (s : ℕ) → DerivesFact t r p d a z v s → (stack : List ℕ) (read : ℕ) (rest : List ℕ) → 0 < length stack → top_of stack ≡ r → RunsAlong t r p d stack read v z rest s
   derives_ran r p d a z v s (rules.DerivesFact.Empty o g) stack read rest lt top = record {
     steps = 0;
     above = [];
-    stands = let e : read + 0 ≡ read = omega arith in rw (e, append-nil stack) refl;
-    high = refl;
+    reaches = let e : read + 0 ≡ read = omega arith in rw (e, append-nil stack) refl;
+    height = refl;
     top = rw (append-nil stack) top;
     last = refl;
-    along = λ k x l e. absurd (omega arith);
+    edges = λ k x l e. absurd (omega arith);
   }
   derives_ran r p d a z w j (rules.DerivesFact.Shifted {d = d0} {x = x} {s = s} {v = v} h symbol move word) stack read rest lt top =
       ran_shift r p d0 x z v w s j stack read rest (derives_ran r p d0 a x v s h stack read (z ∷ rest) lt top) symbol move word
@@ -147,12 +147,12 @@ module _ (t : TableData) (f : Facts t) where
 pub record RunsToState (t : TableData) (i s z : ℕ) (v rest : List ℕ) : Type 0 where
   pub steps : ℕ
   pub stack : List ℕ
-  pub stands : after t steps (at (i ∷ []) 0 (v ++ z ∷ rest)) ≡ at stack (length v) (z ∷ rest)
+  pub reaches : after t steps (at (i ∷ []) 0 (v ++ z ∷ rest)) ≡ at stack (length v) (z ∷ rest)
   pub top : top_of stack ≡ s
   pub begun : 0 < length stack
 
 pub RunsToState-reaches : (t : TableData) (f : Facts t) (i s z : ℕ) (v : List ℕ) → ReachesState t i s z v → (rest : List ℕ) → RunsToState t i s z v rest
-RunsToState-reaches t f i s z v rules.ReachesState.Begins rest = record { steps = 0; stack = i ∷ []; stands = refl; top = refl; begun = omega arith }
+RunsToState-reaches t f i s z v rules.ReachesState.Begins rest = record { steps = 0; stack = i ∷ []; reaches = refl; top = refl; begun = omega arith }
 RunsToState-reaches t f i j z w (rules.ReachesState.Steps {s = s} {y = y} {v = v} h move word) rest =
     let one = RunsToState-reaches t f i s y v h (z ∷ rest) in
     let left : w ++ z ∷ rest ≡ v ++ y ∷ (z ∷ rest) = rw word (append_assoc v (y ∷ []) (z ∷ rest)) in
@@ -160,7 +160,7 @@ RunsToState-reaches t f i j z w (rules.ReachesState.Steps {s = s} {y = y} {v = v
     record {
       steps = one.steps + 1;
       stack = one.stack ++ j ∷ [];
-      stands = rw (left, ← count) (shift_on t one.steps _ one.stack (length v) y j (z ∷ rest) one.stands (rw one.top move));
+      reaches = rw (left, ← count) (shift_on t one.steps _ one.stack (length v) y j (z ∷ rest) one.reaches (rw one.top move));
       top = push_top one.stack j;
       begun = let l = length-append one.stack (j ∷ []) in omega arith;
     }
@@ -169,14 +169,14 @@ RunsToState-reaches t f i g z w (rules.ReachesState.Goes {s = s} {y = y} {e = e}
     let one = RunsToState-reaches t f i s y u h (rest_after_first v z rest) in
     let two = derives_ran t f s q (length (rhs_of t.grammar q)) y z v e inner one.stack (length u) rest one.begun one.top in
     let left : w ++ z ∷ rest ≡ u ++ (v ++ z ∷ rest) = rw word (append_assoc u v (z ∷ rest)) in
-    let first : after t one.steps (at (i ∷ []) 0 (u ++ (v ++ z ∷ rest))) ≡ at one.stack (length u) (v ++ z ∷ rest) = rw front one.stands in
+    let first : after t one.steps (at (i ∷ []) 0 (u ++ (v ++ z ∷ rest))) ≡ at one.stack (length u) (v ++ z ∷ rest) = rw front one.reaches in
     let both : after t (one.steps + two.steps) (at (i ∷ []) 0 (u ++ (v ++ z ∷ rest))) ≡ at (one.stack ++ two.above) (length u + length v) (z ∷ rest) =
-    after-add t one.steps two.steps (at (i ∷ []) 0 (u ++ (v ++ z ∷ rest))) ∙ rw first two.stands in
+    after-add t one.steps two.steps (at (i ∷ []) 0 (u ++ (v ++ z ∷ rest))) ∙ rw first two.reaches in
     let count : length u + length v ≡ length w = let l = ap length word ∙ length-append u v in omega arith in
     record {
       steps = one.steps + two.steps + 1;
       stack = one.stack ++ g ∷ [];
-      stands = rw (left, ← count) (reduce_on t (one.steps + two.steps) _ one.stack two.above (length u + length v) z q e g rest both two.top move one.begun two.high (rw one.top edge));
+      reaches = rw (left, ← count) (reduce_on t (one.steps + two.steps) _ one.stack two.above (length u + length v) z q e g rest both two.top move one.begun two.height (rw one.top edge));
       top = push_top one.stack g;
       begun = let l = length-append one.stack (g ∷ []) in omega arith;
     }
@@ -230,5 +230,5 @@ Fails-refused t f i w s h =
     record {
       sentence = record { known = h.start; tokens = rw h.word (recursion-push (λ (z : ℕ). z < t.grammar.tokens) h.before h.last k.tokens h.known) };
       some_token = omega arith;
-      verdict = (ran.steps, rw (one, h.word) (rw ran.stands (step_moves t (at ran.stack (length h.before) (h.last ∷ [])) Refuses (rw ran.top h.refuses) ∙ rw ran.top refl)));
+      verdict = (ran.steps, rw (one, h.word) (rw ran.reaches (step_moves t (at ran.stack (length h.before) (h.last ∷ [])) Refuses (rw ran.top h.refuses) ∙ rw ran.top refl)));
     }

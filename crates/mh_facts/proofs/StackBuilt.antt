@@ -42,11 +42,11 @@ first_before t r q (suc d) e h = absurd (omega arith)
 
 pub ready_before : (t : TableData) (f : Facts t) (r : ℕ) (x : Symbol) (u q d : ℕ) → length t.grammar.starts ≤ q → edge_of t r x ≡ Some u → InCore t u q (suc d) → EdgeBefore t r x q d
 ready_before t f r x u q d ordinary edge there =
-    let back = f.behind r x u q (suc d) edge there in
+    let back = f.moved_from r x u q (suc d) edge there in
     let e : suc d - 1 ≡ d = omega arith in
     record {
       symbol = rw e at back.symbol;
-      ready = elim back.begun [
+      ready = elim back.source [
         | inl before ↦ begun_before t f r q d ordinary (rw e at before)
         | inr first ↦ first_before t r q d first.0 first.2
       ];
@@ -161,8 +161,8 @@ some_core_of t f r u x e = first_of t u (state_at t u).core refl (f.filled u (f.
 pub same_symbols : (t : TableData) (f : Facts t) (r u : ℕ) (x y : Symbol) → edge_of t r x ≡ Some u → edge_of t r y ≡ Some u → x ≡ y
 same_symbols t f r u x y ex ey =
     let core = some_core_of t f r u x ex in
-    let bx = f.behind r x u core.0 core.1 ex core.2 in
-    let by = f.behind r y u core.0 core.1 ey core.2 in
+    let bx = f.moved_from r x u core.0 core.1 ex core.2 in
+    let by = f.moved_from r y u core.0 core.1 ey core.2 in
     let one = bx.symbol in
     let two = by.symbol in
     cc

@@ -1,4 +1,4 @@
--- Lemmas on the words of facts and their costs, up to the highest cost.
+-- Lemmas on the words of facts and their costs, where a cost above the cap counts as the cap.
 use Rattle.std.proofs.Common.{◌≡◌, ℕ, zero, suc, ◌+◌, ◌<◌, ◌≤◌, ◌⊎◌, inl, inr, List, [], ◌∷◌, ◌++◌, Some, None, Option, Bool, true, false, cond, refl, ap, sym, arith, ◌∙◌}
 use Rattle.std.specs.Prelude.{min, max}
 use Rattle.std.proofs.lemmas.Grind.{common_steps}
@@ -73,10 +73,9 @@ cost_le weigh u v (orders.CostLexLe.Lower a b) = inl (omega arith)
 pub label_laws : (t : TableData) → LabelOrderLaws (WordNoLater t) (CostsNoMore t)
 label_laws t =
     let by = cost_label_laws (weigh t) in
-    record { same = by.same; after = by.after; both = λ k l u v a b. by.both k l u v a (cost_le (weigh t) u v b); front = by.front }
+    record { reflexive = by.reflexive; transitive = by.transitive; monotone = λ k l u v a b. by.monotone k l u v a (cost_le (weigh t) u v b); prefix = by.prefix }
 
--- If a sum has the cost of its first part, below the highest cost, the second part costs 0; and a word of cost 0 is
--- empty.
+-- If a sum and its first summand are equal after both are cut at the cap, and below the cap, the second summand is 0.
 pub part_of_cost_zero : (a b sum level : ℕ) → level < cap → level ≡ min a cap → level ≡ min sum cap → sum ≡ a + b → b ≡ 0
 part_of_cost_zero a b sum level lt e g s = grind (arith, common_steps, lt, e, g, s)
 
@@ -102,8 +101,8 @@ no_lower_back a b le = grind (arith, common_steps, le)
 
 -- If one cost, taken up to the highest cost, is at most another, the first full cost is at most the second, or both
 -- reach the highest cost.
-pub least_of : (a b c d : ℕ) → c ≡ min a cap → d ≡ min b cap → c ≤ d → (a ≤ b) ⊎ ((cap ≤ a) × (cap ≤ b))
-least_of a b c d e g le = elim (cases_lt a cap) [
+pub order_from_capped : (a b c d : ℕ) → c ≡ min a cap → d ≡ min b cap → c ≤ d → (a ≤ b) ⊎ ((cap ≤ a) × (cap ≤ b))
+order_from_capped a b c d e g le = elim (cases_lt a cap) [
   | inl lt ↦ inl (grind (arith, common_steps, e, g, le, lt))
   | inr ge ↦ inr (ge, grind (arith, common_steps, e, g, le, ge))
 ]
@@ -132,55 +131,55 @@ cost_at_most_highest (x ∷ a) q g e = by (same_fact q x.0) e (cost_at_most_high
     by false e go = more_than x.1.cost (highest_cost a) g.cost (go e)
 
 -- A key that has a word has a stored fact.
-pub fact_of_word : (t : TableData) (facts : Facts) (tale : WordAssignment t facts) (k : FactKey) (v : List ℕ) → tale.words k ≡ Some v → (f : Fact) × (fact_at facts k ≡ Some f)
-fact_of_word t facts tale k v e = by (fact_at facts k) refl
+pub fact_of_word : (t : TableData) (facts : Facts) (word_assignment : WordAssignment t facts) (k : FactKey) (v : List ℕ) → word_assignment.words k ≡ Some v → (f : Fact) × (fact_at facts k ≡ Some f)
+fact_of_word t facts word_assignment k v e = by (fact_at facts k) refl
   where
     by : (o : Option Fact) → fact_at facts k ≡ o → (f : Fact) × (fact_at facts k ≡ Some f)
-    by None none = absurd (let n = tale.none k none in let y : None ≡ Some v = sym n ∙ e in cc)
+    by None none = absurd (let n = word_assignment.none k none in let y : None ≡ Some v = sym n ∙ e in cc)
     by (Some f) is = (f, is)
 
 -- A fact is added to a store with a word assignment.
-module _ (t : TableData) (facts : Facts) (tale : WordAssignment t facts) (k : FactKey) (f : Fact) (w : List ℕ) (fresh : fact_at facts k ≡ None) (by : WordBy t tale.words k f.back w) (cost_is : f.cost ≡ cost_up_to_cap t w) (short : f.cost ≡ 0 → w ≡ []) where
+module _ (t : TableData) (facts : Facts) (word_assignment : WordAssignment t facts) (k : FactKey) (f : Fact) (w : List ℕ) (fresh : fact_at facts k ≡ None) (by : WordBy t word_assignment.words k f.back w) (cost_is : f.cost ≡ cost_up_to_cap t w) (short : f.cost ≡ 0 → w ≡ []) where
   abbrev pub new_words : FactKey → Option (List ℕ)
-  new_words = with_value tale.words k (Some w)
+  new_words = with_value word_assignment.words k (Some w)
 
   abbrev pub new_sizes : FactKey → ℕ
   new_sizes = with_value (sizes_of facts) k (size_by (sizes_of facts) f.back)
 
-  pub none : tale.words k ≡ None
-  none = tale.none k fresh
+  pub none : word_assignment.words k ≡ None
+  none = word_assignment.none k fresh
 
-  pub other_than : (o : FactKey) (u : List ℕ) → tale.words o ≡ Some u → o ≡ k → ⊥
-  other_than o u e is = let n : tale.words o ≡ None = rw is none in let y : None ≡ Some u = sym n ∙ e in cc
+  pub other_than : (o : FactKey) (u : List ℕ) → word_assignment.words o ≡ Some u → o ≡ k → ⊥
+  other_than o u e is = let n : word_assignment.words o ≡ None = rw is none in let y : None ≡ Some u = sym n ∙ e in cc
 
-  pub words_kept : (o : FactKey) (u : List ℕ) → tale.words o ≡ Some u → new_words o ≡ Some u
-  words_kept o u e = put_other fact_keys tale.words k (Some w) o (other_than o u e) ∙ e
+  pub words_kept : (o : FactKey) (u : List ℕ) → word_assignment.words o ≡ Some u → new_words o ≡ Some u
+  words_kept o u e = put_other fact_keys word_assignment.words k (Some w) o (other_than o u e) ∙ e
 
   pub words_here : new_words k ≡ Some w
-  words_here = put_here fact_keys tale.words k (Some w)
+  words_here = put_here fact_keys word_assignment.words k (Some w)
 
-  pub words_only : (o : FactKey) (u : List ℕ) → new_words o ≡ Some u → (tale.words o ≡ Some u) ⊎ ((o ≡ k) × (u ≡ w))
-  words_only o u e = elim (put_cases fact_keys tale.words k (Some w) o) [
+  pub words_only : (o : FactKey) (u : List ℕ) → new_words o ≡ Some u → (word_assignment.words o ≡ Some u) ⊎ ((o ≡ k) × (u ≡ w))
+  words_only o u e = elim (put_cases fact_keys word_assignment.words k (Some w) o) [
     | inl here ↦ inr (here.0, option_unique (new_words o) u w e here.1)
     | inr was ↦ inl (sym was ∙ e)
   ]
 
-  sizes_kept : (o : FactKey) (u : List ℕ) → tale.words o ≡ Some u → new_sizes o ≡ (sizes_of facts) o
+  sizes_kept : (o : FactKey) (u : List ℕ) → word_assignment.words o ≡ Some u → new_sizes o ≡ (sizes_of facts) o
   sizes_kept o u e = put_other fact_keys (sizes_of facts) k (size_by (sizes_of facts) f.back) o (other_than o u e)
 
-  size_kept : (o : FactKey) (back : Back) (u : List ℕ) → WordBy t tale.words o back u → size_by new_sizes back ≡ size_by (sizes_of facts) back
+  size_kept : (o : FactKey) (back : Back) (u : List ℕ) → WordBy t word_assignment.words o back u → size_by new_sizes back ≡ size_by (sizes_of facts) back
   size_kept o backs.Empty u h = refl
   size_kept o (backs.Shifted path) u h = ap (λ (n : ℕ). n + 1) (sizes_kept path h.0 h.1)
   size_kept o (backs.Reduced path inner) u h = let a = sizes_kept path h.0 h.2 in let b = sizes_kept inner h.1 h.3 in rw (a, b) refl
 
-  pub old_fact_kept : (o : FactKey) (g : Fact) → IsFactOfWord t tale.words (sizes_of facts) o g → IsFactOfWord t new_words new_sizes o g
+  pub old_fact_kept : (o : FactKey) (g : Fact) → IsFactOfWord t word_assignment.words (sizes_of facts) o g → IsFactOfWord t new_words new_sizes o g
   old_fact_kept o g h = record {
     word = h.word;
     is = words_kept o h.word h.is;
     cost_is = h.cost_is;
     short = h.short;
-    by = word_kept t tale.words new_words o g.back h.word words_kept h.by;
-    size = rw (size_kept o g.back h.word h.by, sizes_kept o h.word h.is) h.size;
+    word_by = word_kept t word_assignment.words new_words o g.back h.word words_kept h.word_by;
+    size = rw (size_kept o g.back h.word h.word_by, sizes_kept o h.word h.is) h.size;
   }
 
   pub new_fact_of_word : IsFactOfWord t new_words new_sizes k f
@@ -189,7 +188,7 @@ module _ (t : TableData) (facts : Facts) (tale : WordAssignment t facts) (k : Fa
     is = words_here;
     cost_is = cost_is;
     short = short;
-    by = word_kept t tale.words new_words k f.back w words_kept by;
+    word_by = word_kept t word_assignment.words new_words k f.back w words_kept by;
     size = let e = put_here fact_keys (sizes_of facts) k (size_by (sizes_of facts) f.back) in let s = size_kept k f.back w by in omega (arith, e, s);
   }
 
@@ -197,8 +196,8 @@ module _ (t : TableData) (facts : Facts) (tale : WordAssignment t facts) (k : Fa
   abbrev pub assignment_with_fact : WordAssignment t (facts ++ (k, f) ∷ [])
   assignment_with_fact = record {
     words = new_words;
-    none = none_more fact_keys tale.words facts k f (Some w) tale.none;
-    some = each_more fact_keys (IsFactOfWord t new_words (sizes_of (facts ++ (k, f) ∷ []))) facts k f fresh (λ o g was. rw (sizes_more facts (k, f)) (old_fact_kept o g (tale.some o g was))) (rw (sizes_more facts (k, f)) new_fact_of_word);
+    none = none_more fact_keys word_assignment.words facts k f (Some w) word_assignment.none;
+    some = each_more fact_keys (IsFactOfWord t new_words (sizes_of (facts ++ (k, f) ∷ []))) facts k f fresh (λ o g was. rw (sizes_more facts (k, f)) (old_fact_kept o g (word_assignment.some o g was))) (rw (sizes_more facts (k, f)) new_fact_of_word);
   }
 
 -- A sum with a positive part is positive after it was cut to the cap.
@@ -240,7 +239,7 @@ one_word t facts a b (suc n) k u le e =
     let x = a.some k f.0 f.1 in
     let y = b.some k f.0 f.1 in
     let one : x.word ≡ u = option_unique (a.words k) x.word u x.is e in
-    let same : y.word ≡ x.word = same_by t a.words b.words (sizes_of facts) n (one_word t facts a b n) k f.0.back x.word y.word (let s = x.size in omega arith) x.by y.by in
+    let same : y.word ≡ x.word = same_by t a.words b.words (sizes_of facts) n (one_word t facts a b n) k f.0.back x.word y.word (let s = x.size in omega arith) x.word_by y.word_by in
     y.is ∙ ap (λ (w : List ℕ). Some w) (same ∙ one)
 
 -- The word assignment of a store is unique.

@@ -49,6 +49,6 @@ pub struct GotoFact {
 pub struct SearchData {
     pub queue: Queue<QueuedFact>,
     pub paths: Vec<Vec<SettledFact>>,
-    pub wholes: Vec<Vec<CompletePath>>,
+    pub complete_paths: Vec<Vec<CompletePath>>,
     pub known: HashSet<GotoFact>,
 }

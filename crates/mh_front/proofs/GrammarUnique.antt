@@ -14,7 +14,7 @@ use Rattle.mh_grammar.specs.Text.{Text}
 use Rattle.mh_join_names.specs.Names.{files}
 use Rattle.mh_join_names.specs.Faults.{meanings, undefined_in_file, errors_in_file, unlevelled_in_file, many_tokens, other_faults, duplicates, join_faults, first, has_some, unless}
 use Rattle.mh_join_names.specs.Joining.{Joins}
-use Rattle.mh_rules.specs.declared.joined.TheConstants.{MAX_TOKENS}
+use Rattle.mh_rules.specs.Limits.{max_tokens}
 use Rattle.mh_rules.specs.Ready.{AreModulesReady, IsExpandedReady}
 use Rattle.mh_join.proofs.JoinedReady as joins
 use Rattle.mh_expand.specs.declared.fault.ExpandFault.{ExpandFault}
@@ -24,7 +24,7 @@ use Rattle.mh_expand.proofs.UniqueOrder as order
 use Rattle.mh_expand.proofs.InstancesInRange.{IsExpandedReady-expanded}
 use Rattle.mh_expand.proofs.HasSameSentences.{has_same_sentences}
 use Rattle.mh_inline.specs.declared.fault.InlineFault.{InlineFault}
-use Rattle.mh_inline.specs.Kept.{number_of}
+use Rattle.mh_inline.specs.Kept.{nonterminal_number}
 use Rattle.mh_inline.specs.Faults.{IsGrammarOf, IsFault}
 use Rattle.mh_inline.proofs.UniqueGrammar as only
 use Rattle.mh_inline.proofs.Ranges as ranges
@@ -64,7 +64,7 @@ module _ (j : Joined) where
   one_inlining : (e f : InlineFault) → IsInstancesFault j e → IsInstancesFault j f → e ≡ f
   one_inlining e f a b =
       let same = order.expanded_unique j b.expanded a.expanded b.expands a.expands in
-      only.one_fault a.expanded e f a.faulty (subst (λ x. IsFault x f) same b.faulty) a.told b.told
+      only.one_fault a.expanded e f a.is_fault (subst (λ x. IsFault x f) same b.is_fault) a.not_memory b.not_memory
 
   one_joined_fault : (e f : GrammarFault) → IsJoinedFault j e → IsJoinedFault j f → e ≡ f
   one_joined_fault e f a b = elim (stage j e a) [
@@ -83,7 +83,7 @@ module _ (j : Joined) where
     | inl x ↦ order.expanded_has_no_fault j a.expanded a.expands x.fault x.first
     | inr x ↦ (
         let same = order.expanded_unique j x.faulty.expanded a.expanded x.faulty.expands a.expands in
-        only.grammar_excludes_fault a.expanded g x.fault a.grammar (subst (λ e. IsFault e x.fault) same x.faulty.faulty) x.faulty.told
+        only.grammar_excludes_fault a.expanded g x.fault a.grammar (subst (λ e. IsFault e x.fault) same x.faulty.is_fault) x.faulty.not_memory
         )
   ]
 
@@ -120,17 +120,17 @@ module _ (p : Bool) (ms : List Module) where
       | inl y ↦ absurd (no_join_fault x.joined y.fault x.joins y.is_first)
       | inr y ↦ (
           let same = joins.one_joined p ms y.joined x.joined y.joins x.joins in
-          one_joined_fault x.joined e f x.faulty (subst (λ j. IsJoinedFault j f) same y.faulty)
+          one_joined_fault x.joined e f x.is_fault (subst (λ j. IsJoinedFault j f) same y.is_fault)
           )
     ]
   ]
 
-  pub grammar_or_fault : (g : Grammar) (f : GrammarFault) → IsGrammarOfModules p ms g → IsGrammarFault p ms f → ⊥
-  grammar_or_fault g f a b = elim (stage_of_modules f b) [
+  pub not_grammar_and_fault : (g : Grammar) (f : GrammarFault) → IsGrammarOfModules p ms g → IsGrammarFault p ms f → ⊥
+  not_grammar_and_fault g f a b = elim (stage_of_modules f b) [
     | inl x ↦ no_join_fault a.joined x.fault a.joins x.is_first
     | inr x ↦ (
         let same = joins.one_joined p ms x.joined a.joined x.joins a.joins in
-        joined_or_fault a.joined g f a.grammar (subst (λ j. IsJoinedFault j f) same x.faulty)
+        joined_or_fault a.joined g f a.grammar (subst (λ j. IsJoinedFault j f) same x.is_fault)
         )
   ]
 
@@ -150,7 +150,7 @@ module _ (p : Bool) (ms : List Module) where
       let some = some_start w.starts named in
       let of_joined = sym (length-map j.starts Some) ∙ ap length o.joins.1.starts_are ∙ length-map w.starts (w.numbers.rule None) in
       let of_expanded = (has_same_sentences j e o.grammar.expands).starts in
-      let of_grammar = ap length o.grammar.grammar.inlined.starts ∙ length-map e.starts (number_of e.instances) in
+      let of_grammar = ap length o.grammar.grammar.inlined.starts ∙ length-map e.starts (nonterminal_number e.instances) in
       omega arith
 
   module _ (g : Grammar) (some : AreModulesReady ms) (o : IsGrammarOfModules p ms g) where
@@ -161,16 +161,16 @@ module _ (p : Bool) (ms : List Module) where
         let x = o.grammar.expands in
         IsExpandedReady-expanded j e x (joins.ready p ms j some o.joins) (few_instances j e x)
 
-    pub few_tokens : length g.tokens ≤ MAX_TOKENS
+    pub few_tokens : length g.tokens ≤ max_tokens
     few_tokens =
         let same = ap length (o.grammar.grammar.inlined.tokens ∙ o.grammar.expands.tokens) in
-        subst (λ n. n ≤ MAX_TOKENS) (sym same) (joins.ready p ms o.joined some o.joins).few_tokens
+        subst (λ n. n ≤ max_tokens) (sym same) (joins.ready p ms o.joined some o.joins).few_tokens
 
     pub have_costs : HaveCosts g.tokens
     have_costs = subst HaveCosts (sym o.grammar.grammar.inlined.tokens) expanded_ready.costs
 
     pub in_range : IsInRange (plain_of g)
-    in_range = let i = o.grammar.grammar in ranges.in_range o.grammar.expanded expanded_ready i.kept g i.inlined i.small
+    in_range = let i = o.grammar.grammar in ranges.in_range o.grammar.expanded expanded_ready i.kept g i.inlined i.within_limits
 
     pub distinct : AreDistinct g.starts
     distinct = let i = o.grammar.grammar in subst AreDistinct (sym i.inlined.starts) (ranges.distinct_starts o.grammar.expanded expanded_ready i.kept)

@@ -1,3 +1,13 @@
 pub mod StageFaults
 pub mod SentencesKept
 pub mod GrammarUnique
+pub mod NamesResolve
+pub mod DefinitionsAre
+pub mod JoinedOrFault
+pub mod DecidedTerms
+pub mod ExpansionSearch
+pub mod ExpandedOrFault
+pub mod InlineOrder
+pub mod SomeUnfoldings
+pub mod SomeInlined
+pub mod SomeGrammar

@@ -37,14 +37,14 @@ expand_fault j (expanding.Expansion name) h = h
 expand_fault j expanding.Memory h = tt
 
 pub inline_fault : (j : Joined) (e : Expanded) (f : InlineFault) → IsExpanded j e → IsFault e f → HasCauseOrMemory (IsJoinedFault j) (of_inline f)
-inline_fault j e (inlining.InlineCycle instance) x h = record { expanded = e; expands = x; faulty = h; told = tt }
-inline_fault j e (inlining.InlineStart name) x h = record { expanded = e; expands = x; faulty = h; told = tt }
-inline_fault j e inlining.TooManyProductions x h = record { expanded = e; expands = x; faulty = h; told = tt }
-inline_fault j e (inlining.EmptyLanguage name) x h = record { expanded = e; expands = x; faulty = h; told = tt }
+inline_fault j e (inlining.InlineCycle instance) x h = record { expanded = e; expands = x; is_fault = h; not_memory = tt }
+inline_fault j e (inlining.InlineStart name) x h = record { expanded = e; expands = x; is_fault = h; not_memory = tt }
+inline_fault j e inlining.TooManyProductions x h = record { expanded = e; expands = x; is_fault = h; not_memory = tt }
+inline_fault j e (inlining.EmptyLanguage name) x h = record { expanded = e; expands = x; is_fault = h; not_memory = tt }
 inline_fault j e inlining.Memory x h = tt
 
 pub later_fault : (p : Bool) (ms : List Module) (j : Joined) (f : GrammarFault) → Joins p ms (Ok j) → HasCauseOrMemory (IsJoinedFault j) f → HasCauseOrMemory (IsGrammarFault p ms) f
 later_fault p ms j (Join fault) x h = absurd h
-later_fault p ms j (Expand fault) x h = record { joined = j; joins = x; faulty = h }
-later_fault p ms j (Inline fault) x h = record { joined = j; joins = x; faulty = h }
+later_fault p ms j (Expand fault) x h = record { joined = j; joins = x; is_fault = h }
+later_fault p ms j (Inline fault) x h = record { joined = j; joins = x; is_fault = h }
 later_fault p ms j Memory x h = tt

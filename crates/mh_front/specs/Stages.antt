@@ -45,8 +45,8 @@ pub record IsGrammarOfJoined (j : Joined) (g : Grammar) : Type 0 where
 pub record IsInstancesFault (j : Joined) (fault : InlineFault) : Type 0 where
   pub expanded : Expanded
   pub expands : IsExpanded j expanded
-  pub faulty : IsFault expanded fault
-  pub told : IsNotMemory fault
+  pub is_fault : IsFault expanded fault
+  pub not_memory : IsNotMemory fault
 
 -- The first fault of expansion, or the first fault of the instances. Joined rules have no other faults, and lack of
 -- memory is not their fault.
@@ -71,7 +71,7 @@ IsJoinFault prelude modules fault = first (join_faults prelude modules) ≡ Some
 pub record IsLaterFault (prelude : Bool) (modules : List Module) (fault : GrammarFault) : Type 0 where
   pub joined : Joined
   pub joins : Joins prelude modules (Ok joined)
-  pub faulty : IsJoinedFault joined fault
+  pub is_fault : IsJoinedFault joined fault
 
 -- The fault of the first stage that has one. Lack of memory is not a fault of the modules.
 abbrev pub IsGrammarFault : Bool → List Module → GrammarFault → Type 0

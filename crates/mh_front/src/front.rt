@@ -6,13 +6,14 @@ ghost use Rattle.mh_grammar.specs.Plain.{plain_of, IsInRange};
 ghost use Rattle.mh_rules.specs.Ready.{AreModulesReady, IsJoinedReady};
 ghost use Rattle.mh_front.specs.Stages.{HasCauseOrMemory, IsGrammarOfJoined, IsGrammarOfModules, IsJoinedFault, IsGrammarFault};
 ghost use Rattle.mh_front.specs.Sentences.{HasSentencesOfModules};
+ghost use Rattle.mh_rules.specs.Limits.{max_tokens};
 
 use crate::fault::GrammarFault;
 use mh_expand::expand;
 use mh_grammar::Grammar;
 use mh_inline::inline_rules;
 use mh_join::join;
-use mh_rules::{Joined, MAX_TOKENS, Module};
+use mh_rules::{Joined, Module};
 use std::alloc::Global;
 
 /// Returns the grammar of joined rules.
@@ -41,7 +42,7 @@ pub fn grammar_of(alloc: Global, modules: &[Module], prelude: bool) -> Result<Gr
     requires { AreModulesReady modules.now }
     ensures grammar { IfOk result (IsGrammarOfModules prelude modules.now) }
     ensures fault { IfErr result (HasCauseOrMemory (IsGrammarFault prelude modules.now)) }
-    ensures tokens { IfOk result (λ g. length g.tokens ≤ MAX_TOKENS) }
+    ensures tokens { IfOk result (λ g. length g.tokens ≤ max_tokens) }
     ensures range { IfOk result (λ g. IsInRange (plain_of g)) }
     ensures costs { IfOk result (λ g. HaveCosts g.tokens) }
     ensures distinct { IfOk result (λ g. AreDistinct g.starts) }

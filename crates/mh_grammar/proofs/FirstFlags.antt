@@ -40,18 +40,18 @@ AreSoundFlags-set g width flags n a l f h = record {
 pub record SideSoFar (nullable : List Bool) (width : ℕ) (old new : List Bool) (lhs : ℕ) (symbols : List Symbol) (grown : Bool) (rest : List Symbol) : Type 0 where
   pub grows : Grows old new grown
   pub sound : (g : PlainGrammar) → NullableSound g nullable → ((a : ℕ) → FirstOf g symbols a → First g (N lhs) a) → AreSoundFlags g width old → AreSoundFlags g width new
-  pub front : (g : PlainGrammar) → NullableSound g nullable → (a : ℕ) → FirstOf g rest a → FirstOf g symbols a
+  pub rest_first : (g : PlainGrammar) → NullableSound g nullable → (a : ℕ) → FirstOf g rest a → FirstOf g symbols a
   pub added : grown ≡ false → HasStringFirst nullable width new lhs rest → HasStringFirst nullable width new lhs symbols
 
 pub SideSoFar-start : (nullable : List Bool) (width : ℕ) (old : List Bool) (lhs : ℕ) (symbols : List Symbol) → SideSoFar nullable width old old lhs symbols false symbols
-SideSoFar-start nullable width old lhs symbols = record { grows = Grows-refl old; sound = λ ps n f s. s; front = λ ps n a f. f; added = λ e h. h }
+SideSoFar-start nullable width old lhs symbols = record { grows = Grows-refl old; sound = λ ps n f s. s; rest_first = λ ps n a f. f; added = λ e h. h }
 
 module _ (nullable : List Bool) (width : ℕ) (old new newer : List Bool) (lhs : ℕ) (symbols : List Symbol) (grown more : Bool) (X : Symbol) (rest : List Symbol)
     (h : SideSoFar nullable width old new lhs symbols grown (X ∷ rest)) (g : Grows new newer more)
     (s : (k : PlainGrammar) → ((a : ℕ) → First k X a → First k (N lhs) a) → AreSoundFlags k width new → AreSoundFlags k width newer)
     (i : more ≡ false → HasSymbolFirst width newer lhs X) where
   pub step_sound : (g : PlainGrammar) → NullableSound g nullable → ((a : ℕ) → FirstOf g symbols a → First g (N lhs) a) → AreSoundFlags g width old → AreSoundFlags g width newer
-  step_sound ps n f k = s ps (λ a x. f a (h.front ps n a (first.FirstOf.here x))) (h.sound ps n f k)
+  step_sound ps n f k = s ps (λ a x. f a (h.rest_first ps n a (first.FirstOf.here x))) (h.sound ps n f k)
 
   step_added : (grown || more) ≡ false → (mark_of false nullable X ≡ true → HasStringFirst nullable width newer lhs rest) → HasStringFirst nullable width newer lhs symbols
   step_added e k = let both = or_parts grown more e in let same = g.same both.1 in
@@ -61,7 +61,7 @@ module _ (nullable : List Bool) (width : ℕ) (old new newer : List Bool) (lhs :
   SideSoFar-step m = record {
     grows = Grows-trans old new newer grown more h.grows g;
     sound = step_sound;
-    front = λ ps n a f. h.front ps n a (first.FirstOf.past (n.sound X m) f);
+    rest_first = λ ps n a f. h.rest_first ps n a (first.FirstOf.past (n.sound X m) f);
     added = λ e k. step_added e (λ _. k);
   }
 

@@ -17,7 +17,8 @@ not_more : (g : Bool) (a b : List Bool) → Grows a b g → count_by not b ≤ c
 not_more true a b h = omega (arith, h.fewer refl)
 not_more false a b h = let e = ap (count_by not) (h.same refl) in omega arith
 
--- Two changes in sequence are one change.
+-- If a table grows into a second one, and this one into a third, then the first table grows into the third; some flag
+-- is new if one was in either step.
 pub Grows-trans : (a b c : List Bool) (g h : Bool) → Grows a b g → Grows b c h → Grows a c (g || h)
 Grows-trans a b c true true p q = let le = not_more true b c q in let le' = not_more true a b p in record { len = q.len ∙ p.len; same = λ e. cc; fewer = λ e. omega (arith, q.fewer refl) }
 Grows-trans a b c false true p q = let le' = not_more false a b p in record { len = q.len ∙ p.len; same = λ e. cc; fewer = λ e. omega (arith, q.fewer refl) }

@@ -163,8 +163,8 @@ module _ {X : Type 0} (Next : X → List X → Type 0) (starts states : List X) 
         distinct = AllPlaced-distinct states new xs row p w.distinct;
         short = omega (arith, length_push targets row, within, ap length grows.1, length-append states grows.0);
         rows = rows_pushed (IsTargetRow Next states) (IsTargetRow Next new) states new targets x row w.short kept at
-            (λ y s was. record { items = was.items; next = was.next; names = AreNumbersOf-kept states new kept s was.items was.names })
-            (record { items = xs; next = next; names = AllPlaced-numbers states new xs row p }) w.rows;
+            (λ y s was. record { items = was.items; next = was.next; numbers = AreNumbersOf-kept states new kept s was.items was.numbers })
+            (record { items = xs; next = next; numbers = AllPlaced-numbers states new xs row p }) w.rows;
         order = rw (concat-append, append-nil row) (InFirstSightOrder-append (length starts) (concat targets) row (length states) (length new) w.order (AllPlaced-order states new xs row p));
       }
 
@@ -178,7 +178,7 @@ module _ {X : Type 0} (Next : X → List X → Type 0) (starts states : List X) 
         let row = get_or targets at.0 [] in
         let behind = w.rows at.0 y row at.1 (slice_get-get_or targets at.0 [] m) in
         let to = at_contains behind.items x (one y x ys behind.items n behind.next c) in
-        AreNumbersOf-contains states row behind.items to.0 x behind.names to.1
+        AreNumbersOf-contains states row behind.items to.0 x behind.numbers to.1
 
     pub IsNumbering-done : IsNumbering Next starts states targets
     IsNumbering-done = record {

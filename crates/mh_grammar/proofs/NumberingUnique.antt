@@ -132,7 +132,7 @@ module _ {X : Type 0} (Next : X → List X → Type 0) (one : (x : X) (a b : Lis
       let behind = w.rows before.0 y row.0 before.2 row.1 in
       let same : zs ≡ behind.items = one y zs behind.items n behind.next in
       let found = at_contains behind.items x (rw same at c) in
-      let number = number_at xs row.0 behind.items found.0 x behind.names found.1 in
+      let number = number_at xs row.0 behind.items found.0 x behind.numbers found.1 in
       let inside = in_rows ts s before.0 row.0 number.0 (omega (arith, before.1)) row.1 (contains_at row.0 found.0 number.0 number.1) in
       let place = at_contains (concat (take s ts)) number.0 inside in
       (number.0, InFirstSightOrder-below (length starts) (concat (take s ts)) m place.0 number.0 o place.1, number.2)
@@ -188,7 +188,7 @@ module _ {X : Type 0} (Next : X → List X → Type 0) (one : (x : X) (a b : Lis
         let items : behind_other.items ≡ behind.items = one x.0 behind_other.items behind.items behind_other.next behind.next in
         let order = row_order xs ts w s m row.0 row.1 before.first in
         let order_other = row_order ys us v s m other.0 other.1 (rw before.rows at before.first) in
-        let step = row_same xs ys w.distinct v.distinct m before.same behind.items row.0 other.0 behind.names (rw items at behind_other.names) order.0 order_other.0 order.1 order_other.1 in
+        let step = row_same xs ys w.distinct v.distinct m before.same behind.items row.0 other.0 behind.numbers (rw items at behind_other.numbers) order.0 order_other.0 order.1 order_other.1 in
         record {
           found = order.0;
           first = rw (concat_take_next ts s row.0 row.1) (InFirstSightOrder-append (length starts) (concat (take s ts)) row.0 m order.0 before.first order.1);

@@ -57,8 +57,8 @@ module _ {X : Type 0} (states : List X) where
 pub IsNumbering-few : {X : Type 0} (Next : X → List X → Type 0) (starts states : List X) (targets : List (List ℕ)) (limit : ℕ) → IsNumbering Next starts states targets → length states ≤ limit → ReachesMoreThan Next starts limit → ⊥
 IsNumbering-few Next starts states targets limit n l o =
     let le = length-distinct_in states o.some o.distinct (λ x c. (n.reached x).1 (rw c.2 at (o.reached c.0 x c.1))) in
-    omega (arith, o.over)
+    omega (arith, o.exceeds)
 
 -- A list of more distinct reached items than the limit proves that more are reached.
 pub ReachesMoreThan-walk : {X : Type 0} (Next : X → List X → Type 0) (starts states : List X) (limit : ℕ) → All (Reached Next starts) states → AreDistinct states → limit < length states → ReachesMoreThan Next starts limit
-ReachesMoreThan-walk Next starts states limit r d o = record { some = states; reached = r; distinct = d; over = o }
+ReachesMoreThan-walk Next starts states limit r d o = record { some = states; reached = r; distinct = d; exceeds = o }

@@ -12,12 +12,13 @@ use Rattle.mh_grammar.specs.FlagTable.{flag}
 pub record AreSoundFlags (g : PlainGrammar) (width : ℕ) (flags : List Bool) : Type 0 where
   pub sound : (n a : ℕ) → a < width → flag width flags n a ≡ true → First g (N n) a
 
--- The row of nonterminal n has FIRST of the symbol, as far as the table has it.
+-- The row of nonterminal n has the flag of the token, or all flags in the row of the nonterminal m.
 abbrev pub HasSymbolFirst : ℕ → List Bool → ℕ → Symbol → Type 0
 HasSymbolFirst width flags n (T a) = flag width flags n a ≡ true
 HasSymbolFirst width flags n (N m) = (a : ℕ) → a < width → flag width flags m a ≡ true → flag width flags n a ≡ true
 
--- The row of nonterminal n has FIRST of the string of symbols, as far as the table has it.
+-- The row of nonterminal n has the flags of the first symbol of the string; and if this symbol is nullable, also those
+-- of the string after it.
 abbrev pub HasStringFirst : List Bool → ℕ → List Bool → ℕ → List Symbol → Type 0
 HasStringFirst nullable width flags n [] = Unit {0}
 HasStringFirst nullable width flags n (X ∷ Xs) = HasSymbolFirst width flags n X × (mark_of false nullable X ≡ true → HasStringFirst nullable width flags n Xs)

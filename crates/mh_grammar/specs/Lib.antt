@@ -1,3 +1,4 @@
+pub mod Limits
 pub mod Costs
 pub mod Derivations
 pub mod Edges
@@ -14,3 +15,4 @@ pub mod WordOrder
 pub mod FirstFlags
 pub mod FlagTable
 pub mod Marked
+pub mod code

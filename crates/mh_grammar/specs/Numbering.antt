@@ -11,8 +11,8 @@ pub data Reached {X : Type 0} (Next : X → List X → Type 0) (starts : List X)
 pub record AreDistinct {X : Type 0} (xs : List X) : Type 0 where
   pub same : (i j : ℕ) (x : X) → slice_get xs i ≡ Some x → slice_get xs j ≡ Some x → i ≡ j
 
--- Numbers in order of first sight, from the next new number n to the next new number m: each number is known already,
--- or is the next new one.
+-- Numbers in order of first sight: each is less than the next new number, or is the next new number, which then grows
+-- by 1. The next new number is n before the list and m after it.
 abbrev pub InFirstSightOrder : ℕ → List ℕ → ℕ → Type 0
 InFirstSightOrder n [] m = n ≡ m
 InFirstSightOrder n (t ∷ ts) m = ((t < n) × InFirstSightOrder n ts m) ⊎ ((t ≡ n) × InFirstSightOrder (n + 1) ts m)
@@ -25,7 +25,7 @@ AreNumbersOf states row xs = AllZip (λ n x. slice_get states n ≡ Some x) row 
 pub record IsTargetRow {X : Type 0} (Next : X → List X → Type 0) (states : List X) (x : X) (row : List ℕ) : Type 0 where
   pub items : List X
   pub next : Next x items
-  pub names : AreNumbersOf states row items
+  pub numbers : AreNumbersOf states row items
 
 -- The items that the starts reach, each once, numbered breadth-first; the rows give the numbers of the items that each
 -- leads to (textbook).
@@ -42,4 +42,4 @@ pub record ReachesMoreThan {X : Type 0} (Next : X → List X → Type 0) (starts
   pub some : List X
   pub reached : All (Reached Next starts) some
   pub distinct : AreDistinct some
-  pub over : limit < length some
+  pub exceeds : limit < length some

@@ -8,7 +8,7 @@ use Rattle.mh_grammar.specs.declared.types.Look.{Look}
 use Rattle.mh_grammar.specs.declared.types.Look.TheVariants.{Token, End}
 use Rattle.mh_grammar.specs.declared.types.Production.{Production}
 use Rattle.mh_grammar.specs.declared.types.Grammar.{Grammar}
-use Rattle.mh_grammar.specs.declared.types.TheConstants.{MAX_NUMBERED}
+use Rattle.mh_grammar.specs.Limits.{max_numbered}
 use Rattle.mh_grammar.specs.Derivations.{Derivation, Derivations}
 
 -- The number of tokens, the number of nonterminals, the nonterminal of each start, and the ordinary productions.
@@ -89,8 +89,8 @@ pub record IsProductionBelow (tokens nonterminals : ℕ) (p : Production) : Type
 pub record IsInRange (g : PlainGrammar) : Type 0 where
   pub productions : All (IsProductionBelow g.tokens g.nonterminals) g.productions
   pub starts : All (λ s. s < g.nonterminals) g.starts
-  pub tokens : g.tokens ≤ MAX_NUMBERED
-  pub nonterminals : g.nonterminals ≤ MAX_NUMBERED
-  pub few_starts : length g.starts ≤ MAX_NUMBERED
+  pub tokens : g.tokens ≤ max_numbered
+  pub nonterminals : g.nonterminals ≤ max_numbered
+  pub few_starts : length g.starts ≤ max_numbered
   pub short : All (λ (p : Production). length p.rhs < 2 ^ 32) g.productions
   pub few : production_count g < 2 ^ 32

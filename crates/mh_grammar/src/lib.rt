@@ -15,6 +15,7 @@ mod names;
 mod range;
 mod sequence;
 mod types;
+mod worklist;
 
 pub use edges::{Edge, find_edge};
 pub use firsts::first;

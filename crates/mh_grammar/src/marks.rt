@@ -6,6 +6,7 @@ ghost use Rattle.mh_grammar.specs.Plain.{plain_of, IsInRange, IsSymbolBelow, IsP
 ghost use Rattle.mh_grammar.specs.Marked.{mark_of, all_marked, AreSound, AreClosed, AreMarks, HasMark};
 
 use crate::types::{Grammar, Memory, Production, Symbol};
+use crate::worklist::mark_all;
 use std::alloc::Global;
 
 /// Returns, for each nonterminal, whether it derives the empty word. It fails only for lack of memory.
@@ -34,6 +35,7 @@ fn least_marks(alloc: Global, grammar: &Grammar, tokens: bool) -> Result<Vec<boo
     ensures least { IfOk result (λ v. AreMarks tokens grammar.now.productions v.items) }
 {
     let mut marks = vec![in alloc; false; grammar.nonterminals.len()]?;
+    mark_all(alloc, grammar, tokens, &mut marks)?;
     let mut changed = true;
     while changed {
         changed = mark_once(tokens, grammar.productions.as_slice(), &mut marks);
@@ -62,7 +64,7 @@ fn mark_once(tokens: bool, productions: &[Production], marks: &mut [bool]) -> bo
 }
 
 /// Marks the left side of a production whose symbols are all marked, and returns whether the mark is new.
-fn mark_left_side(tokens: bool, production: &Production, marks: &mut [bool]) -> bool
+pub(crate) fn mark_left_side(tokens: bool, production: &Production, marks: &mut [bool]) -> bool
     requires { IsProductionBelow (2 ^ 16) (length marks.old) production.now }
     ensures grows { Grows marks.old marks.new result }
     ensures sound { (ps : List Production) (k : ℕ) → slice_get ps k ≡ Some production.now → AreSound tokens ps marks.old → AreSound tokens ps marks.new }

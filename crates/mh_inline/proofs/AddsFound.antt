@@ -17,7 +17,7 @@ use Rattle.mh_inline.specs.code.FoundInstances.{FlagsMatchQueue, AddsFound, IsFo
 use Rattle.mh_inline_unfold.proofs.Occurrences.{among_one, one_among, kept_none, among_cases, among_front, among_last, in_cases, in_front, in_last, occurs_if_used, used_if_occurs}
 
 pub AddsFound-none : (P : ℕ → Type 0) (f : FoundInstances) → FlagsMatchQueue f → ((m : ℕ) → P m → ⊥) → AddsFound P f f
-AddsFound-none P f q none = record { len = refl; sets = q; room = refl; kept = λ i m e. e; origin = λ m c. inl c; added = λ m p. absurd (none m p) }
+AddsFound-none P f q none = record { len = refl; sets = q; measure = refl; kept = λ i m e. e; origin = λ m c. inl c; added = λ m p. absurd (none m p) }
 
 pub kept_contains : (old new : FoundInstances) → ((i m : ℕ) → slice_get old.queue.items i ≡ Some m → slice_get new.queue.items i ≡ Some m) → (m : ℕ) → Contains old.queue.items m → Contains new.queue.items m
 kept_contains old new kept m c = let at = at_contains old.queue.items m c in contains_at new.queue.items at.0 m (kept at.0 m at.1)
@@ -27,7 +27,7 @@ pub AddsFound-then : (P Q R : ℕ → Type 0) (a b c : FoundInstances) → AddsF
 AddsFound-then P Q R a b c h k split left right = record {
   len = k.len ∙ h.len;
   sets = k.sets;
-  room = k.room ∙ h.room;
+  measure = k.measure ∙ h.measure;
   kept = λ i m e. k.kept i m (h.kept i m e);
   origin = λ m e. elim (k.origin m e) [ inl f ↦ elim (h.origin m f) [ inl d ↦ inl d | inr x ↦ inr (left m x) ] | inr x ↦ inr (right m x) ];
   added = λ m r. elim (split m r) [ inl x ↦ kept_contains b c k.kept m (h.added m x) | inr x ↦ k.added m x ];
@@ -37,7 +37,7 @@ pub AddsFound-same : (P R : ℕ → Type 0) (a b : FoundInstances) → AddsFound
 AddsFound-same P R a b h back over = record {
   len = h.len;
   sets = h.sets;
-  room = h.room;
+  measure = h.measure;
   kept = h.kept;
   origin = λ m e. elim (h.origin m e) [ inl d ↦ inl d | inr x ↦ inr (over m x) ];
   added = λ m r. h.added m (back m r);
@@ -57,7 +57,7 @@ AddsFound-new old new n q l unset flags queue = record {
       | inr e ↦ rw (← e) (get_or-set_same old.flags.items n true false l)
     ]);
   };
-  room = (let f = unmarked_falls old.flags.items n l unset in let k = ap (count_by not) flags in let e = ap length queue ∙ length_push old.queue.items n in omega arith);
+  measure = (let f = unmarked_falls old.flags.items n l unset in let k = ap (count_by not) flags in let e = ap length queue ∙ length_push old.queue.items n in omega arith);
   kept = λ i m e. rw queue (get_left old.queue.items (n ∷ []) i m e);
   origin = λ m c. elim (Contains-push_cases old.queue.items n m (rw queue at c)) [ inl d ↦ inl d | inr e ↦ inr (sym e) ];
   added = λ m e. rw (queue, e) (Contains-push old.queue.items n);
@@ -65,7 +65,7 @@ AddsFound-new old new n q l unset flags queue = record {
 
 -- The addition of an instance that has been found already.
 pub AddsFound-there : (f : FoundInstances) (n : ℕ) → FlagsMatchQueue f → get_or f.flags.items n false ≡ true → AddsFound (IsEqualTo n) f f
-AddsFound-there f n q e = record { len = refl; sets = q; room = refl; kept = λ i m at. at; origin = λ m c. inl c; added = λ m s. rw s (q.queued n e) }
+AddsFound-there f n q e = record { len = refl; sets = q; measure = refl; kept = λ i m at. at; origin = λ m c. inl c; added = λ m s. rw s (q.queued n e) }
 
 no_flag : (n m : ℕ) → get_or (replicate n false) m false ≡ false
 no_flag zero m = refl

@@ -13,7 +13,7 @@ use Rattle.mh_inline_unfold.proofs.InlineProducers.{inline_instance}
 
 module _ (is : List Instance) (ranks : List ℕ) where
   made_by : (n m : ℕ) → Inlines is n m → UsesInline is n m
-  made_by n m x = record { place = x.place; production = x.production; alternative = x.alternative; among = record { producer = x.producer; at = x.at; used = x.used } }
+  made_by n m x = record { place = x.place; production = x.production; alternative = x.alternative; among = record { producer = x.producer; at = x.at; used = x.used_inlined } }
 
   lower : (n m : ℕ) → AreRanked is ranks → IsRankedAbove is ranks n (slice_index_or ranks n 0) → Reaches is n m → slice_index_or ranks m 0 < slice_index_or ranks n 0
   lower n m right above (one x) = above.each m (made_by n m x)
@@ -30,11 +30,11 @@ module _ (is : List Instance) (ranks : List ℕ) where
   ranked_by n bound h above = record { each = λ m x. let a = above.each m (made_by n m x) in omega arith }
 
   pub ranked_kept : (n : ℕ) → is_inlined is n ≡ false → IsRanked is ranks n
-  ranked_kept n e = record { each = λ m x. absurd (false≢true (sym e ∙ x.user)) }
+  ranked_kept n e = record { each = λ m x. absurd (false≢true (sym e ∙ x.user_inlined)) }
 
-  -- It is enough that the numbers of instances have ranks.
+  -- All numbers are ranked if the numbers below the number of instances are ranked.
   pub all_ranked : ((n : ℕ) → n < length is → IsRanked is ranks n) → AreRanked is ranks
-  all_ranked h n = record { each = λ m x. (h n (inline_instance is n x.user).within).each m x }
+  all_ranked h n = record { each = λ m x. (h n (inline_instance is n x.user_inlined).within).each m x }
 
 -- An empty list of ranks gives all instances the same rank.
 pub none_ranked : (is : List Instance) → AreRanked is []

@@ -45,12 +45,12 @@ numbers_at (suc n) r l = elim (cases_eq r n) [
 
 module _ (is : List Instance) where
   pub reaches_user : (n m : ℕ) → Reaches is n m → is_inlined is n ≡ true
-  reaches_user n m (instances.Reaches.one i) = i.user
+  reaches_user n m (instances.Reaches.one i) = i.user_inlined
   reaches_user n m (instances.Reaches.more r i) = reaches_user n _ r
 
   pub reaches_used : (n m : ℕ) → Reaches is n m → is_inlined is m ≡ true
-  reaches_used n m (instances.Reaches.one i) = i.used
-  reaches_used n m (instances.Reaches.more r i) = i.used
+  reaches_used n m (instances.Reaches.one i) = i.used_inlined
+  reaches_used n m (instances.Reaches.more r i) = i.used_inlined
 
   -- The first step of a path.
   record FirstStep (n m : ℕ) : Type 0 where
@@ -121,10 +121,10 @@ module _ (is : List Instance) where
     pub steps : (i m k : ℕ) → i < done → slice_get f.queue.items i ≡ Some m → Inlines is m k → Contains f.queue.items k
 
   made_inlines : (n m : ℕ) → is_inlined is n ≡ true → UsesInline is n m → Inlines is n m
-  made_inlines n m u x = record { user = u; place = x.place; production = x.production; alternative = x.alternative; producer = x.among.producer; at = x.among.at; used = x.among.used }
+  made_inlines n m u x = record { user_inlined = u; place = x.place; production = x.production; alternative = x.alternative; producer = x.among.producer; at = x.among.at; used_inlined = x.among.used }
 
   inlines_made : (n m : ℕ) → Inlines is n m → UsesInline is n m
-  inlines_made n m x = record { place = x.place; production = x.production; alternative = x.alternative; among = record { producer = x.producer; at = x.at; used = x.used } }
+  inlines_made n m x = record { place = x.place; production = x.production; alternative = x.alternative; among = record { producer = x.producer; at = x.at; used = x.used_inlined } }
 
   pub Searched-start : (n : ℕ) (empty f : FoundInstances) → is_inlined is n ≡ true → IsFoundTable is empty → empty.queue.items ≡ [] → AddsFound (UsesInline is n) empty f → Searched n f 0
   Searched-start n empty f u t none a = record {
@@ -191,7 +191,7 @@ module _ (is : List Instance) where
         let next = (settled p.last).settled p.inline p.unsized in
         record {
           last = next.0;
-          inline = next.1.used;
+          inline = next.1.used_inlined;
           unsized = next.2;
           before = p.before ++ p.last ∷ [];
           len = length_push p.before p.last ∙ (let l = p.len in omega arith);

@@ -79,7 +79,7 @@ module _ (is : List Instance) (order : List ℕ) where
   AreLastUsesTo-all done number last all every h = record {
     len = h.len;
     inline = λ i n m e x. let w = slice_get_within order i n e in h.inline i n m (omega arith) e x;
-    kept = λ m u. let w = slice_get_within is u.user u.made.alternative.instance u.made.alternative.at in h.kept u.user m (omega arith) u.kept u.made;
+    kept = λ m u. let w = slice_get_within is u.user u.uses.alternative.instance u.uses.alternative.at in h.kept u.user m (omega arith) u.kept u.uses;
   }
 
   pub KnowsNeeded-start : (last : List ℕ) (known : List (List Unfolding)) → length known ≡ length is → KnowsNeeded is order last 0 known

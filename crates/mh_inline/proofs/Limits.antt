@@ -22,7 +22,7 @@ use Rattle.mh_inline_unfold.specs.Unfoldings.{with_own_prec, Unfolds}
 use Rattle.mh_inline_unfold.specs.code.Sizes.{longest, AreSmall, AreAllSized, IsSizeTable, IsSmallSize}
 use Rattle.mh_inline.specs.code.LastUses.{KnowsUsed}
 use Rattle.mh_inline.specs.Inlined as inlined
-use Rattle.mh_inline.specs.Kept.{is_kept, nonterminal_of, number_of, IsOrigin, AreOrigins}
+use Rattle.mh_inline.specs.Kept.{is_kept, nonterminal_of, nonterminal_number, IsOrigin, AreOrigins}
 use Rattle.mh_inline.specs.Inlined.{production_of, AreProductions, IsInlined}
 use Rattle.mh_inline.specs.code.ProductionParts.{longest_side, IsOriginKnown, IsOriginsSize, AreOriginsSmall}
 use Rattle.mh_inline.specs.Faults.{IsWithinLimits, ExceedsLimits}
@@ -78,7 +78,7 @@ all_origins is origins a k d l = (a.exact (get_or origins k d)).0 (Contains-get_
 pub origins_known : (e : Expanded) (s : SizeTable) (known : List (List Unfolding)) (origins : List Origin) → IsExpandedReady e → IsSizeTable e.instances s → AreAllSized e.instances s.sizes.items → KnowsUsed e.instances s.order.items known → All (IsOrigin e.instances) origins → AreOriginsSmall e.tokens e.instances origins → All (IsOriginKnown e.instances known) origins
 origins_known e s known origins ready z all k are small i d l =
     let x = get_or origins i d in
-    let h = origin_unfoldings e.tokens e.instances origins small.productions small.made i x (slice_get-get_or origins i d l) in
+    let h = origin_unfoldings e.tokens e.instances origins small.productions small.are_productions i x (slice_get-get_or origins i d l) in
     let few = h.few in
     let short = h.short in
     let few' = small.few in
@@ -91,10 +91,10 @@ origins_known e s known origins ready z all k are small i d l =
           record {
             each = λ j m at inline.
                 let size = all m inline in
-                let right = z.right.sound m size.0 size.1 in
+                let right = z.are_sizes.sound m size.0 size.1 in
                 let listed = z.listed m size.0 size.1 in
                 let part_small = small_part e.instances (some_ready e ready) p.rhs h.unfoldings f within j (Applied m) right.unfoldings at right.unfolds in
-                record { unfoldings = right.unfoldings; unfolds = right.unfolds; at = k.each m right.unfoldings (record { user = x.instance; kept = (are i d l).kept; made = record { place = x.alternative; production = p; alternative = a; among = record { producer = j; at = at; used = inline } } }) listed right.unfolds part_small };
+                record { unfoldings = right.unfoldings; unfolds = right.unfolds; at = k.each m right.unfoldings (record { user = x.instance; kept = (are i d l).kept; uses = record { place = x.alternative; production = p; alternative = a; among = record { producer = j; at = at; used = inline } } }) listed right.unfolds part_small };
           };
     }
 
@@ -113,7 +113,7 @@ any_long n (p ∷ ps) l = elim (cases_lt n (length p.rhs)) [
 
 pub small_grammar : (tokens : List TokenInfo) (is : List Instance) (origins : List Origin) (g : Grammar) → AreOriginsSmall tokens is origins → AreProductions tokens is origins g.productions → IsWithinLimits g
 small_grammar tokens is origins g s m =
-    let one = productions_unique tokens is origins s.productions g.productions s.made m in
+    let one = productions_unique tokens is origins s.productions g.productions s.are_productions m in
     let few = s.few in
     let short = s.short in
     let len = ap length one in
@@ -126,10 +126,10 @@ small_origins tokens is origins z s w =
     let b = s.longest in
     let l = w.0 in
     let m = w.1 in
-    record { productions = s.productions; made = s.made; few = omega arith; short = omega arith }
+    record { productions = s.productions; are_productions = s.are_productions; few = omega arith; short = omega arith }
 
 grammar_with : Expanded → List Production → Grammar
-grammar_with e ps = record { tokens = e.tokens; nonterminals = map nonterminal_of (filter is_kept e.instances); productions = ps; starts = map (number_of e.instances) e.starts }
+grammar_with e ps = record { tokens = e.tokens; nonterminals = map nonterminal_of (filter is_kept e.instances); productions = ps; starts = map (nonterminal_number e.instances) e.starts }
 
 pub over_origins : (e : Expanded) (origins : List Origin) (z : Size) → AreOrigins e.instances origins → IsOriginsSize e.tokens e.instances origins z → (IsSmallSize (Some z) → ⊥) → (g : Grammar) × IsInlined e g × ExceedsLimits g
 unfolding grammar_with
@@ -137,7 +137,7 @@ over_origins e origins z o s w =
     let a = s.count in
     let b = s.longest in (
       grammar_with e s.productions,
-      record { tokens = refl; nonterminals = refl; starts = refl; origins = origins; ordered = o; productions = s.made },
+      record { tokens = refl; nonterminals = refl; starts = refl; origins = origins; ordered = o; productions = s.are_productions },
       (elim (cases_lt 20000 (length s.productions)) [
         | inl many ↦ inl many
         | inr few ↦ elim (cases_lt 10000 (longest_side s.productions)) [

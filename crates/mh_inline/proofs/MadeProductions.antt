@@ -57,7 +57,7 @@ module _ (tokens : List TokenInfo) (is : List Instance) where
   longest_side-made n p (u ∷ us) = let e = longest_side-made n p us in let f = length-map u.rhs (symbol_of is) in omega arith
 
   pub size_none : (z : Size) → z.count ≡ 0 → z.longest ≡ 0 → IsOriginsSize tokens is [] z
-  size_none z e f = record { productions = []; made = inlined.AreProductions.none; count = e; longest = f }
+  size_none z e f = record { productions = []; are_productions = inlined.AreProductions.none; count = e; longest = f }
 
   size_push : (origins : List Origin) (s : Origin) (p : InstanceProduction) (y z t : Size) → IsAlternative is s.instance s.alternative p → IsOriginsSize tokens is origins y → IsSideSize is p.rhs z → t.count ≡ min (y.count + z.count) 20001 → t.longest ≡ max y.longest z.longest → IsOriginsSize tokens is (origins ++ s ∷ []) t
   size_push origins s p y z t alt h k e f =
@@ -73,7 +73,7 @@ module _ (tokens : List TokenInfo) (is : List Instance) where
       let b' = k.size.longest in
       record {
         productions = h.productions ++ made;
-        made = AreProductions-push origins s h.productions (h.productions ++ made) h.made (record { production = p; alternative = alt; unfoldings = us; unfolds = k.unfolds; added = refl });
+        are_productions = AreProductions-push origins s h.productions (h.productions ++ made) h.are_productions (record { production = p; alternative = alt; unfoldings = us; unfolds = k.unfolds; added = refl });
         count = omega arith;
         longest = omega arith;
       }
@@ -146,10 +146,10 @@ module _ (t : ℕ) (is : List Instance) (numbers : List ℕ) (n : AreNumbers is 
   symbols_same [] p = refl
   symbols_same (X ∷ Xs) p = (λ i. symbol_same X (All-head (IsPartBelow t (length is)) X Xs p) i ∷ symbols_same Xs (All-tail (IsPartBelow t (length is)) X Xs p) i)
 
-  production_same : (tokens : List TokenInfo) (m lhs : ℕ) (u : Unfolding) → lhs ≡ kept_spec.number_of is m → IsUnfoldingBelow t (length is) u → production_by tokens numbers lhs u ≡ production_of tokens is m u
+  production_same : (tokens : List TokenInfo) (m lhs : ℕ) (u : Unfolding) → lhs ≡ kept_spec.nonterminal_number is m → IsUnfoldingBelow t (length is) u → production_by tokens numbers lhs u ≡ production_of tokens is m u
   production_same tokens m lhs u e p = (λ i. record { lhs = e i; rhs = symbols_same u.rhs p i; level = inlined.level_of tokens u.prec u.rhs })
 
-  pub productions_same : (tokens : List TokenInfo) (m lhs : ℕ) (prec : Prec) (us : List Unfolding) → lhs ≡ kept_spec.number_of is m → All (IsUnfoldingBelow t (length is)) us → map (λ u. production_by tokens numbers lhs (with_own_prec prec u)) us ≡ map (λ u. production_of tokens is m (with_own_prec prec u)) us
+  pub productions_same : (tokens : List TokenInfo) (m lhs : ℕ) (prec : Prec) (us : List Unfolding) → lhs ≡ kept_spec.nonterminal_number is m → All (IsUnfoldingBelow t (length is)) us → map (λ u. production_by tokens numbers lhs (with_own_prec prec u)) us ≡ map (λ u. production_of tokens is m (with_own_prec prec u)) us
   productions_same tokens m lhs prec [] e p = refl
   productions_same tokens m lhs prec (u ∷ us) e p = (λ i. production_same tokens m lhs (with_own_prec prec u) e (All-head (IsUnfoldingBelow t (length is)) u us p) i ∷ productions_same tokens m lhs prec us e (All-tail (IsUnfoldingBelow t (length is)) u us p) i)
 
@@ -163,6 +163,6 @@ alternative_below e r n k p us a f =
 abbrev pub no_origin : Origin
 no_origin = record { rank = 0; place = 0; instance = 0; alternative = 0 }
 
-pub starts_same : (is : List Instance) (numbers starts : List ℕ) → AreNumbers is numbers → All (λ s. s < length is) starts → map (λ s. get_or numbers s 0) starts ≡ map (kept_spec.number_of is) starts
+pub starts_same : (is : List Instance) (numbers starts : List ℕ) → AreNumbers is numbers → All (λ s. s < length is) starts → map (λ s. get_or numbers s 0) starts ≡ map (kept_spec.nonterminal_number is) starts
 starts_same is numbers [] n a = refl
 starts_same is numbers (s ∷ starts) n a = (λ i. n.each s (All-head (λ x. x < length is) s starts a) i ∷ starts_same is numbers starts n (All-tail (λ x. x < length is) s starts a) i)

@@ -25,7 +25,7 @@ use Rattle.mh_inline_unfold.specs.Instances.{is_inlined, IsKept}
 use Rattle.mh_rules.specs.Ready.{IsPartBelow, IsExpandedReady}
 use Rattle.mh_inline_unfold.specs.Unfoldings.{with_own_prec, Unfolds}
 use Rattle.mh_inline.specs.Inlined as inlined
-use Rattle.mh_inline.specs.Kept.{is_kept, nonterminal_of, number_of, IsOrigin, AreOrigins}
+use Rattle.mh_inline.specs.Kept.{is_kept, nonterminal_of, nonterminal_number, IsOrigin, AreOrigins}
 use Rattle.mh_inline.specs.Inlined.{symbol_of, production_of, AreProductions, IsInlined}
 use Rattle.mh_inline.specs.Cycles.{HasNoCycle}
 use Rattle.mh_inline.specs.code.ProductiveMarks.{IsFirstUnmarked, HasEmptyStart}
@@ -45,28 +45,28 @@ kept_front : (is : List Instance) (n m : ℕ) (d : Instance) → IsNonterminal i
 kept_front is n m d k l = ap is_kept (get_or-take m is n d l) ∙ kept_here is n d k
 
 -- The numbers of nonterminals rise with the numbers of their instances.
-pub number_rises : (is : List Instance) (n m : ℕ) → IsNonterminal is n → n < m → m ≤ length is → number_of is n < number_of is m
+pub number_rises : (is : List Instance) (n m : ℕ) → IsNonterminal is n → n < m → m ≤ length is → nonterminal_number is n < nonterminal_number is m
 number_rises is n m k l w = go is (k.within) refl
   where
-    go : (xs : List Instance) → n < length xs → is ≡ xs → number_of is n < number_of is m
+    go : (xs : List Instance) → n < length xs → is ≡ xs → nonterminal_number is n < nonterminal_number is m
     go [] inside same = absurd (omega arith)
     go (d ∷ xs) inside same =
         let inside : n < length (take m is) = omega (arith, length-take m is) in
         let most = sum_by_more_le (λ i. cond (is_kept i) 1 0) (take m is) n d inside in
-        let front : number_of is n ≡ count_by is_kept (take n (take m is)) = ap (count_by is_kept) (sym (take-take n m is (omega arith))) in
+        let front : nonterminal_number is n ≡ count_by is_kept (take n (take m is)) = ap (count_by is_kept) (sym (take-take n m is (omega arith))) in
         let one : ℕ = 1 in
         let here : cond (is_kept (get_or (take m is) n d)) 1 0 ≡ one = ap (λ b. cond b 1 0) (kept_front is n m d k l) in
         omega (arith, most, front, here)
 
-pub number_below : (is : List Instance) (n : ℕ) → IsNonterminal is n → number_of is n < length (map nonterminal_of (filter is_kept is))
+pub number_below : (is : List Instance) (n : ℕ) → IsNonterminal is n → nonterminal_number is n < length (map nonterminal_of (filter is_kept is))
 number_below is n k =
     let rises = number_rises is n (length is) k k.within (omega arith) in
-    let all : number_of is (length is) ≡ count_by is_kept is = ap (count_by is_kept) (take_all (length is) is (omega arith)) in
+    let all : nonterminal_number is (length is) ≡ count_by is_kept is = ap (count_by is_kept) (take_all (length is) is (omega arith)) in
     let len = length-map (filter is_kept is) nonterminal_of ∙ length-filter is_kept is in
     omega arith
 
 -- Different nonterminals have different numbers.
-pub number_apart : (is : List Instance) (n m : ℕ) → IsNonterminal is n → IsNonterminal is m → number_of is n ≡ number_of is m → n ≡ m
+pub number_apart : (is : List Instance) (n m : ℕ) → IsNonterminal is n → IsNonterminal is m → nonterminal_number is n ≡ nonterminal_number is m → n ≡ m
 number_apart is n m k l e = elim (cases_lt n m) [
   | inl below ↦ absurd (let r = number_rises is n m k below (let w = l.within in omega arith) in omega arith)
   | inr above ↦ elim (cases_lt m n) [
@@ -118,18 +118,18 @@ module _ (e : Expanded) (ready : IsExpandedReady e) (kept : HasNoInlineStart e) 
       let same = get_or_from_slice_get e.starts k n n at in
       record { kept = subst (λ s. is_inlined e.instances s ≡ false) same (kept k n l); within = subst (λ s. s < length e.instances) same (ready.starts_below k n l) }
 
-  starts_below : (k d : ℕ) → k < length (map (number_of e.instances) e.starts) → get_or (map (number_of e.instances) e.starts) k d < length (map nonterminal_of (filter is_kept e.instances))
+  starts_below : (k d : ℕ) → k < length (map (nonterminal_number e.instances) e.starts) → get_or (map (nonterminal_number e.instances) e.starts) k d < length (map nonterminal_of (filter is_kept e.instances))
   starts_below k d l =
-      let within : k < length e.starts = omega (arith, length-map e.starts (number_of e.instances)) in
+      let within : k < length e.starts = omega (arith, length-map e.starts (nonterminal_number e.instances)) in
       let at = slice_get-get_or e.starts k 0 within in
-      let there = slice_get-map (number_of e.instances) e.starts k ∙ ap (option_map (number_of e.instances)) at in
-      subst (λ s. s < length (map nonterminal_of (filter is_kept e.instances))) (sym (get_or_from_slice_get (map (number_of e.instances) e.starts) k (number_of e.instances (get_or e.starts k 0)) d there)) (number_below e.instances (get_or e.starts k 0) (start_nonterminal k (get_or e.starts k 0) at))
+      let there = slice_get-map (nonterminal_number e.instances) e.starts k ∙ ap (option_map (nonterminal_number e.instances)) at in
+      subst (λ s. s < length (map nonterminal_of (filter is_kept e.instances))) (sym (get_or_from_slice_get (map (nonterminal_number e.instances) e.starts) k (nonterminal_number e.instances (get_or e.starts k 0)) d there)) (number_below e.instances (get_or e.starts k 0) (start_nonterminal k (get_or e.starts k 0) at))
 
-  mapped_at : (k x : ℕ) → slice_get (map (number_of e.instances) e.starts) k ≡ Some x → (n : ℕ) × (slice_get e.starts k ≡ Some n) × (number_of e.instances n ≡ x)
+  mapped_at : (k x : ℕ) → slice_get (map (nonterminal_number e.instances) e.starts) k ≡ Some x → (n : ℕ) × (slice_get e.starts k ≡ Some n) × (nonterminal_number e.instances n ≡ x)
   mapped_at k x at =
-      let within : k < length e.starts = omega (arith, slice_get_within (map (number_of e.instances) e.starts) k x at, length-map e.starts (number_of e.instances)) in
+      let within : k < length e.starts = omega (arith, slice_get_within (map (nonterminal_number e.instances) e.starts) k x at, length-map e.starts (nonterminal_number e.instances)) in
       let here = slice_get-get_or e.starts k 0 within in
-      let there = slice_get-map (number_of e.instances) e.starts k ∙ ap (option_map (number_of e.instances)) here in
+      let there = slice_get-map (nonterminal_number e.instances) e.starts k ∙ ap (option_map (nonterminal_number e.instances)) here in
       (get_or e.starts k 0, here, same_Some _ _ (sym there ∙ at))
 
   -- The start symbols of the grammar differ.
@@ -149,7 +149,7 @@ module _ (e : Expanded) (ready : IsExpandedReady e) (kept : HasNoInlineStart e) 
         ];
   }
 
-  pub distinct_starts : AreDistinct (map (number_of e.instances) e.starts)
+  pub distinct_starts : AreDistinct (map (nonterminal_number e.instances) e.starts)
   distinct_starts = record {
     same = λ i j x a b.
         let p = mapped_at i x a in
@@ -168,7 +168,7 @@ module _ (e : Expanded) (ready : IsExpandedReady e) (kept : HasNoInlineStart e) 
   in_range g i s =
       let tokens = ap length i.tokens in
       let nonterminals = ap length i.nonterminals in
-      let starts = ap length i.starts ∙ length-map e.starts (number_of e.instances) in
+      let starts = ap length i.starts ∙ length-map e.starts (nonterminal_number e.instances) in
       let kept_few = length-map (filter is_kept e.instances) nonterminal_of ∙ length-filter is_kept e.instances in
       let most = count_by-le-length is_kept e.instances in
       let few = few_starts in
@@ -178,7 +178,7 @@ module _ (e : Expanded) (ready : IsExpandedReady e) (kept : HasNoInlineStart e) 
       record {
         productions = subst (λ n. All (IsProductionBelow n (length g.nonterminals)) g.productions) (sym tokens) (subst (λ n. All (IsProductionBelow (length e.tokens) n) g.productions) (sym nonterminals)
             (productions_below (length e.tokens) e.instances (below_ready e ready) e.tokens i.origins g.productions i.productions (λ x c. (i.ordered.exact x).0 c)));
-        starts = subst (λ n. All (λ x. x < n) g.starts) (sym nonterminals) (All-same (λ x. x < length (map nonterminal_of (filter is_kept e.instances))) g.starts (map (number_of e.instances) e.starts) i.starts starts_below);
+        starts = subst (λ n. All (λ x. x < n) g.starts) (sym nonterminals) (All-same (λ x. x < length (map nonterminal_of (filter is_kept e.instances))) g.starts (map (nonterminal_number e.instances) e.starts) i.starts starts_below);
         tokens = omega arith;
         nonterminals = omega arith;
         few_starts = omega arith;
@@ -187,8 +187,8 @@ module _ (e : Expanded) (ready : IsExpandedReady e) (kept : HasNoInlineStart e) 
       }
 
   -- A start symbol of the instances is one of the grammar, at the same position.
-  pub start_at : (k n : ℕ) → slice_get e.starts k ≡ Some n → slice_get (map (number_of e.instances) e.starts) k ≡ Some (number_of e.instances n)
-  start_at k n at = slice_get-map (number_of e.instances) e.starts k ∙ ap (option_map (number_of e.instances)) at
+  pub start_at : (k n : ℕ) → slice_get e.starts k ≡ Some n → slice_get (map (nonterminal_number e.instances) e.starts) k ≡ Some (nonterminal_number e.instances n)
+  start_at k n at = slice_get-map (nonterminal_number e.instances) e.starts k ∙ ap (option_map (nonterminal_number e.instances)) at
 
   module _ (g : Grammar) (i : IsInlined e g) (small : IsWithinLimits g) (acyclic : HasNoCycle e) (marks : List Bool) (exact : (n : ℕ) → (get_or marks n false ≡ true → IsProductive (plain_of g) n) × (IsProductive (plain_of g) n → get_or marks n false ≡ true)) where
     pub empty_start : (place : ℕ) → IsFirstUnmarked marks g.starts place → HasEmptyStart e place
@@ -199,14 +199,14 @@ module _ (e : Expanded) (ready : IsExpandedReady e) (kept : HasNoInlineStart e) 
           kept = kept;
           grammar = g;
           inlined = i;
-          small = small;
+          within_limits = small;
           number = there.0;
           at = there.1;
           first = record {
             place = place;
             at = there.1;
-            empty = λ p. false≢true (sym u.unmarked ∙ ap (λ s. get_or marks s false) (sym there.2) ∙ (exact (number_of e.instances there.0)).1 p);
-            first = λ k m l at. (exact (number_of e.instances m)).0 (u.first k (number_of e.instances m) l (ap (λ l'. slice_get l' k) i.starts ∙ start_at k m at));
+            not_productive = λ p. false≢true (sym u.unmarked ∙ ap (λ s. get_or marks s false) (sym there.2) ∙ (exact (nonterminal_number e.instances there.0)).1 p);
+            first = λ k m l at. (exact (nonterminal_number e.instances m)).0 (u.first k (nonterminal_number e.instances m) l (ap (λ l'. slice_get l' k) i.starts ∙ start_at k m at));
           };
         }
 

@@ -27,7 +27,7 @@ use Rattle.mh_rules.specs.Ready.{IsExpandedReady}
 use Rattle.mh_inline_unfold.specs.Unfoldings as unfoldings
 use Rattle.mh_inline_unfold.specs.Unfoldings.{unfolding_of_part, with_own_prec, joined, choices, UnfoldsPart, Unfolds, UnfoldsEach}
 use Rattle.mh_inline.specs.Inlined as inlined
-use Rattle.mh_inline.specs.Kept.{number_of, IsOrigin, AreOrigins}
+use Rattle.mh_inline.specs.Kept.{nonterminal_number, IsOrigin, AreOrigins}
 use Rattle.mh_inline_unfold.specs.FileRanks.{rank_of}
 use Rattle.mh_inline.specs.Inlined.{symbol_of, production_of, AreProductions, IsInlined}
 use Rattle.mh_rules.specs.Sentences.{IsTokenPart, PartProduces}
@@ -89,7 +89,7 @@ module _ {S : Type 0} (IsLeaf : S → ℕ → Type 0) (Makes : S → List S → 
   one_tree : (X : S) (w : List ℕ) → Derivation IsLeaf Makes X w → Derivations IsLeaf Makes (X ∷ []) w
   one_tree X w t = trees.Derivations.more (sym (append-nil w)) t trees.Derivations.none
 
--- FROM A DERIVATION OF AN UNFOLDING TO ONE OF ITS PRODUCERS
+-- FROM A DERIVATION OF AN UNFOLDING TO A DERIVATION OF THE PRODUCERS THAT IT UNFOLDS
 
 abbrev PartDerives : Expanded → Part → List ℕ → Type 0
 PartDerives e X w = Derivation IsTokenPart (PartProduces e) X w
@@ -156,7 +156,7 @@ module _ (tokens : List TokenInfo) (is : List Instance) where
     alternative : IsAlternative is s.instance s.alternative production
     unfoldings : List Unfolding
     unfolds : Unfolds is production.rhs unfoldings
-    made : (u : Unfolding) → Contains unfoldings u → Contains ps (production_of tokens is s.instance (with_own_prec production.prec u))
+    productions_listed : (u : Unfolding) → Contains unfoldings u → Contains ps (production_of tokens is s.instance (with_own_prec production.prec u))
 
   from_origin : (origins : List Origin) (ps : List Production) → AreProductions tokens is origins ps → (s : Origin) → Contains origins s → FromOrigin s ps
   from_origin origins ps inlined.AreProductions.none s c = absurd (contains_none s c)
@@ -166,14 +166,14 @@ module _ (tokens : List TokenInfo) (is : List Instance) where
       alternative = a;
       unfoldings = us;
       unfolds = f;
-      made = λ u d. rw e (Contains-append_left (map (λ x. production_of tokens is t.instance (with_own_prec p.prec x)) us) qs (production_of tokens is t.instance (with_own_prec p.prec u)) (contains_map (λ x. production_of tokens is t.instance (with_own_prec p.prec x)) us u d));
+      productions_listed = λ u d. rw e (Contains-append_left (map (λ x. production_of tokens is t.instance (with_own_prec p.prec x)) us) qs (production_of tokens is t.instance (with_own_prec p.prec u)) (contains_map (λ x. production_of tokens is t.instance (with_own_prec p.prec x)) us u d));
     })
     | inr d ↦ (let h = from_origin rest qs r s d in record {
       production = h.production;
       alternative = h.alternative;
       unfoldings = h.unfoldings;
       unfolds = h.unfolds;
-      made = λ u x. rw e (Contains-append_right (map (λ y. production_of tokens is t.instance (with_own_prec p.prec y)) us) qs (production_of tokens is s.instance (with_own_prec h.production.prec u)) (h.made u x));
+      productions_listed = λ u x. rw e (Contains-append_right (map (λ y. production_of tokens is t.instance (with_own_prec p.prec y)) us) qs (production_of tokens is s.instance (with_own_prec h.production.prec u)) (h.productions_listed u x));
     })
   ]
 
@@ -187,13 +187,13 @@ module _ (tokens : List TokenInfo) (is : List Instance) where
     unfolds : Unfolds is production.rhs unfoldings
     unfolding_ : Unfolding
     chosen : Contains unfoldings unfolding_
-    made : production_of tokens is origin.instance (with_own_prec production.prec unfolding_) ≡ q
+    production_is : production_of tokens is origin.instance (with_own_prec production.prec unfolding_) ≡ q
 
   provenance : (origins : List Origin) (ps : List Production) → AreProductions tokens is origins ps → (q : Production) → Contains ps q → Provenance origins q
   provenance origins ps inlined.AreProductions.none q c = absurd (contains_none q c)
   provenance origins ps (inlined.AreProductions.more {s = t} {origins = rest} {p = p} {us = us} {ps = qs} a f e r) q c = elim (Contains-append_cases (map (λ x. production_of tokens is t.instance (with_own_prec p.prec x)) us) qs q (rw e at c)) [
-    | inl d ↦ (let m = map_contains (λ x. production_of tokens is t.instance (with_own_prec p.prec x)) us q d in record { origin = t; among = contains_here t rest; production = p; alternative = a; unfoldings = us; unfolds = f; unfolding_ = m.0; chosen = m.1; made = m.2 })
-    | inr d ↦ (let o = provenance rest qs r q d in record { origin = o.origin; among = contains_there t rest o.origin o.among; production = o.production; alternative = o.alternative; unfoldings = o.unfoldings; unfolds = o.unfolds; unfolding_ = o.unfolding_; chosen = o.chosen; made = o.made })
+    | inl d ↦ (let m = map_contains (λ x. production_of tokens is t.instance (with_own_prec p.prec x)) us q d in record { origin = t; among = contains_here t rest; production = p; alternative = a; unfoldings = us; unfolds = f; unfolding_ = m.0; chosen = m.1; production_is = m.2 })
+    | inr d ↦ (let o = provenance rest qs r q d in record { origin = o.origin; among = contains_there t rest o.origin o.among; production = o.production; alternative = o.alternative; unfoldings = o.unfoldings; unfolds = o.unfolds; unfolding_ = o.unfolding_; chosen = o.chosen; production_is = o.production_is })
   ]
 
 module _ (e : Expanded) (ready : IsExpandedReady e) (g : Grammar) (i : IsInlined e g) where
@@ -209,12 +209,12 @@ module _ (e : Expanded) (ready : IsExpandedReady e) (g : Grammar) (i : IsInlined
       let one = alternative_unique is n k h.production p h.alternative a in (
         h.unfoldings,
         subst (λ (q : InstanceProduction). Unfolds is q.rhs h.unfoldings) one h.unfolds,
-        λ u d. subst (λ (q : InstanceProduction). Contains g.productions (production_of e.tokens is n (with_own_prec q.prec u))) one (h.made u d),
+        λ u d. subst (λ (q : InstanceProduction). Contains g.productions (production_of e.tokens is n (with_own_prec q.prec u))) one (h.productions_listed u d),
       )
 
   -- A production of the grammar and a forest for its right side give a tree.
-  node_at : (n : ℕ) (u : Unfolding) (w : List ℕ) → Contains g.productions (production_of e.tokens is n u) → DerivesAll (plain_of g) (map (symbol_of is) u.rhs) w → Derives (plain_of g) (N (number_of is n)) w
-  node_at n u w c f = let at = at_contains g.productions (production_of e.tokens is n u) c in trees.Derivation.node (produces_at (plain_of g) at.0 (production_of e.tokens is n u) (number_of is n) at.1 refl) f
+  node_at : (n : ℕ) (u : Unfolding) (w : List ℕ) → Contains g.productions (production_of e.tokens is n u) → DerivesAll (plain_of g) (map (symbol_of is) u.rhs) w → Derives (plain_of g) (N (nonterminal_number is n)) w
+  node_at n u w c f = let at = at_contains g.productions (production_of e.tokens is n u) c in trees.Derivation.node (produces_at (plain_of g) at.0 (production_of e.tokens is n u) (nonterminal_number is n) at.1 refl) f
 
   -- FROM INSTANCES TO THE GRAMMAR
 
@@ -236,7 +236,7 @@ module _ (e : Expanded) (ready : IsExpandedReady e) (g : Grammar) (i : IsInlined
       record {
         unfolding_ = unfolding_of_part (Applied n);
         chosen = contains_here (unfolding_of_part (Applied n)) [];
-        forest = one_tree IsToken (Produces (plain_of g)) (N (number_of is n)) w (node_at n (with_own_prec m.1.prec h.unfolding_) w (a.2 h.unfolding_ h.chosen) h.forest);
+        forest = one_tree IsToken (Produces (plain_of g)) (N (nonterminal_number is n)) w (node_at n (with_own_prec m.1.prec h.unfolding_) w (a.2 h.unfolding_ h.chosen) h.forest);
       }
 
   mutual
@@ -285,7 +285,7 @@ module _ (e : Expanded) (ready : IsExpandedReady e) (g : Grammar) (i : IsInlined
   leaf_back : (X : Part) (S : Symbol) (a : ℕ) → symbol_of is X ≡ S → IsToken S a → PartDerives e X (a ∷ [])
   leaf_back (Token b) (T c) a same t = let one : b ≡ c = cc in trees.Derivation.leaf (one ∙ t)
   leaf_back (Token b) (N n) a same t = absurd t
-  leaf_back (Applied n) (T c) a same t = let u : N (number_of is n) ≡ T c = same in cc
+  leaf_back (Applied n) (T c) a same t = let u : N (nonterminal_number is n) ≡ T c = same in cc
   leaf_back (Applied n) (N m) a same t = absurd t
 
   -- The unfolding from which a production with this right side is made.
@@ -300,13 +300,13 @@ module _ (e : Expanded) (ready : IsExpandedReady e) (g : Grammar) (i : IsInlined
     side : map (symbol_of is) unfolding_.rhs ≡ rhs
     good_side : All good unfolding_.rhs
 
-  made_from : (n : ℕ) (rhs : List Symbol) → good (Applied n) → Produces (plain_of g) (N (number_of is n)) rhs → MadeFrom n rhs
+  made_from : (n : ℕ) (rhs : List Symbol) → good (Applied n) → Produces (plain_of g) (N (nonterminal_number is n)) rhs → MadeFrom n rhs
   made_from n rhs h p =
-      let l = listed_from_for (plain_of g) (number_of is n) p.0 p.1 in
+      let l = listed_from_for (plain_of g) (nonterminal_number is n) p.0 p.1 in
       let o = provenance e.tokens is i.origins g.productions i.productions l.production (contains_at g.productions l.place l.production l.at) in
       let origin = (i.ordered.exact o.origin).0 o.among in
       let other : IsNonterminal is o.origin.instance = record { kept = origin.kept; within = slice_get_within is o.origin.instance o.alternative.instance o.alternative.at } in
-      let one : o.origin.instance ≡ n = number_apart is o.origin.instance n other (nonterminal_of_good n h) (ap (λ (q : Production). q.lhs) o.made ∙ l.lhs) in
+      let one : o.origin.instance ≡ n = number_apart is o.origin.instance n other (nonterminal_of_good n h) (ap (λ (q : Production). q.lhs) o.production_is ∙ l.lhs) in
       let b = below_ready e ready in
       record {
         place = o.origin.alternative;
@@ -316,7 +316,7 @@ module _ (e : Expanded) (ready : IsExpandedReady e) (g : Grammar) (i : IsInlined
         unfolds = o.unfolds;
         unfolding_ = o.unfolding_;
         chosen = o.chosen;
-        side = ap (λ (q : Production). q.rhs) o.made ∙ sym l.rhs ∙ p.2;
+        side = ap (λ (q : Production). q.rhs) o.production_is ∙ sym l.rhs ∙ p.2;
         good_side = All-contains (λ u. All good u.rhs) o.unfoldings o.unfolding_ (side_kept_and_below (length e.tokens) is b o.production.rhs o.unfoldings o.unfolds (b.each o.origin.instance o.origin.alternative o.production o.alternative)) o.chosen;
       }
 
@@ -349,7 +349,7 @@ module _ (e : Expanded) (ready : IsExpandedReady e) (g : Grammar) (i : IsInlined
   keeps_sentences kept start n w at =
       let k = start_nonterminal e ready kept start n at in
       let there = ap (λ xs. slice_get xs start) i.starts ∙ start_at e ready kept start n at in
-      let same : get_or g.starts start 0 ≡ number_of is n = get_or_from_slice_get g.starts start (number_of is n) 0 there in (
+      let same : get_or g.starts start 0 ≡ nonterminal_number is n = get_or_from_slice_get g.starts start (nonterminal_number is n) 0 there in (
         (λ t. subst (λ m. Derives (plain_of g) (N m) w) (sym same) (to_grammar (Applied n) w k.kept t)),
         (λ t. from_grammar (Applied n) w (record { kept = k.kept; below = k.within }) (subst (λ m. Derives (plain_of g) (N m) w) same t)),
       )

@@ -36,22 +36,22 @@ module _ (is : List Instance) (h : HaveAlternatives is) (sizes : List (Option Si
       inlined = inline;
       size = z;
       sized = set_here sizes n (Some z) within;
-      behind = λ q inl.
+      inlined_before = λ q inl.
           let one : inl.alternative.instance ≡ i = same_Some _ _ (sym inl.alternative.at ∙ at) in
           let there : slice_get i.productions inl.place ≡ Some inl.production = ap (λ (x : Instance). slice_get x.productions inl.place) (sym one) ∙ inl.alternative.alternative in
-          let found = (sized.each inl.place inl.production there).each inl.producer q inl.at inl.used in
+          let found = (sized.each inl.place inl.production there).each inl.producer q inl.at inl.used_inlined in
           s.listed q found.0 found.1;
     }
 
     pub AreOrdered-push : AreOrdered is (set sizes n (Some z)) (order ++ n ∷ [])
     AreOrdered-push = record {
-      right = record {
-        len = length-set sizes n (Some z) ∙ s.right.len;
+      are_sizes = record {
+        len = length-set sizes n (Some z) ∙ s.are_sizes.len;
         sound = λ m w e. elim (cases_eq m n) [
           | inl same ↦ (let f : Some (Some z) ≡ Some (Some w) = sym (set_here sizes n (Some z) within) ∙ ap (slice_get (set sizes n (Some z))) (sym same) ∙ e in
               let one : z ≡ w = same_Some _ _ (same_Some _ _ f) in
               rw (same, ← one) part)
-          | inr other ↦ s.right.sound m w (sym (set_elsewhere sizes n (Some z) m other) ∙ e)
+          | inr other ↦ s.are_sizes.sound m w (sym (set_elsewhere sizes n (Some z) m other) ∙ e)
         ];
       };
       listed = λ m w e. elim (cases_eq m n) [
@@ -61,26 +61,28 @@ module _ (is : List Instance) (h : HaveAlternatives is) (sizes : List (Option Si
       ordered = λ j m e. elim (get_cases order n j m e) [
         | inl before ↦ (let o = s.ordered j m before in
             let l : j ≤ length order = omega (arith, slice_get_within order j m before) in
-            record { inlined = o.inlined; size = o.size; sized = sized_new m o.size o.sized; behind = λ q inl. rw (take-append-le j order (n ∷ []) l) (o.behind q inl) })
+            record { inlined = o.inlined; size = o.size; sized = sized_new m o.size o.sized; inlined_before = λ q inl. rw (take-append-le j order (n ∷ []) l) (o.inlined_before q inl) })
         | inr here ↦ (let e' : take j (order ++ n ∷ []) ≡ order = take_at order (n ∷ []) j (sym here.0) in rw (e', here.1) last)
       ];
     }
 
 -- An inline instance whose alternatives have an inline instance without a size uses an instance without a size.
-pub fixed_if_unsized : (is : List Instance) (sizes : List (Option Size)) (n : ℕ) (i : Instance) → slice_get is n ≡ Some i → HasUnsizedAlternative is sizes i.productions → IsFixedAt is sizes n
-fixed_if_unsized is sizes n i at b = record {
+pub uses_unsized_if_unsized : (is : List Instance) (sizes : List (Option Size)) (n : ℕ) (i : Instance) → slice_get is n ≡ Some i → HasUnsizedAlternative is sizes i.productions → IsFixedAt is sizes n
+uses_unsized_if_unsized is sizes n i at b = record {
   settled = λ inline e. (
     b.blocked.number,
-    record { user = inline; place = b.place; production = b.production; alternative = record { instance = i; at = at; alternative = b.at }; producer = b.blocked.place; at = b.blocked.at; used = b.blocked.inlined },
+    record { user_inlined = inline; place = b.place; production = b.production; alternative = record { instance = i; at = at; alternative = b.at }; producer = b.blocked.place; at = b.blocked.at; used_inlined = b.blocked.inlined },
     b.blocked.unsized,
   );
 }
 
-pub more_step : (a b : Bool) (x y z : ℕ) → (a ≡ true → y < z) → (a ≡ false → y ≡ z) → (b ≡ true → x < y) → (b ≡ false → x ≡ y) → (a || b) ≡ true → x < z
-more_step true true x y z f g h k e = let p = f refl in let q = h refl in omega arith
-more_step true false x y z f g h k e = let p = f refl in let q = k refl in omega arith
-more_step false true x y z f g h k e = let p = g refl in let q = h refl in omega arith
-more_step false false x y z f g h k e = absurd (false≢true e)
+-- Each of x and y is less than the next number if a flag is true, and equal to it otherwise. If one of the flags is
+-- true, x is less than z.
+pub less_by_either : (a b : Bool) (x y z : ℕ) → (a ≡ true → y < z) → (a ≡ false → y ≡ z) → (b ≡ true → x < y) → (b ≡ false → x ≡ y) → (a || b) ≡ true → x < z
+less_by_either true true x y z f g h k e = let p = f refl in let q = h refl in omega arith
+less_by_either true false x y z f g h k e = let p = f refl in let q = k refl in omega arith
+less_by_either false true x y z f g h k e = let p = g refl in let q = h refl in omega arith
+less_by_either false false x y z f g h k e = absurd (false≢true e)
 
 pub measure_falls : (b c : Bool) (x y : ℕ) → c ≡ true → (b ≡ true → x < y) → (b ≡ false → x ≡ y) → x + cond b 1 0 < y + cond c 1 0
 measure_falls true true x y e f g = let p = f refl in omega arith

@@ -16,7 +16,7 @@ use Rattle.mh_inline.specs.declared.fault.InlineFault.{InlineFault}
 use Rattle.mh_inline.specs.declared.fault.InlineFault.TheVariants.{InlineCycle, InlineStart, TooManyProductions, EmptyLanguage, Memory}
 use Rattle.mh_inline.specs.declared.origins.Origin.{Origin}
 use Rattle.mh_inline_unfold.specs.Instances.{is_inlined}
-use Rattle.mh_inline.specs.Kept.{number_of, IsOriginBefore}
+use Rattle.mh_inline.specs.Kept.{nonterminal_number, IsOriginBefore}
 use Rattle.mh_inline.specs.Inlined.{AreProductions, IsInlined}
 use Rattle.mh_inline.specs.Cycles.{IsFirstCyclicAt}
 use Rattle.mh_inline.specs.Faults.{HasNoInlineStart, IsFault, IsFirstInlineStartAt, IsFirstEmptyAt, IsGrammarOf, IsInstanceNamed, IsNotMemory, ExceedsLimits, IsWithinLimits}
@@ -53,13 +53,13 @@ module _ (e : Expanded) where
 
   productive_start : (g : Grammar) → IsInlined e g → All (IsProductive (plain_of g)) g.starts → (n : ℕ) → IsFirstEmptyAt e g n → ⊥
   productive_start g i all n f =
-      let at = ap (λ xs. slice_get xs f.place) i.starts ∙ slice_get-map (number_of e.instances) e.starts f.place ∙ ap (option_map (number_of e.instances)) f.at in
-      f.empty (All-contains (IsProductive (plain_of g)) g.starts (number_of e.instances n) all (contains_at g.starts f.place (number_of e.instances n) at))
+      let at = ap (λ xs. slice_get xs f.place) i.starts ∙ slice_get-map (nonterminal_number e.instances) e.starts f.place ∙ ap (option_map (nonterminal_number e.instances)) f.at in
+      f.not_productive (All-contains (IsProductive (plain_of g)) g.starts (nonterminal_number e.instances n) all (contains_at g.starts f.place (nonterminal_number e.instances n) at))
 
   pub grammar_excludes_fault : (g : Grammar) (f : InlineFault) → IsGrammarOf e g → IsFault e f → IsNotMemory f → ⊥
   grammar_excludes_fault g (InlineCycle name) o f m = o.acyclic f.number f.first.cyclic
   grammar_excludes_fault g (InlineStart name) o f m = kept_start o.kept f.1.number f.1.first
-  grammar_excludes_fault g TooManyProductions o f m = small_not_over f.2 (subst IsWithinLimits (one_grammar g f.2 o.inlined f.3) o.small) f.4
+  grammar_excludes_fault g TooManyProductions o f m = small_not_over f.2 (subst IsWithinLimits (one_grammar g f.2 o.inlined f.3) o.within_limits) f.4
   grammar_excludes_fault g (EmptyLanguage name) o f m =
       let same = one_grammar g f.2 o.inlined f.3 in
       productive_start f.2 f.3 (subst (λ (h : Grammar). All (IsProductive (plain_of h)) h.starts) same o.productive) f.5.number f.5.first
@@ -68,7 +68,7 @@ module _ (e : Expanded) where
   named_once : (n m : ℕ) (a b : List ℕ) → n ≡ m → IsInstanceNamed e n a → IsInstanceNamed e m b → a ≡ b
   named_once n m a b same p q =
       let one = same_Some p.instance q.instance (sym p.at ∙ ap (slice_get e.instances) same ∙ q.at) in
-      sym p.is ∙ ap (λ (i : Instance). i.name) one ∙ q.is
+      sym p.name_is ∙ ap (λ (i : Instance). i.name) one ∙ q.name_is
 
   cycle_once : (n m : ℕ) → IsFirstCyclicAt e n → IsFirstCyclicAt e m → n ≡ m
   cycle_once n m p q = elim (cases_lt n m) [
@@ -89,9 +89,9 @@ module _ (e : Expanded) where
   empty_once g h n m one p q' =
       let q = subst (λ (k : Grammar). IsFirstEmptyAt e k m) (sym one) q' in
       elim (cases_lt p.place q.place) [
-        | inl l ↦ absurd (p.empty (q.first p.place n l p.at))
+        | inl l ↦ absurd (p.not_productive (q.first p.place n l p.at))
         | inr k ↦ elim (cases_lt q.place p.place) [
-          | inl l ↦ absurd (q.empty (p.first q.place m l q.at))
+          | inl l ↦ absurd (q.not_productive (p.first q.place m l q.at))
           | inr l ↦ (let same : p.place ≡ q.place = omega arith in same_Some n m (sym p.at ∙ ap (slice_get e.starts) same ∙ q.at))
         ]
       ]

@@ -9,17 +9,17 @@ use Rattle.mh_rules.specs.declared.instances.Instance.{Instance}
 use Rattle.mh_rules.specs.declared.instances.Expanded.{Expanded}
 use Rattle.mh_inline.specs.declared.fault.InlineFault.{InlineFault}
 use Rattle.mh_inline.specs.declared.fault.InlineFault.TheVariants.{InlineCycle, InlineStart, TooManyProductions, EmptyLanguage, Memory}
-use Rattle.mh_inline_unfold.specs.declared.sizes.TheConstants.{MAX_PRODUCTIONS, MAX_SYMBOLS}
+use Rattle.mh_inline_unfold.specs.Limits.{max_productions, max_symbols}
 use Rattle.mh_inline_unfold.specs.Instances.{is_inlined}
 use Rattle.mh_inline.specs.Cycles.{IsFirstCyclicAt, HasNoCycle}
-use Rattle.mh_inline.specs.Kept.{number_of}
+use Rattle.mh_inline.specs.Kept.{nonterminal_number}
 use Rattle.mh_inline.specs.Inlined.{IsInlined}
 
 -- The instance n has this name.
 pub record IsInstanceNamed (e : Expanded) (n : ℕ) (name : List ℕ) : Type 0 where
   pub instance : Instance
   pub at : slice_get e.instances n ≡ Some instance
-  pub is : instance.name ≡ name
+  pub name_is : instance.name ≡ name
 
 -- The name is that of the first instance that reaches itself.
 pub record IsFirstCyclic (e : Expanded) (name : List ℕ) : Type 0 where
@@ -44,19 +44,19 @@ HasNoInlineStart e = All (λ s. is_inlined e.instances s ≡ false) e.starts
 
 -- The grammar is within the limits.
 pub record IsWithinLimits (g : Grammar) : Type 0 where
-  pub few : length g.productions ≤ MAX_PRODUCTIONS
-  pub short : All (λ (p : Production). length p.rhs ≤ MAX_SYMBOLS) g.productions
+  pub few : length g.productions ≤ max_productions
+  pub short : All (λ (p : Production). length p.rhs ≤ max_symbols) g.productions
 
 -- The grammar exceeds a limit.
 abbrev pub ExceedsLimits : Grammar → Type 0
-ExceedsLimits g = (MAX_PRODUCTIONS < length g.productions) ⊎ Any (λ (p : Production). MAX_SYMBOLS < length p.rhs) g.productions
+ExceedsLimits g = (max_productions < length g.productions) ⊎ Any (λ (p : Production). max_symbols < length p.rhs) g.productions
 
 -- The first start symbol without a finite tree is the instance n.
 pub record IsFirstEmptyAt (e : Expanded) (g : Grammar) (n : ℕ) : Type 0 where
   pub place : ℕ
   pub at : slice_get e.starts place ≡ Some n
-  pub empty : IsProductive (plain_of g) (number_of e.instances n) → ⊥
-  pub first : (k m : ℕ) → k < place → slice_get e.starts k ≡ Some m → IsProductive (plain_of g) (number_of e.instances m)
+  pub not_productive : IsProductive (plain_of g) (nonterminal_number e.instances n) → ⊥
+  pub first : (k m : ℕ) → k < place → slice_get e.starts k ≡ Some m → IsProductive (plain_of g) (nonterminal_number e.instances m)
 
 pub record IsFirstEmpty (e : Expanded) (g : Grammar) (name : List ℕ) : Type 0 where
   pub number : ℕ
@@ -68,7 +68,7 @@ pub record IsGrammarOf (e : Expanded) (g : Grammar) : Type 0 where
   pub acyclic : HasNoCycle e
   pub kept : HasNoInlineStart e
   pub inlined : IsInlined e g
-  pub small : IsWithinLimits g
+  pub within_limits : IsWithinLimits g
   pub productive : All (IsProductive (plain_of g)) g.starts
 
 -- The first fault of the instances: each case requires that no earlier case holds; `Memory` is always allowed.

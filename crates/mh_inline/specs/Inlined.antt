@@ -17,13 +17,13 @@ use Rattle.mh_rules.specs.declared.instances.Instance.{Instance}
 use Rattle.mh_rules.specs.declared.instances.Expanded.{Expanded}
 use Rattle.mh_inline_unfold.specs.declared.unfolding.Unfolding.{Unfolding}
 use Rattle.mh_inline.specs.declared.origins.Origin.{Origin}
-use Rattle.mh_inline.specs.Kept.{is_kept, nonterminal_of, number_of, AreOrigins}
+use Rattle.mh_inline.specs.Kept.{is_kept, nonterminal_of, nonterminal_number, AreOrigins}
 use Rattle.mh_inline_unfold.specs.Instances.{IsAlternative}
 use Rattle.mh_inline_unfold.specs.Unfoldings.{with_own_prec, Unfolds}
 
 abbrev pub symbol_of : List Instance → Part → Symbol
 symbol_of is (Token a) = T a
-symbol_of is (Applied n) = N (number_of is n)
+symbol_of is (Applied n) = N (nonterminal_number is n)
 
 -- The last token of a list of producers that begins with X, where the second argument is that of the rest.
 abbrev pub last_token_from : Part → Option ℕ → Option ℕ
@@ -44,7 +44,7 @@ level_of tokens (Given level) rhs = level
 level_of tokens Absent rhs = option_and_then (token_level tokens) (last_token rhs)
 
 abbrev pub production_of : List TokenInfo → List Instance → ℕ → Unfolding → Production
-production_of tokens is n u = record { lhs = number_of is n; rhs = map (symbol_of is) u.rhs; level = level_of tokens u.prec u.rhs }
+production_of tokens is n u = record { lhs = nonterminal_number is n; rhs = map (symbol_of is) u.rhs; level = level_of tokens u.prec u.rhs }
 
 -- The productions of these origins: for each origin in order those of its unfoldings, in order.
 pub data AreProductions (tokens : List TokenInfo) (is : List Instance) : List Origin → List Production → Type 0 where
@@ -56,7 +56,7 @@ pub data AreProductions (tokens : List TokenInfo) (is : List Instance) : List Or
 pub record IsInlined (e : Expanded) (g : Grammar) : Type 0 where
   pub tokens : g.tokens ≡ e.tokens
   pub nonterminals : g.nonterminals ≡ map nonterminal_of (filter is_kept e.instances)
-  pub starts : g.starts ≡ map (number_of e.instances) e.starts
+  pub starts : g.starts ≡ map (nonterminal_number e.instances) e.starts
   pub origins : List Origin
   pub ordered : AreOrigins e.instances origins
   pub productions : AreProductions e.tokens e.instances origins g.productions

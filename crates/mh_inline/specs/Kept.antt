@@ -17,8 +17,9 @@ is_kept i = not i.inlined
 abbrev pub nonterminal_of : Instance → NontermInfo
 nonterminal_of i = record { name = i.name; on_error = i.on_error }
 
-abbrev pub number_of : List Instance → ℕ → ℕ
-number_of is n = count_by is_kept (take n is)
+-- The number of instance n as a nonterminal: the number of instances before it that are not inline.
+abbrev pub nonterminal_number : List Instance → ℕ → ℕ
+nonterminal_number is n = count_by is_kept (take n is)
 
 -- An alternative of an instance that is not inline, with the rank of its file and its position in the file.
 pub record IsOrigin (is : List Instance) (s : Origin) : Type 0 where

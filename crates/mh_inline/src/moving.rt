@@ -9,7 +9,7 @@ ghost use Rattle.mh_inline_unfold.specs.Unfoldings.{with_own_prec, Unfolds, Unfo
 
 use crate::unfoldings::{unfold_alternatives, unfold_side};
 use mh_grammar::{Memory, Sequence};
-use mh_inline_unfold::{Unfolding, add_own, inline_part, put_behind, put_in_front, with_own};
+use mh_inline_unfold::{Unfolding, add_own, inline_part, put_after, put_in_front, with_own};
 use mh_rules::{Expanded, InstanceProduction, Part, Prec};
 use std::alloc::Global;
 use std::mem;
@@ -24,7 +24,7 @@ pub struct LastUse {
 }
 
 /// Whether an instance is used after this position of the order.
-fn is_needed_behind(last: &[usize], number: usize, place: usize) -> bool
+fn is_needed_after(last: &[usize], number: usize, place: usize) -> bool
     ensures { result ≡ false → slice_index_or last.now number 0 ≤ place }
 {
     match last.get(number) {
@@ -45,7 +45,7 @@ fn candidate(
     ensures { IfSome result (IsCandidate expanded.now.instances last.now place alternative producer part) }
 {
     let number = inline_part(expanded, part)?;
-    if is_needed_behind(last, number, place) {
+    if is_needed_after(last, number, place) {
         return None;
     }
     Some(LastUse {
@@ -198,12 +198,12 @@ fn unfold_around(
     }
     let seconds = unfold_side(alloc, expanded, known, behind)?;
     let mut all = unfold_to_last(alloc, expanded, known, front, last_use.number)?;
-    put_behind(alloc, &mut all, seconds.as_slice())?;
+    put_after(alloc, &mut all, seconds.as_slice())?;
     Ok(all)
 }
 
 /// Appends unfoldings to others, with the `%prec` of the alternative whose producers they unfold.
-fn own_behind(
+fn append_with_prec(
     mut all: Vec<Unfolding>,
     prec: Prec,
     unfoldings: Vec<Unfolding>,
@@ -234,7 +234,7 @@ fn unfold_to_alternative(
     let front = front_to(productions, last_use.alternative);
     let before = unfold_alternatives(alloc, expanded, known, front)?;
     let side = unfold_around(alloc, expanded, known, production.rhs.as_slice(), last_use)?;
-    own_behind(before, production.prec, side)
+    append_with_prec(before, production.prec, side)
 }
 
 /// The unfoldings of these alternatives, where those of one producer are moved.

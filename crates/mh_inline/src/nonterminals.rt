@@ -1,11 +1,11 @@
 //! The nonterminals of the grammar and their numbers.
 ghost use Rattle.std.specs.Prelude.{◌≡◌, ◌+◌, ◌<◌, ◌≤◌, length, map, filter, slice_index, IfOk};
 ghost use Rattle.std.specs.List.{All};
-ghost use Rattle.mh_grammar.specs.declared.types.TheConstants.{MAX_NUMBERED};
-ghost use Rattle.mh_rules.specs.declared.instances.TheConstants.{MAX_INSTANCES};
 ghost use Rattle.mh_rules.specs.Ready.{IsPartBelow};
 ghost use Rattle.mh_inline.specs.Kept.{is_kept, nonterminal_of};
 ghost use Rattle.mh_inline.specs.code.NumbersAndOrigins.{symbol_by, AreNumbers};
+ghost use Rattle.mh_rules.specs.Limits.{max_instances};
+ghost use Rattle.mh_grammar.specs.Limits.{max_numbered};
 
 use mh_grammar::{Memory, NontermInfo, Symbol};
 use mh_rules::{Instance, Part};
@@ -13,7 +13,7 @@ use std::alloc::Global;
 
 /// For each instance, the number of instances before it that are not inline. Fails only if memory runs out.
 pub(crate) fn numbers_of(alloc: Global, instances: &[Instance]) -> Result<Vec<u16>, Memory>
-    requires { length instances.now ≤ MAX_INSTANCES }
+    requires { length instances.now ≤ max_instances }
     ensures { IfOk result (λ v. AreNumbers instances.now v.items) }
 {
     let mut numbers = Vec::new(alloc);
@@ -54,7 +54,7 @@ pub(crate) fn nonterminals_of(
 }
 
 fn symbol(numbers: &[u16], part: Part) -> Symbol
-    requires { IsPartBelow (MAX_NUMBERED + 1) (length numbers.now) part }
+    requires { IsPartBelow (max_numbered + 1) (length numbers.now) part }
     ensures { result ≡ symbol_by numbers.now part }
 {
     match part {
@@ -65,7 +65,7 @@ fn symbol(numbers: &[u16], part: Part) -> Symbol
 
 /// The symbols of producers; an instance is given by its number as a nonterminal. Fails only if memory runs out.
 pub(crate) fn symbols(alloc: Global, numbers: &[u16], parts: &[Part]) -> Result<Vec<Symbol>, Memory>
-    requires { All (IsPartBelow (MAX_NUMBERED + 1) (length numbers.now)) parts.now }
+    requires { All (IsPartBelow (max_numbered + 1) (length numbers.now)) parts.now }
     ensures { IfOk result (λ v. v.items ≡ map (symbol_by numbers.now) parts.now) }
 {
     let mut symbols = Vec::new(alloc);

@@ -1,11 +1,11 @@
 //! The alternatives of the instances that are not inline, in the order of their productions.
 ghost use Rattle.std.specs.Prelude.{◌≡◌, ◌+◌, ◌<◌, ◌≤◌, false, length, IfOk, OnOk};
 ghost use Rattle.mh_inline_unfold.specs.Instances.{is_inlined};
-ghost use Rattle.mh_rules.specs.declared.instances.TheConstants.{MAX_INSTANCES};
 ghost use Rattle.mh_rules.specs.Ready.{IsExpandedReady};
 ghost use Rattle.mh_inline_unfold.specs.FileRanks.{rank_of};
 ghost use Rattle.mh_inline.specs.Kept.{AreOrigins};
 ghost use Rattle.mh_inline.specs.code.NumbersAndOrigins.{AreOriginsBelow};
+ghost use Rattle.mh_rules.specs.Limits.{max_instances};
 
 use mh_grammar::Memory;
 use mh_inline_unfold::{is_inline, rank};
@@ -40,7 +40,7 @@ fn add_origins(
     number: usize,
     origins: &mut BTreeSet<Origin>,
 ) -> Result<(), Memory>
-    requires few { length expanded.now.instances ≤ MAX_INSTANCES }
+    requires few { length expanded.now.instances ≤ max_instances }
     requires number { number < length expanded.now.instances }
     requires kept { is_inlined expanded.now.instances number ≡ false }
     requires below { AreOriginsBelow expanded.now.instances number 0 origins.old.keys }
@@ -62,7 +62,7 @@ fn in_order(alloc: Global, origins: BTreeSet<Origin>) -> Result<Vec<Origin>, All
 /// The alternatives of the instances that are not inline, in the order of their productions. Fails only if memory runs
 /// out.
 pub(crate) fn origins_of(alloc: Global, expanded: &Expanded) -> Result<Vec<Origin>, Memory>
-    requires { length expanded.now.instances ≤ MAX_INSTANCES }
+    requires { length expanded.now.instances ≤ max_instances }
     ensures { IfOk result (λ v. AreOrigins expanded.now.instances v.items) }
 {
     let mut origins = BTreeSet::new(alloc);

@@ -1,7 +1,6 @@
 //! The productions of the grammar.
 ghost use Rattle.std.specs.Prelude.{◌≡◌, ◌+◌, ◌++◌, length, map, IfOk, OnOk};
 ghost use Rattle.std.specs.List.{All};
-ghost use Rattle.mh_grammar.specs.declared.types.TheConstants.{MAX_NUMBERED};
 ghost use Rattle.mh_inline_unfold.specs.Instances.{IsAlternative};
 ghost use Rattle.mh_rules.specs.Ready.{IsExpandedReady};
 ghost use Rattle.mh_inline_unfold.specs.Unfoldings.{with_own_prec};
@@ -10,6 +9,7 @@ ghost use Rattle.mh_inline.specs.Kept.{IsOrigin};
 ghost use Rattle.mh_inline.specs.Inlined.{last_token, level_of, token_level, AreProductions};
 ghost use Rattle.mh_inline.specs.code.NumbersAndOrigins.{AreNumbers};
 ghost use Rattle.mh_inline.specs.code.ProductionParts.{production_by, token_else, AddsOrigin, IsOriginKnown, IsOriginsSize, IsUnfoldingBelow};
+ghost use Rattle.mh_grammar.specs.Limits.{max_numbered};
 
 use crate::nonterminals::symbols;
 use crate::origins::Origin;
@@ -71,7 +71,7 @@ struct Shared<'a> {
 }
 
 fn production(alloc: Global, shared: &Shared<'_>, choice: &Unfolding) -> Result<Production, Memory>
-    requires { IsUnfoldingBelow (MAX_NUMBERED + 1) (length shared.now.numbers.now) choice.now }
+    requires { IsUnfoldingBelow (max_numbered + 1) (length shared.now.numbers.now) choice.now }
     ensures { IfOk result (λ p. p ≡ production_by shared.now.tokens.now shared.now.numbers.now shared.now.lhs (with_own_prec shared.now.prec choice.now)) }
 {
     let parts = choice.rhs.to_vec(alloc)?;
@@ -92,7 +92,7 @@ fn add_productions(
     unfoldings: &[Unfolding],
     productions: &mut Vec<Production>,
 ) -> Result<(), Memory>
-    requires { All (IsUnfoldingBelow (MAX_NUMBERED + 1) (length shared.now.numbers.now)) unfoldings.now }
+    requires { All (IsUnfoldingBelow (max_numbered + 1) (length shared.now.numbers.now)) unfoldings.now }
     ensures { OnOk result (productions.new.items ≡ productions.old.items ++ map (λ u. production_by shared.now.tokens.now shared.now.numbers.now shared.now.lhs (with_own_prec shared.now.prec u)) unfoldings.now) }
 {
     for choice in unfoldings {

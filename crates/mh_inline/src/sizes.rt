@@ -4,6 +4,7 @@ ghost use Rattle.std.specs.Prelude.{◌≡◌, ◌+◌, ◌*◌, ◌<◌, ◌↔
 ghost use Rattle.std.specs.List.{All};
 ghost use Rattle.mh_rules.specs.Ready.{IsExpandedReady};
 ghost use Rattle.mh_inline_unfold.specs.code.Sizes.{AreEachSized, IsSizeFixedPoint, AreSized, AreSizes, HasUnsizedProducer, HasUnsizedAlternative, IsEachSize, IsPartSize, IsFixedAt, IsSideSize, IsSizeTable, unsized_count};
+ghost use Rattle.mh_inline_unfold.specs.Limits.{max_productions, max_symbols};
 
 use mh_grammar::Memory;
 use mh_inline_unfold::{
@@ -13,8 +14,8 @@ use mh_rules::{Expanded, InstanceProduction, Part};
 use std::alloc::Global;
 
 fn times(left: Size, right: Size) -> Size
-    ensures count { result.count ≡ min (left.count * right.count) (MAX_PRODUCTIONS + 1) }
-    ensures longest { result.longest ≡ min (left.longest + right.longest) (MAX_SYMBOLS + 1) }
+    ensures count { result.count ≡ min (left.count * right.count) (max_productions + 1) }
+    ensures longest { result.longest ≡ min (left.longest + right.longest) (max_symbols + 1) }
 {
     Size {
         count: left

@@ -14,7 +14,7 @@ use crate::moving::{LastUse, last_use_of, unfold_with};
 use crate::uses::{forget_inlined, last_uses};
 use mh_grammar::{Memory, Sequence};
 use mh_inline_unfold::{
-    SizeTable, Unfolding, add_own, inline_part, is_small, just_nothing, put_behind, put_part,
+    SizeTable, Unfolding, add_own, inline_part, is_small, just_nothing, put_after, put_part,
 };
 use mh_rules::{Expanded, InstanceProduction, Part};
 use std::alloc::Global;
@@ -30,7 +30,7 @@ fn unfold_part(
     ensures { OnOk result (ExtendsByProducer expanded.now.instances part all.old.items all.new.items) }
 {
     match inline_part(expanded, part) {
-        Some(number) => put_behind(alloc, all, known[number].as_slice()),
+        Some(number) => put_after(alloc, all, known[number].as_slice()),
         None => put_part(alloc, all, part),
     }
 }

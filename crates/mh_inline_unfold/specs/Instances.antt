@@ -27,13 +27,13 @@ inline_number is (Applied n) = if is_inlined is n then Some n else None
 
 -- The inline instance n uses the inline instance m: an alternative of n has m as a producer.
 pub record Inlines (is : List Instance) (n m : ℕ) : Type 0 where
-  pub user : is_inlined is n ≡ true
+  pub user_inlined : is_inlined is n ≡ true
   pub place : ℕ
   pub production : InstanceProduction
   pub alternative : IsAlternative is n place production
   pub producer : ℕ
   pub at : slice_get production.rhs producer ≡ Some (Applied m)
-  pub used : is_inlined is m ≡ true
+  pub used_inlined : is_inlined is m ≡ true
 
 -- The inline instance n uses the instance m, directly or through other inline instances.
 pub data Reaches (is : List Instance) (n : ℕ) : ℕ → Type 0 where

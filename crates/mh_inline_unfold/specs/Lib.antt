@@ -1,3 +1,4 @@
+pub mod Limits
 pub mod Instances
 pub mod Unfoldings
 pub mod FileRanks

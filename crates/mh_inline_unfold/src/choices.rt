@@ -71,7 +71,7 @@ fn append_to(first: &mut Unfolding, other: &Unfolding) -> Result<(), Memory>
     ensures { OnOk result (first.new ≡ joined first.old other.now) }
 {
     first.prec = rightmost_prec(first.prec, other.prec);
-    first.rhs.put_behind(&other.rhs)
+    first.rhs.put_after(&other.rhs)
 }
 
 /// Prepends the symbols of another unfolding.
@@ -82,7 +82,7 @@ fn prepend_to(last: &mut Unfolding, other: &Unfolding) -> Result<(), Memory>
     last.rhs.put_in_front(&other.rhs)
 }
 
-fn go_on_each(all: &mut [Unfolding], other: &Unfolding) -> Result<(), Memory>
+fn append_to_each(all: &mut [Unfolding], other: &Unfolding) -> Result<(), Memory>
     ensures { OnOk result (all.new ≡ map (λ u. joined u other.now) all.old) }
 {
     for choice in all.iter_mut() {
@@ -91,7 +91,7 @@ fn go_on_each(all: &mut [Unfolding], other: &Unfolding) -> Result<(), Memory>
     Ok(())
 }
 
-fn come_behind_each(all: &mut [Unfolding], other: &Unfolding) -> Result<(), Memory>
+fn prepend_to_each(all: &mut [Unfolding], other: &Unfolding) -> Result<(), Memory>
     ensures { OnOk result (all.new ≡ map (joined other.now) all.old) }
 {
     for choice in all.iter_mut() {
@@ -103,7 +103,7 @@ fn come_behind_each(all: &mut [Unfolding], other: &Unfolding) -> Result<(), Memo
 /// Replaces the list by the concatenations of its unfoldings with each of the second list; the choice from the first
 /// list varies slowest. If the second list has one unfolding, the unfoldings are extended in place. Fails only if
 /// memory runs out.
-pub fn put_behind(
+pub fn put_after(
     alloc: Global,
     all: &mut Vec<Unfolding>,
     seconds: &[Unfolding],
@@ -111,7 +111,7 @@ pub fn put_behind(
     ensures { OnOk result (all.new.items ≡ choices all.old.items seconds.now) }
 {
     match seconds {
-        [second] => go_on_each(all, second),
+        [second] => append_to_each(all, second),
         _ => {
             *all = all_choices(alloc, all.as_slice(), seconds)?;
             Ok(())
@@ -130,7 +130,7 @@ pub fn put_in_front(
     ensures { OnOk result (all.new.items ≡ choices firsts.now all.old.items) }
 {
     match firsts {
-        [first] => come_behind_each(all, first),
+        [first] => prepend_to_each(all, first),
         _ => {
             *all = all_choices(alloc, firsts, all.as_slice())?;
             Ok(())
@@ -155,7 +155,7 @@ pub fn put_part(alloc: Global, all: &mut Vec<Unfolding>, part: Part) -> Result<(
     ensures { OnOk result (all.new.items ≡ choices all.old.items (unfolding_of_part part ∷ [])) }
 {
     let last = just(alloc, part)?;
-    go_on_each(all, &last)
+    append_to_each(all, &last)
 }
 
 /// The one unfolding of an empty list of producers. Fails only if memory runs out.

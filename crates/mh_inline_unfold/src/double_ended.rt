@@ -67,7 +67,7 @@ impl<T: Copy + Drop> Deque<T> {
     }
 
     /// Appends the items of another list. Fails only if memory runs out.
-    pub fn put_behind(&mut self, other: &Deque<T>) -> Result<(), Memory>
+    pub fn put_after(&mut self, other: &Deque<T>) -> Result<(), Memory>
         ensures { OnOk result (self.new ≡ self.old ++ other.now) }
     {
         let (front, back) = other.items.as_slices();

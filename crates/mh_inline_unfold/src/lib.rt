@@ -11,7 +11,7 @@ mod sizes;
 mod unfolding;
 
 pub use choices::{
-    add_own, just_nothing, put_behind, put_in_front, put_part, rightmost_prec, with_own,
+    add_own, just_nothing, put_after, put_in_front, put_part, rightmost_prec, with_own,
 };
 pub use inlined::inlined_in;
 pub use instances::{inline_part, is_inline};

@@ -1,6 +1,7 @@
 //! The sizes of lists of unfoldings: the type, the limits, and the addition of sizes.
 ghost use Rattle.std.specs.Prelude.{◌≡◌, ◌+◌, ◌↔◌, min, max, IsTrue};
 ghost use Rattle.mh_inline_unfold.specs.code.Sizes.{IsSmallSize};
+ghost use Rattle.mh_inline_unfold.specs.Limits.{max_productions};
 
 /// The largest number of productions of a grammar.
 pub const MAX_PRODUCTIONS: u64 = 20_000;
@@ -26,7 +27,7 @@ pub struct SizeTable {
 /// The size of two lists of unfoldings together: the sum of their counts, capped at one more than `MAX_PRODUCTIONS`,
 /// and the larger of their greatest lengths.
 pub fn plus(left: Size, right: Size) -> Size
-    ensures count { result.count ≡ min (left.count + right.count) (MAX_PRODUCTIONS + 1) }
+    ensures count { result.count ≡ min (left.count + right.count) (max_productions + 1) }
     ensures longest { result.longest ≡ max left.longest right.longest }
 {
     Size {

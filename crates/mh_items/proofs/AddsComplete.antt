@@ -24,7 +24,7 @@ use Rattle.mh_items_kernels.specs.code.EmptyMarks.{begins_empty, AreMarksClosed,
 abbrev pub Closes : List Bool → Production → Type 0
 Closes marks p = begins_empty marks p.rhs ≡ true → get_or marks p.lhs false ≡ true
 
--- A new mark makes the marks grow.
+-- If a mark is set that was unset, fewer marks are unset.
 pub mark_set : (marks : List Bool) (n : ℕ) → n < length marks → get_or marks n false ≡ false → Grows marks (set marks n true) true
 mark_set marks n l e = record {
   len = length-set marks n true;

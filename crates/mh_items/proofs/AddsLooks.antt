@@ -44,13 +44,13 @@ module _ {W : ℕ} where
       | inl e ↦ (let P : List Look → Type 0 = λ xs. Contains xs b in let k' : HasLook new n b = subst (λ (x : ℕ). HasLook new x b) e k in
           elim ((members b).0 (subst P here k')) [
             | inl a ↦ inl (subst (λ (x : ℕ). HasLook old x b) (sym e) a)
-            | inr a ↦ inr (record { row = e; among = a })
+            | inr a ↦ inr (record { same = e; among = a })
           ])
       | inr o ↦ inl (let P : List Look → Type 0 = λ xs. Contains xs b in subst P (other m o) k)
     ]
 
     has : (m : ℕ) (b : Look) → IsLookFor n added m b → HasLook new m b
-    has m b h = let P : List Look → Type 0 = λ xs. Contains xs b in let q : HasLook new n b = subst P (sym here) ((members b).1 (inr h.among)) in subst (λ (x : ℕ). HasLook new x b) (sym h.row) q
+    has m b h = let P : List Look → Type 0 = λ xs. Contains xs b in let q : HasLook new n b = subst P (sym here) ((members b).1 (inr h.among)) in subst (λ (x : ℕ). HasLook new x b) (sym h.same) q
 
     shrinks : length (looks_at old n) < length v → sum_by (left W) new.looks.items + 1 ≤ sum_by (left W) old.looks.items
     shrinks l =
@@ -84,12 +84,12 @@ module _ {W : ℕ} where
         quiet_table at = record {
           rows = rows;
           sets = sets;
-          busy = λ m c. some_new m (table.busy m (queue_back m c));
-          touched = λ m b k. elim (cases_eq m n) [
+          queued_has_look = λ m c. some_new m (table.queued_has_look m (queue_back m c));
+          looks_queued = λ m b k. elim (cases_eq m n) [
             | inl e ↦ queue_to m (subst (Contains old.queue.items) (sym e) (at b (subst (λ (x : ℕ). HasLook new x b) e k)))
-            | inr o ↦ queue_to m (table.touched m b (let P : List Look → Type 0 = λ xs. Contains xs b in subst P (other m o) k))
+            | inr o ↦ queue_to m (table.looks_queued m b (let P : List Look → Type 0 = λ xs. Contains xs b in subst P (other m o) k))
           ];
-          stands = λ m h. queue_to m (table.stands m (wait_back m h));
+          waiting_queued = λ m h. queue_to m (table.waiting_queued m (wait_back m h));
         }
 
         quiet_queued : (done : ℕ) → done ≤ length old.queue.items → AreQueued done old → AreQueued done new
@@ -102,9 +102,9 @@ module _ {W : ℕ} where
           kept = kept;
           origin = origin;
           added = has;
-          waits = wait_to;
+          still_waiting = wait_to;
           changes = changes;
-          front = λ i m e. (let P : List ℕ → Type 0 = λ xs. slice_get xs i ≡ Some m in subst P (sym queue) e);
+          queue_extends = λ i m e. (let P : List ℕ → Type 0 = λ xs. slice_get xs i ≡ Some m in subst P (sym queue) e);
           queued = quiet_queued;
           less = (let e = ap (λ (q : List ℕ). length q) queue in omega arith);
         }
@@ -114,13 +114,13 @@ module _ {W : ℕ} where
         adds_none same =
             let all : new.looks.items ≡ old.looks.items = looks ∙ ap (λ x. set old.looks.items n x) same ∙ set-get_or old.looks.items n [] in
             let e = ap (sum_by (left W)) all in
-            quiet (λ b k. table.touched n b (let P : List Look → Type 0 = λ xs. Contains xs b in subst P (here ∙ same) k)) (λ m. inr (ap (λ xs. get_or xs m []) all)) (omega arith)
+            quiet (λ b k. table.looks_queued n b (let P : List Look → Type 0 = λ xs. Contains xs b in subst P (here ∙ same) k)) (λ m. inr (ap (λ xs. get_or xs m []) all)) (omega arith)
 
         -- The set gets new looks, and the nonterminal is already waiting.
         pub adds_more : IsWaiting old n → length (looks_at old n) < length v → AddsLooks (IsLookFor n added) old new
         adds_more w l =
             let s = shrinks l in
-            quiet (λ b k. table.stands n w) (λ m. elim (cases_eq m n) [ inl e ↦ inl (subst (λ (x : ℕ). IsWaiting new x) (sym e) (wait_to n w)) | inr o ↦ inr (other m o) ]) (omega arith)
+            quiet (λ b k. table.waiting_queued n w) (λ m. elim (cases_eq m n) [ inl e ↦ inl (subst (λ (x : ℕ). IsWaiting new x) (sym e) (wait_to n w)) | inr o ↦ inr (other m o) ]) (omega arith)
 
       -- The set gets new looks, and the nonterminal is appended to the queue.
       module _ (waiting : new.waiting.items ≡ set old.waiting.items n true) (queue : new.queue.items ≡ old.queue.items ++ n ∷ []) (flag : n < length old.waiting.items) (l : length (looks_at old n) < length v) where
@@ -145,7 +145,7 @@ module _ {W : ℕ} where
         -- A set that has become longer has an element.
         busy_to : (m : ℕ) → Contains new.queue.items m → (b : Look) × HasLook new m b
         busy_to m c = elim (Contains-push_cases old.queue.items n m (let P : List ℕ → Type 0 = λ q. Contains q m in subst P queue c)) [
-          | inl d ↦ some_new m (table.busy m d)
+          | inl d ↦ some_new m (table.queued_has_look m d)
           | inr e ↦ (let f = some_item v (omega arith) in let P : List Look → Type 0 = λ xs. Contains xs f.0 in
               let q : HasLook new n f.0 = subst P (sym here) f.1 in (f.0, subst (λ (x : ℕ). HasLook new x f.0) e q))
         ]
@@ -154,12 +154,12 @@ module _ {W : ℕ} where
         woken_table = record {
           rows = rows;
           sets = sets;
-          busy = busy_to;
-          touched = λ m b k. elim (cases_eq m n) [
+          queued_has_look = busy_to;
+          looks_queued = λ m b k. elim (cases_eq m n) [
             | inl e ↦ subst (Contains new.queue.items) (sym e) last
-            | inr o ↦ stands_to m (table.touched m b (let P : List Look → Type 0 = λ xs. Contains xs b in subst P (other m o) k))
+            | inr o ↦ stands_to m (table.looks_queued m b (let P : List Look → Type 0 = λ xs. Contains xs b in subst P (other m o) k))
           ];
-          stands = λ m h. elim (cases_eq m n) [ inl e ↦ subst (Contains new.queue.items) (sym e) last | inr o ↦ stands_to m (table.stands m (woken_back m o h)) ];
+          waiting_queued = λ m h. elim (cases_eq m n) [ inl e ↦ subst (Contains new.queue.items) (sym e) last | inr o ↦ stands_to m (table.waiting_queued m (woken_back m o h)) ];
         }
 
         woken_front : (i m : ℕ) → slice_get old.queue.items i ≡ Some m → slice_get new.queue.items i ≡ Some m
@@ -183,9 +183,9 @@ module _ {W : ℕ} where
           kept = kept;
           origin = origin;
           added = has;
-          waits = woken_to;
+          still_waiting = woken_to;
           changes = λ m. elim (cases_eq m n) [ inl e ↦ inl (subst (λ (x : ℕ). IsWaiting new x) (sym e) awake) | inr o ↦ inr (other m o) ];
-          front = woken_front;
+          queue_extends = woken_front;
           queued = woken_queued;
           less = (let s = shrinks l in let e = ap (λ (q : List ℕ). length q) queue in let f = length_push old.queue.items n in omega arith);
         }
@@ -214,13 +214,13 @@ module _ {W : ℕ} where
       | inr y ↦ inr (r n x y)
     ];
     added = λ n x m. elim (s n x m) [ inl y ↦ k.kept n x (h.added n x y) | inr y ↦ k.added n x y ];
-    waits = λ n w. k.waits n (h.waits n w);
+    still_waiting = λ n w. k.still_waiting n (h.still_waiting n w);
     changes = λ n. elim (k.changes n) [
       | inl w ↦ inl w
-      | inr e ↦ elim (h.changes n) [ inl w ↦ inl (k.waits n w) | inr f ↦ inr (e ∙ f) ]
+      | inr e ↦ elim (h.changes n) [ inl w ↦ inl (k.still_waiting n w) | inr f ↦ inr (e ∙ f) ]
     ];
-    front = λ i n e. k.front i n (h.front i n e);
-    queued = λ done m q. k.queued done (prefix_kept a b done m h.front) (h.queued done m q);
+    queue_extends = λ i n e. k.queue_extends i n (h.queue_extends i n e);
+    queued = λ done m q. k.queued done (prefix_kept a b done m h.queue_extends) (h.queued done m q);
     less = (let x = h.less in let y = k.less in omega arith);
   }
 
@@ -231,9 +231,9 @@ module _ {W : ℕ} where
     kept = h.kept;
     origin = λ n x k. elim (h.origin n x k) [ inl c ↦ inl c | inr p ↦ inr (r n x p) ];
     added = λ n x p. h.added n x (l n x p);
-    waits = h.waits;
+    still_waiting = h.still_waiting;
     changes = h.changes;
-    front = h.front;
+    queue_extends = h.queue_extends;
     queued = h.queued;
     less = h.less;
   }
@@ -245,9 +245,9 @@ module _ {W : ℕ} where
     kept = λ n b k. k;
     origin = λ n b k. inl k;
     added = λ n b p. absurd (none n b p);
-    waits = λ n w. w;
+    still_waiting = λ n w. w;
     changes = λ n. inr refl;
-    front = λ i n e. e;
+    queue_extends = λ i n e. e;
     queued = λ done l q. q;
     less = omega arith;
   }
@@ -262,7 +262,7 @@ module _ {W : ℕ} where
   links_step looks passed front link a b c exact h k = AddsLooks-then (IsPassedOnByOne front looks) (IsLookFor link.to passed) (IsPassedOnByOne (front ++ link ∷ []) looks) a b c h k
       (λ n x s. elim (Contains-push_cases front link s.link s.among) [
         | inl d ↦ inl (record { link = s.link; among = d; is = s.is })
-        | inr e ↦ (let P : FirstLink W → Type 0 = λ z. IsPassedOn looks z n x in let is = subst P (sym e) s.is in inr (record { row = is.row; among = (exact x).1 is.passed }))
+        | inr e ↦ (let P : FirstLink W → Type 0 = λ z. IsPassedOn looks z n x in let is = subst P (sym e) s.is in inr (record { same = is.target_is; among = (exact x).1 is.passed }))
       ])
       (λ n x s. record { link = s.link; among = Contains-append_left front (link ∷ []) s.link s.among; is = s.is })
-      (λ n x s. record { link = link; among = Contains-push front link; is = record { row = s.row; passed = (exact x).0 s.among } })
+      (λ n x s. record { link = link; among = Contains-push front link; is = record { target_is = s.same; passed = (exact x).0 s.among } })

@@ -69,7 +69,7 @@ pub NumbersUpto-extend : {W : ℕ} (g : PlainGrammar) (s : PendingLooks W) (numb
 NumbersUpto-extend g s numbers row i n t h at exact = record {
   sound = λ p c. elim (Contains-append_cases numbers row p c) [
     | inl k ↦ h.sound p k
-    | inr k ↦ (n, (exact p).0 k, t.busy n (contains_at s.queue.items i n at))
+    | inr k ↦ (n, (exact p).0 k, t.queued_has_look n (contains_at s.queue.items i n at))
   ];
   complete = λ k p m l read for. elim (cases_eq k i) [
     | inl e ↦ (let one : m ≡ n = get_unique s.queue.items i m n (rw e at read) at in let P : ℕ → Type 0 = λ x. IsProductionFor g x p in Contains-append_right numbers row p ((exact p).1 (subst P one for)))
@@ -80,11 +80,11 @@ NumbersUpto-extend g s numbers row i n t h at exact = record {
 pub NumbersUpto-all : {W : ℕ} (g : PlainGrammar) (s : PendingLooks W) (numbers : List ℕ) (upto : ℕ) → ArePendingLooks s → length s.queue.items ≤ upto → NumbersUpto g s numbers upto → (p : ℕ) → Contains numbers p ↔ IsAddedProduction g s p
 NumbersUpto-all g s numbers upto t all h p = (
   h.sound p,
-  λ is. (let at = at_contains s.queue.items is.0 (t.touched is.0 is.2.0 is.2.1) in h.complete at.0 p is.0 (omega (arith, slice_get_within s.queue.items at.0 is.0 at.1)) at.1 is.1),
+  λ is. (let at = at_contains s.queue.items is.0 (t.looks_queued is.0 is.2.0 is.2.1) in h.complete at.0 p is.0 (omega (arith, slice_get_within s.queue.items at.0 is.0 at.1)) at.1 is.1),
 )
 
 pub queue_known : {W : ℕ} (g : PlainGrammar) (s : PendingLooks W) (n : ℕ) → ArePendingLooks s → vec_len s.looks ≡ g.nonterminals → length s.looks.items ≡ vec_len s.looks → Contains s.queue.items n → n < g.nonterminals
-queue_known g s n t size len c = let some = t.busy n c in look_row_known g s size len n some.0 some.1
+queue_known g s n t size len c = let some = t.queued_has_look n c in look_row_known g s size len n some.0 some.1
 
 -- Lemmas on the added items.
 

@@ -39,7 +39,7 @@ module _ (g : PlainGrammar) (I : ItemSet) where
 
   module _ {W : ℕ} where
     begun_wants : (n : ℕ) (a b : Look) (link : FirstLink W) → IsClosureLook g I n a → IsLinkOfNonterminal g n link → Contains link.tokens b → IsClosureLook g I link.to b
-    begun_wants n a b link w l c = wanted.IsClosureLook.wants (closed_item n a l.production w l.produced) l.is.side (token_begins l.is.behind link.tokens link.passes a b l.is.rest c)
+    begun_wants n a b link w l c = wanted.IsClosureLook.wants (closed_item n a l.production w l.produced) l.is.side (token_begins l.is.suffix link.tokens link.passes a b l.is.rest c)
 
     passed_wants : (n : ℕ) (b : Look) (link : FirstLink W) → IsClosureLook g I n b → IsLinkOfNonterminal g n link → link.passes ≡ true → IsClosureLook g I link.to b
     passed_wants n b link w l t = wanted.IsClosureLook.wants (closed_item n b l.production w l.produced) l.is.side (sets.MayBegin.passes (l.is.rest.empty.0 t))
@@ -50,7 +50,7 @@ module _ (g : PlainGrammar) (I : ItemSet) where
           | inl c ↦ begun_wants n some.0 b s.link some.1 (l.sound s.link s.among) c
           | inr c ↦ passed_wants n b s.link (h b c.1) (l.sound s.link s.among) c.0
         ] in
-        subst (λ (x : ℕ). IsClosureLook g I x b) (sym s.is.row) w
+        subst (λ (x : ℕ). IsClosureLook g I x b) (sym s.is.target_is) w
 
 -- The loop invariant: the first `done` nonterminals of the queue were visited.
 pub record SpreadSoFar {W : ℕ} (g : PlainGrammar) (f : Firsts W) (old s : PendingLooks W) (done : ℕ) : Type 0 where
@@ -82,7 +82,7 @@ look_row_known g s size len n b k = elim (cases_lt n g.nonterminals) [
 
 -- The nonterminal that is visited next is in range.
 pub next_known : {W : ℕ} (g : PlainGrammar) (f : Firsts W) (old s : PendingLooks W) (done n : ℕ) → SpreadSoFar g f old s done → length s.looks.items ≡ vec_len s.looks → slice_get s.queue.items done ≡ Some n → n < g.nonterminals
-next_known g f old s done n h len at = let some = h.table.busy n (contains_at s.queue.items done n at) in look_row_known g s h.size len n some.0 some.1
+next_known g f old s done n h len at = let some = h.table.queued_has_look n (contains_at s.queue.items done n at) in look_row_known g s h.size len n some.0 some.1
 
 -- One visit: the flag is cleared, and then the looks that the links pass on are added.
 module _ {W : ℕ} (g : PlainGrammar) (f : Firsts W) (old s mid new : PendingLooks W) (done n : ℕ) (row : List (FirstLink W)) (firsts : AreFirsts g f) (h : SpreadSoFar g f old s done) (at : slice_get s.queue.items done ≡ Some n) (there : slice_get f.links n ≡ Some row)
@@ -115,9 +115,9 @@ module _ {W : ℕ} (g : PlainGrammar) (f : Firsts W) (old s mid new : PendingLoo
   table_mid = record {
     rows = (let e = h.table.rows in let k : vec_len mid.looks ≡ vec_len s.looks = ap (λ v. vec_len v) looks in omega arith);
     sets = rw looks h.table.sets;
-    busy = λ m c. (let P : List ℕ → Type 0 = λ q. Contains q m in let f = h.table.busy m (subst P queue_is c) in (f.0, to_mid m f.0 f.1));
-    touched = λ m b k. (let P : List ℕ → Type 0 = λ q. Contains q m in subst P (sym queue_is) (h.table.touched m b (from_mid m b k)));
-    stands = λ m w. (let P : List ℕ → Type 0 = λ q. Contains q m in subst P (sym queue_is) (h.table.stands m (wait_back m w)));
+    queued_has_look = λ m c. (let P : List ℕ → Type 0 = λ q. Contains q m in let f = h.table.queued_has_look m (subst P queue_is c) in (f.0, to_mid m f.0 f.1));
+    looks_queued = λ m b k. (let P : List ℕ → Type 0 = λ q. Contains q m in subst P (sym queue_is) (h.table.looks_queued m b (from_mid m b k)));
+    waiting_queued = λ m w. (let P : List ℕ → Type 0 = λ q. Contains q m in subst P (sym queue_is) (h.table.waiting_queued m (wait_back m w)));
   }
 
   queued_mid : AreQueued (done + 1) mid
@@ -131,7 +131,7 @@ module _ {W : ℕ} (g : PlainGrammar) (f : Firsts W) (old s mid new : PendingLoo
       ]
 
   some_n : (x : Look) × HasLook s n x
-  some_n = h.table.busy n (contains_at s.queue.items done n at)
+  some_n = h.table.queued_has_look n (contains_at s.queue.items done n at)
 
   module _ (a : AddsLooks (IsPassedOnByOne row (looks_at s n)) mid new) where
     sound_new : (I : Kernel) → AreKernelLooks g I old → (m : ℕ) (b : Look) → HasLook new m b → IsClosureLook g (Holds I) m b
@@ -154,7 +154,7 @@ module _ {W : ℕ} (g : PlainGrammar) (f : Firsts W) (old s mid new : PendingLoo
           let Q : List (FirstLink W) → Type 0 = λ x. IsPassedOnByOne x (looks_at s n) k b in
           a.added k b (subst Q same (subst P e (step_back m other asleep k b step))))
       | inr o ↦ (let P : List Look → Type 0 = λ xs. Contains xs some.0 in
-          a.kept k b (to_mid k b (h.closed m other list (some.0, subst P (looks_new m asleep) some.1) (λ w. asleep (a.waits m (wait_to m o w))) k b (step_back m other asleep k b step))))
+          a.kept k b (to_mid k b (h.closed m other list (some.0, subst P (looks_new m asleep) some.1) (λ w. asleep (a.still_waiting m (wait_to m o w))) k b (step_back m other asleep k b step))))
     ]
 
     longer_mid : done + 1 ≤ length mid.queue.items
@@ -164,7 +164,7 @@ module _ {W : ℕ} (g : PlainGrammar) (f : Firsts W) (old s mid new : PendingLoo
     SpreadSoFar-step = record {
       table = a.table;
       size = a.size ∙ (let k : vec_len mid.looks ≡ vec_len s.looks = ap (λ v. vec_len v) looks in k) ∙ h.size;
-      within = prefix_kept mid new (done + 1) longer_mid a.front;
+      within = prefix_kept mid new (done + 1) longer_mid a.queue_extends;
       queued = a.queued (done + 1) longer_mid queued_mid;
       kept = λ m b k. a.kept m b (to_mid m b (h.kept m b k));
       sound = sound_new;
@@ -198,21 +198,21 @@ module _ {W : ℕ} (g : PlainGrammar) (f : Firsts W) (kernel : Kernel) (old s : 
   link_for n q m y row at p e =
       let found = (firsts.links n row at).complete q m y p e in
       let is = found.2 in
-      let both : N found.0.to ∷ is.behind ≡ N m ∷ y = sym is.side ∙ e in
+      let both : N found.0.to ∷ is.suffix ≡ N m ∷ y = sym is.side ∙ e in
       let one : N found.0.to ≡ N m = cc in
       let target : found.0.to ≡ m = cc in
-      let behind : is.behind ≡ y = cc in
+      let behind : is.suffix ≡ y = cc in
       (found.0, found.1, target, rw behind at is.rest)
 
   next : (n m : ℕ) (y : List Symbol) (a b : Look) (q : ℕ) → HasLook s n a → IsProductionFor g n q → rhs_of g q ≡ N m ∷ y → MayBegin g y a b → HasLook s m b
   next n m y a b q c p e (sets.MayBegin.begins {z = z} k) =
       let row = row_of n (known n a c) in
       let link = link_for n q m y row.0 row.1 p e in
-      h.closed n row.0 row.1 (a, c) (asleep n) m (Token z) (record { link = link.0; among = link.1; is = record { row = sym link.2; passed = inl ((link.3.begins (Token z)).1 k) } })
+      h.closed n row.0 row.1 (a, c) (asleep n) m (Token z) (record { link = link.0; among = link.1; is = record { target_is = sym link.2; passed = inl ((link.3.begins (Token z)).1 k) } })
   next n m y a b q c p e (sets.MayBegin.passes k) =
       let row = row_of n (known n a c) in
       let link = link_for n q m y row.0 row.1 p e in
-      h.closed n row.0 row.1 (a, c) (asleep n) m a (record { link = link.0; among = link.1; is = record { row = sym link.2; passed = inr (link.3.empty.1 k, c) } })
+      h.closed n row.0 row.1 (a, c) (asleep n) m a (record { link = link.0; among = link.1; is = record { target_is = sym link.2; passed = inr (link.3.empty.1 k, c) } })
 
   asked : (p d : ℕ) (a : Look) → Close g (Holds kernel) p d a → (n : ℕ) (y : List Symbol) (b : Look) → drop d (rhs_of g p) ≡ N n ∷ y → MayBegin g y a b → HasLook s n b
   asked p d a (sets.Close.given k) n y b e m = h.kept n b ((seeds n b).1 (wanted.IsKernelLook.seed k e m))

@@ -181,7 +181,7 @@ module _ {W : ℕ} (g : PlainGrammar) (range : IsInRange g) (closed : Items) (ke
 
   -- If a symbol moves an item, it is after a dot.
   moved_from : (X : Symbol) (p d : ℕ) (a : Look) → Moved g (Holds closed) X p d a → IsAfterDot g closed X
-  moved_from X p d a (sets.Moved.moved {p = q} {d = e} {y = y} held before) = record { production = q; dot = e; place = (held.0, held.1, held.2, held.3); behind = get_from_drop (rhs_of g q) e X y before }
+  moved_from X p d a (sets.Moved.moved {p = q} {d = e} {y = y} held before) = record { production = q; dot = e; place = (held.0, held.1, held.2, held.3); at_dot = get_from_drop (rhs_of g q) e X y before }
 
   first_held : (k : Kernel) → IsItemList g k → (item : KernelItem) → Contains k.items item → Holds k item.production item.dot (get_or item.looks 0 End)
   first_held k is item c = (item, c, refl, refl, Contains-get_or item.looks 0 End (recursion_contains (IsKernelItem g) k.items is.items item c).some)
@@ -198,7 +198,7 @@ module _ {W : ℕ} (g : PlainGrammar) (range : IsInRange g) (closed : Items) (ke
   listed_of X b =
       let item = b.place.0 in
       let of_item = recursion_contains (IsKernelItem g) closed.items kernel.items item b.place.1 in
-      let at : slice_get (rhs_of g item.production) item.dot ≡ Some X = rw (b.place.2, b.place.3) b.behind in
+      let at : slice_get (rhs_of g item.production) item.dot ≡ Some X = rw (b.place.2, b.place.3) b.at_dot in
       let below = symbol_below g range item.production item.dot X of_item.production at in
       let held = first_held closed kernel item b.place.1 in
       let moved : Moved g (Holds closed) X item.production (suc item.dot) (get_or item.looks 0 End) = sets.Moved.moved held (drop_from-slice_get (rhs_of g item.production) item.dot X at) in

@@ -50,8 +50,8 @@ module _ (g : PlainGrammar) where
     -- If an item has a nonterminal at its dot, adding the looks of the nonterminal adds those of the item.
     pub adds_item_looks : (item : KernelItem) (n : ℕ) (looks : List Look) (a b : PendingLooks W) → slice_get (rhs_of g item.production) item.dot ≡ Some (N n) → ((x : Look) → Contains looks x ↔ MayFollowSymbol g item x) → AddsLooks (IsLookFor n looks) a b → AddsLooks (IsItemLook g item) a b
     adds_item_looks item n looks a b at exact h = AddsLooks-as (IsLookFor n looks) (IsItemLook g item) a b h
-        (λ m x s. let one : N m ≡ N n = (let e = sym s.at ∙ at in cc) in let same : m ≡ n = cc in record { row = same; among = (exact x).1 s.follows })
-        (λ m x s. record { at = at ∙ ap (λ k. Some (N k)) (sym s.row); follows = (exact x).0 s.among })
+        (λ m x s. let one : N m ≡ N n = (let e = sym s.at ∙ at in cc) in let same : m ≡ n = cc in record { same = same; among = (exact x).1 s.follows })
+        (λ m x s. record { at = at ∙ ap (λ k. Some (N k)) (sym s.same); follows = (exact x).0 s.among })
 
   pub no_item_looks : (item : KernelItem) → ((n : ℕ) → slice_get (rhs_of g item.production) item.dot ≡ Some (N n) → ⊥) → (n : ℕ) (b : Look) → IsItemLook g item n b → ⊥
   no_item_looks item none n b s = none n s.at

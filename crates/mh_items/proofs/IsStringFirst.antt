@@ -141,8 +141,8 @@ RestSoFar-all sets symbols tokens h g s = record {
 pub link_below : {W : ℕ} (g : PlainGrammar) (symbols : List Symbol) (link : FirstLink W) → All (IsSymbolBelow g.tokens g.nonterminals) symbols → IsFirstLink g symbols link → link.to < g.nonterminals
 link_below g symbols link all h =
     let B = IsSymbolBelow g.tokens g.nonterminals in
-    let here : All B (N link.to ∷ h.behind) = rw h.side at all in
-    All-head B (N link.to) h.behind here
+    let here : All B (N link.to ∷ h.suffix) = rw h.side at all in
+    All-head B (N link.to) h.suffix here
 
 -- The loop invariant: the list holds the links of the productions of n below an upper bound.
 pub record LinksSoFar {W : ℕ} (g : PlainGrammar) (n : ℕ) (links : List (FirstLink W)) (upto : ℕ) : Type 0 where

@@ -35,9 +35,9 @@ pub record IsStringFirst (g : PlainGrammar) (y : List Symbol) (tokens : List Loo
 
 -- The right side begins with a nonterminal, and the link holds this nonterminal and FIRST of the symbols after it.
 pub record IsFirstLink {W : ℕ} (g : PlainGrammar) (symbols : List Symbol) (link : FirstLink W) : Type 0 where
-  pub behind : List Symbol
-  pub side : symbols ≡ N link.to ∷ behind
-  pub rest : IsStringFirst g behind link.tokens link.passes
+  pub suffix : List Symbol
+  pub side : symbols ≡ N link.to ∷ suffix
+  pub rest : IsStringFirst g suffix link.tokens link.passes
 
 -- Some production of the nonterminal n has this link.
 pub record IsLinkOfNonterminal {W : ℕ} (g : PlainGrammar) (n : ℕ) (link : FirstLink W) : Type 0 where

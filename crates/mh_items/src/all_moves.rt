@@ -13,7 +13,8 @@ use mh_sets::TokenSet;
 use std::alloc::Global;
 use std::mem;
 
-/// A symbol after some dots of a closure, and the kernel of these items with their dots moved past the symbol.
+/// A symbol after the dots of some items of a closure, and the kernel of these items with their dots moved past the
+/// symbol.
 #[derive(Drop)]
 pub struct MoveWith<L> {
     pub symbol: Symbol,

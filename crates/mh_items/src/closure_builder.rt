@@ -22,7 +22,7 @@ use std::alloc::Global;
 pub struct ClosureBuilder<const W: usize> {
     /// The sets and links of the grammar.
     pub(crate) firsts: Firsts<W>,
-    /// Scratch space, without looks between two closures.
+    /// Scratch space. Its lookahead sets are empty when no closure is being computed.
     pub(crate) asked: PendingLooks<W>,
     /// For each nonterminal, whether a production of it is empty or begins with a marked nonterminal.
     pub(crate) empties: Vec<bool>,

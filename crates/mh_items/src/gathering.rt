@@ -16,8 +16,9 @@ use mh_grammar::{Grammar, Look, Memory, Sequence, Token, first, nullable};
 use mh_sets::TokenSet;
 use std::alloc::Global;
 
-/// Returns the nullable and FIRST sets of a grammar, with the links and production numbers of each nonterminal. It
-/// fails only if there is no memory.
+/// Returns the nullable and FIRST sets of a grammar and, for each nonterminal, the numbers of its productions and its
+/// links. A link is the first symbol of a production, if it is a nonterminal, with FIRST of the symbols after it. The
+/// function fails only if there is no memory.
 pub fn firsts<const W: usize>(alloc: Global, grammar: &Grammar) -> Result<Firsts<W>, Memory>
     requires fits { FitsSets W grammar.now }
     ensures { IfOk result (AreFirsts (plain_of grammar.now)) }
@@ -78,7 +79,8 @@ fn set_of<const W: usize>(tokens: &[Token]) -> TokenSet<W>
     set
 }
 
-/// The links of each nonterminal's productions.
+/// The links of each nonterminal: for each of its productions that begin with a nonterminal, this nonterminal and FIRST
+/// of the symbols after it.
 fn all_links<const W: usize>(
     alloc: Global,
     grammar: &Grammar,

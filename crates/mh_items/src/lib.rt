@@ -22,8 +22,8 @@ pub use closures::closure;
 pub use gathering::firsts;
 pub use mh_items_kernels::{
     Automaton, AutomatonWith, Closure, ItemWith, ItemsWith, Kernel, KernelItem, StatesFault,
-    advanced, are_equal, copied_item, joined_item, one_list, passed_on, rest_from, start_kernel,
-    symbol_at, symbol_in, symbols_after_dot,
+    advanced, are_equal, copied_item, joined_item, passed_on, rest_from, same_items_same_kernel,
+    start_kernel, symbol_at, symbol_in, symbols_after_dot,
 };
 pub use move_builder::MoveBuilder;
 pub use moving::moved;

@@ -26,7 +26,7 @@ past y = record { production = y.production; dot = y.dot + 1; looks = y.looks }
 pub record IsAdvancedItem (g : PlainGrammar) (X : Symbol) (items : List KernelItem) (i : ℕ) (x : KernelItem) : Type 0 where
   pub place : ℕ
   pub source : KernelItem
-  pub front : place < i
+  pub below : place < i
   pub at : slice_get items place ≡ Some source
   pub moves : slice_get (rhs_of g source.production) source.dot ≡ Some X
   pub is : x ≡ past source
@@ -48,7 +48,7 @@ past_before x y (inl l) = inl l
 past_before x y (inr l) = let e = l.1 in inr (l.0, omega arith)
 
 further : (g : PlainGrammar) (X : Symbol) (items : List KernelItem) (i : ℕ) (x : KernelItem) → IsAdvancedItem g X items i x → IsAdvancedItem g X items (i + 1) x
-further g X items i x h = record { place = h.place; source = h.source; front = (let f = h.front in omega arith); at = h.at; moves = h.moves; is = h.is }
+further g X items i x h = record { place = h.place; source = h.source; below = (let f = h.below in omega arith); at = h.at; moves = h.moves; is = h.is }
 
 module _ (g : PlainGrammar) (X : Symbol) (items out : List KernelItem) (i : ℕ) (y : KernelItem) (k : IsItemList g (of_items items)) (h : MovedSoFar g X items out i) (at : slice_get items i ≡ Some y) where
   pub MovedSoFar-push : slice_get (rhs_of g y.production) y.dot ≡ Some X → MovedSoFar g X items (out ++ past y ∷ []) (i + 1)
@@ -57,10 +57,10 @@ module _ (g : PlainGrammar) (X : Symbol) (items out : List KernelItem) (i : ℕ)
       let room = slice_get_within (rhs_of g y.production) y.dot X m in
       record {
         kernel = kernel_push g out (past y) h.kernel (record { production = valid.production; dot = omega arith; looks = valid.looks; rising = valid.rising; some = valid.some })
-            (λ x c. let o = h.origin x c in let P : KernelItem → Type 0 = λ z. IsItemBefore z (past y) in subst P (sym o.is) (past_before o.source y (rising_at IsItemBefore items k.rising o.place i o.source y o.front o.at at)));
+            (λ x c. let o = h.origin x c in let P : KernelItem → Type 0 = λ z. IsItemBefore z (past y) in subst P (sym o.is) (past_before o.source y (rising_at IsItemBefore items k.rising o.place i o.source y o.below o.at at)));
         origin = λ x c. elim (Contains-push_cases out (past y) x c) [
           | inl d ↦ further g X items i x (h.origin x d)
-          | inr e ↦ record { place = i; source = y; front = omega arith; at = at; moves = m; is = sym e }
+          | inr e ↦ record { place = i; source = y; below = omega arith; at = at; moves = m; is = sym e }
         ];
         moved = λ j z l read n. elim (cases_eq j i) [
           | inl e ↦ (let one : z ≡ y = get_unique items i z y (rw e at read) at in let P : KernelItem → Type 0 = λ w. Contains (out ++ past y ∷ []) (past w) in subst P (sym one) (Contains-push out (past y)))

@@ -62,7 +62,7 @@ pub record IsTarget (g : PlainGrammar) (a : Automaton) (s : ℕ) (X : Symbol) (u
 -- The automaton belongs to the grammar: its first kernels are the start kernels, each state has exactly the edges of
 -- its moves, and each edge leads to a state with the core and at least the looks of the move (Knuth 1965, Pager 1977).
 pub record IsAutomaton (g : PlainGrammar) (a : Automaton) : Type 0 where
-  pub enough : length g.starts ≤ length a.kernels
+  pub enough_states : length g.starts ≤ length a.kernels
   pub few : length a.kernels < 2 ^ 32
   pub rows : length a.edges ≡ length a.kernels
   pub each : (s : ℕ) → s < length a.kernels → IsItemList g (kernel_at a s)

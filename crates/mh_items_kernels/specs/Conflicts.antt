@@ -18,7 +18,7 @@ pub record ShiftsOn (g : PlainGrammar) (I : ItemSet) (z : ℕ) : Type 0 where
   pub look : Look
   pub rest : List Symbol
   pub item : Close g I production dot look
-  pub behind : drop dot (rhs_of g production) ≡ T z ∷ rest
+  pub token_next : drop dot (rhs_of g production) ≡ T z ∷ rest
 
 -- The closure of the set has the complete item of production p with this look, so that the set reduces p (Knuth 1965).
 abbrev pub ReducesOn : PlainGrammar → ItemSet → ℕ → Look → Type 0

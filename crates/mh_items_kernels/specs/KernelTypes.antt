@@ -14,10 +14,10 @@ KernelItem = ItemWith (List Look)
 abbrev pub Items : Type 0
 Items = ItemsWith (List Look)
 
--- A kernel.
+-- The kernel of a state: its items with their looks.
 abbrev pub Kernel : Type 0
 Kernel = Items
 
--- An automaton.
+-- An automaton: its kernels and its edges.
 abbrev pub Automaton : Type 0
 Automaton = AutomatonWith (List Look)

@@ -9,7 +9,7 @@ use crate::kernels::Kernel;
 use mh_grammar::Grammar;
 
 /// Law: two kernels with the same set of items are equal.
-pub fn one_list(grammar: &Grammar)
+pub fn same_items_same_kernel(grammar: &Grammar)
     ensures { (left right : KernelOf) → IsItemList (plain_of grammar.now) left → IsItemList (plain_of grammar.now) right → AreSameItems (Holds left) (Holds right) → left ≡ right }
 {
     let _grammar = grammar;

@@ -11,6 +11,6 @@ pub use items::{advanced, copied_item, joined_item, passed_on};
 pub use kernels::{
     Automaton, AutomatonWith, Closure, ItemWith, ItemsWith, Kernel, KernelItem, StatesFault,
 };
-pub use laws::{are_equal, one_list};
+pub use laws::{are_equal, same_items_same_kernel};
 pub use places::{rest_from, symbol_at, symbol_in, symbols_after_dot};
 pub use starts::start_kernel;

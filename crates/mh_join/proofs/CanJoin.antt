@@ -5,7 +5,7 @@ use Rattle.std.specs.List.{All, flat_map, enumerate_from, list_any}
 use Rattle.std.proofs.lemmas.Bool.{cases_lt, lt-ltb}
 use Rattle.std.proofs.lemmas.List.Concat.{flat_map-append}
 use Rattle.mh_grammar.proofs.Lists.{nil_parts}
-use Rattle.mh_rules.specs.declared.joined.TheConstants.{MAX_TOKENS}
+use Rattle.mh_rules.specs.Limits.{max_tokens}
 use Rattle.mh_rules.specs.declared.modules.Ref.{Ref}
 use Rattle.mh_rules.specs.declared.modules.Actual.{Actual}
 use Rattle.mh_rules.specs.declared.modules.Alternative.{Alternative}
@@ -91,11 +91,11 @@ kept_nil {B = B} f ks (x ∷ xs) p q = kept_nil f (insert_key same ks x) xs (go 
     go true = p
     go false = flat_map-append f ks (x ∷ []) ∙ ap (λ k. k ++ (f x ++ [])) p ∙ ap (λ k. k ++ []) (nil_parts (f x) (flat_map f xs) q).0
 
-pub few_tokens : (n : ℕ) → many_tokens n ≡ [] → n ≤ MAX_TOKENS
-few_tokens n h = go (cases_lt MAX_TOKENS n)
+pub few_tokens : (n : ℕ) → many_tokens n ≡ [] → n ≤ max_tokens
+few_tokens n h = go (cases_lt max_tokens n)
   where
-    go : (MAX_TOKENS < n) ⊎ (n ≤ MAX_TOKENS) → n ≤ MAX_TOKENS
-    go (inl more) = let bad : faults.TooManyTokens n ∷ [] ≡ [] = sym (ap (λ b. unless (not b) (faults.TooManyTokens n)) (lt-ltb MAX_TOKENS n more)) ∙ h in cc
+    go : (max_tokens < n) ⊎ (n ≤ max_tokens) → n ≤ max_tokens
+    go (inl more) = let bad : faults.TooManyTokens n ∷ [] ≡ [] = sym (ap (λ b. unless (not b) (faults.TooManyTokens n)) (lt-ltb max_tokens n more)) ∙ h in cc
     go (inr few) = few
 
 flat_starts : (f : Text → List JoinFault) (ms : List Module) → flat_map (λ (m : Module). flat_map f m.starts) ms ≡ flat_map f (flat_map (λ m. m.starts) ms)
@@ -122,7 +122,7 @@ can_join p ms n from_prelude named ready is none = record {
     later = (nil_parts (unless (has_some (meanings_in n).starts) faults.NoStart) (flat_map errors_in_file ms ++ (flat_map (unlevelled_in_file (meanings_in n)) ms ++ many_tokens (length (meanings_in n).tokens)))
         (nil_parts (duplicates (meanings_in n) ms) (other_faults (meanings_in n) ms) (nil_parts (flat_map (undefined_in_file (meanings_in n)) (files ms)) (duplicates (meanings_in n) ms ++ other_faults (meanings_in n) ms) none).1).1).1
 
--- The files joined by the tables of names are the joined files.
+-- A value joined with the tables of names is the joined value of the definition.
 pub joined_by : (p : Bool) (ms : List Module) (n : SymbolTables) (from_prelude : List Rule) (j : Joined) → HasMeanings p ms n → from_prelude ≡ prelude_rules p → IsJoinedBy (meanings_in n) (elsewhere_in n) n.numbering.rules.items (definitions_by n ms from_prelude) ms j → IsJoined p ms j
 joined_by p ms n from_prelude j named is by =
     subst (λ (w : Meanings). IsJoinedBy w (is_elsewhere ms) (rules p ms) (definitions p ms) ms j) named.meanings_are

@@ -11,8 +11,8 @@ use Rattle.std.proofs.lemmas.List.Elements.{All-from_recursion, recursion_from_A
 use Rattle.std.proofs.lemmas.List.Folds.{list_any-append}
 use Rattle.std.proofs.lemmas.List.Quantifiers.{position-Some}
 use Rattle.std.proofs.lemmas.Option.{slice_get_within, slice_get-get_or, slice_get-map, same_Some}
-use Rattle.mh_rules.specs.declared.joined.TheConstants.{MAX_TOKENS}
-use Rattle.mh_rules.specs.declared.modules.TheConstants.{MAX_DEPTH}
+use Rattle.mh_rules.specs.Limits.{max_tokens}
+use Rattle.mh_rules.specs.Limits.{max_actual_depth}
 use Rattle.mh_rules.specs.declared.modules.Ref.{Ref}
 use Rattle.mh_rules.specs.declared.modules.Ref.TheVariants.{Plain, Alias}
 use Rattle.mh_rules.specs.declared.modules.Actual.{Actual}
@@ -127,7 +127,7 @@ position_below : {X : Type 0} (p : X → Bool) (xs : List X) (i : ℕ) → posit
 position_below p xs i e = let found = at_position p xs i e in slice_get_within xs i found.0 found.1
 
 module _ {X : Type 0} (eq : X → X → Bool) (self : (x : X) → eq x x ≡ true) where
-  -- Each element is the first in the list that is equal to it.
+  -- Each element is equal to the element at the first position that is found for it.
   abbrev AreFirst : List X → Type 0
   AreFirst xs = (i : ℕ) (x : X) → slice_get xs i ≡ Some x → position (eq x) xs ≡ Some i
 
@@ -272,7 +272,7 @@ module _ (meant : Ref → Option Head) where
       go (b ∷ bs) (l ∷ ls) f h =
           let here : resolved meant b ≡ Some l = cc in
           let rest : map (resolved meant) bs ≡ map Some ls = cc in
-          (subst (λ n. n ≤ MAX_DEPTH) (sym (depth_kept b l here)) h.0, go bs ls rest h.1)
+          (subst (λ n. n ≤ max_actual_depth) (sym (depth_kept b l here)) h.0, go bs ls rest h.1)
 
 -- HEADS
 
@@ -442,7 +442,7 @@ module _ (p : Bool) (ms : List Module) (none : join_faults p ms ≡ []) where
   shapes_once : flat_map (shapes_in_file w) ms ≡ []
   shapes_once = (nil_parts (flat_map formals_in_file ms) (flat_map (shapes_in_file w) ms) (nil_parts (flat_map (own_in_file w) ms) (flat_map formals_in_file ms ++ flat_map (shapes_in_file w) ms) rules_once).1).1
 
-  tokens_few : length (token_names ms) ≤ MAX_TOKENS
+  tokens_few : length (token_names ms) ≤ max_tokens
   tokens_few =
       few_tokens (length (token_names ms))
       (nil_parts (flat_map (unlevelled_in_file w) ms) (many_tokens (length (token_names ms)))
@@ -450,7 +450,7 @@ module _ (p : Bool) (ms : List Module) (none : join_faults p ms ≡ []) where
       (nil_parts (unless (has_some w.starts) faults.NoStart) (flat_map errors_in_file ms ++ (flat_map (unlevelled_in_file w) ms ++ many_tokens (length (token_names ms))))
       (nil_parts (duplicates w ms) (other_faults w ms) past_undefined).1).1).1).1
 
-  -- A public definition agrees with the first definition of its name.
+  -- A public definition has the same formals as the first definition of its name.
   public_shape : (m : Module) (r : Rule) (o : Outline) → In ms m → In m.rules r → is_public (start_names ms) m.rules r.name ≡ true → w.joined r.name ≡ Some o → o.formals ≡ length r.formals
   public_shape m r o at_m at_r public joined =
       let fault : other_shape w (is_public (start_names ms) m.rules) r ≡ [] = nil_in (other_shape w (is_public (start_names ms) m.rules)) m.rules r (nil_in (shapes_in_file w) ms m shapes_once at_m) at_r in
@@ -709,7 +709,7 @@ module _ (p : Bool) (ms : List Module) (j : Joined) (none : join_faults p ms ≡
 -- Joined files are in range, if each of their rules has an alternative.
 pub ready : (p : Bool) (ms : List Module) (j : Joined) → AreModulesReady ms → Joins p ms (Ok j) → IsJoinedReady j
 ready p ms j filled (none, joined) = record {
-  few_tokens = subst (λ n. n ≤ MAX_TOKENS) (sym (tokens_length p ms j none joined)) (tokens_few p ms none);
+  few_tokens = subst (λ n. n ≤ max_tokens) (sym (tokens_length p ms j none joined)) (tokens_few p ms none);
   costs = tokens_costed p ms j filled joined;
   starts_below = All-from_recursion (λ s. s < length j.rules) j.starts (all_at (λ s. s < length j.rules) j.starts (start_below p ms j none joined));
   starts_distinct = starts_distinct p ms j none joined;

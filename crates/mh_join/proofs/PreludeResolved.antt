@@ -56,9 +56,9 @@ module _ (p : Outline → Bool) (respects : (a b : Outline) → same_rule a b �
       go true e = ap (λ b. b || c) (any_put ks x e)
       go false e = ap (λ b. list_any p (insert_key same_rule ks x) || b) (sym (ap (λ b. b || c) e) ∙ or_assoc (list_any p ks) (p x) c ∙ h) ∙ or-true (list_any p (insert_key same_rule ks x))
 
-  pub any_firsts : (ks xs : List Outline) → (list_any p ks || list_any p xs) ≡ true → list_any p (insert_all same_rule ks xs) ≡ true
-  any_firsts ks [] h = sym (or-false (list_any p ks)) ∙ h
-  any_firsts ks (x ∷ xs) h = any_firsts (insert_key same_rule ks x) xs (step ks x (list_any p xs) h)
+  pub any-insert_all : (ks xs : List Outline) → (list_any p ks || list_any p xs) ≡ true → list_any p (insert_all same_rule ks xs) ≡ true
+  any-insert_all ks [] h = sym (or-false (list_any p ks)) ∙ h
+  any-insert_all ks (x ∷ xs) h = any-insert_all (insert_key same_rule ks x) xs (step ks x (list_any p xs) h)
 
 pub and_left : (a b : Bool) → (a && b) ≡ true → a ≡ true
 and_left true b h = refl
@@ -89,7 +89,7 @@ number_known p ms x h =
     let test = is_rule (Some 0) x in
     let from_files = flat_map (definitions_in (start_names ms)) (files ms) in let from_prelude = prelude_definitions (prelude_rules p) in
     is_some-position test (rules p ms)
-    ∙ any_firsts test (respects_rule (Some 0) x) [] (map outline_of (definitions p ms))
+    ∙ any-insert_all test (respects_rule (Some 0) x) [] (map outline_of (definitions p ms))
     (ap (list_any test) (map-append outline_of from_files from_prelude) ∙ list_any-append test (map outline_of from_files) (map outline_of from_prelude)
     ∙ ap (λ b. list_any test (map outline_of from_files) || b) (prelude_has x 0 (prelude_rules p) ∙ h) ∙ or-true (list_any test (map outline_of from_files)))
 

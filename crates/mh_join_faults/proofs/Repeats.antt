@@ -19,22 +19,22 @@ use Rattle.mh_join_names.proofs.ReportsFirst.{IsFirstOrMemory}
 
 -- The set has the names examined so far, and the repeated names among all are those that the remaining names add.
 pub record RepeatSearch (keys done rest all : List Text) : Type 0 where
-  pub has : (x : Text) → list_any (same x) keys ≡ list_any (same x) done
-  pub once : repeats done rest ≡ repeats [] all
+  pub same_keys : (x : Text) → list_any (same x) keys ≡ list_any (same x) done
+  pub same_repeats : repeats done rest ≡ repeats [] all
 
 pub RepeatSearch-none : (all : List Text) → RepeatSearch [] [] all all
-RepeatSearch-none all = record { has = λ x. refl; once = refl }
+RepeatSearch-none all = record { same_keys = λ x. refl; same_repeats = refl }
 
 pub RepeatSearch-more : (keys new done rest all : List Text) (x : Text) → RepeatSearch keys done (x ∷ rest) all → ((y : Text) → list_any (same y) new ≡ (list_any (same y) keys || same y x)) → list_any (same x) keys ≡ false → RepeatSearch new (done ++ x ∷ []) rest all
 RepeatSearch-more keys new done rest all x seen put lacks = record {
-  has = λ y. put y ∙ ap (λ b. b || same y x) (seen.has y) ∙ ap (λ b. list_any (same y) done || b) (sym (or-false (same y x))) ∙ sym (list_any-append (same y) done (x ∷ []));
-  once = ap (λ b. unless (not b) (faults.Duplicate x) ++ repeats (done ++ x ∷ []) rest) (sym (sym (seen.has x) ∙ lacks)) ∙ seen.once;
+  same_keys = λ y. put y ∙ ap (λ b. b || same y x) (seen.same_keys y) ∙ ap (λ b. list_any (same y) done || b) (sym (or-false (same y x))) ∙ sym (list_any-append (same y) done (x ∷ []));
+  same_repeats = ap (λ b. unless (not b) (faults.Duplicate x) ++ repeats (done ++ x ∷ []) rest) (sym (sym (seen.same_keys x) ∙ lacks)) ∙ seen.same_repeats;
 }
 
 pub RepeatSearch-err : (keys done rest all : List Text) (x : Text) (e : JoinFault) → RepeatSearch keys done (x ∷ rest) all → (e ≡ faults.Memory) ⊎ ((e ≡ faults.Duplicate x) × (list_any (same x) keys ≡ true)) → IsFirstOrMemory (repeats [] all) e
 RepeatSearch-err keys done rest all x e seen (inl m) = inl m
 RepeatSearch-err keys done rest all x e seen (inr d) =
-    inr (ap first (sym seen.once) ∙ ap (λ b. first (unless (not b) (faults.Duplicate x) ++ repeats (done ++ x ∷ []) rest)) (sym (seen.has x) ∙ d.1) ∙ ap Some (sym d.0))
+    inr (ap first (sym seen.same_repeats) ∙ ap (λ b. first (unless (not b) (faults.Duplicate x) ++ repeats (done ++ x ∷ []) rest)) (sym (seen.same_keys x) ∙ d.1) ∙ ap Some (sym d.0))
 
 module _ (test : Text → Bool) where
   own_drop : (rules : List Rule) (i : ℕ) (r : Rule) → i < length rules → r ≡ get_or rules i r → own_names test (drop i rules) ≡ own_name test r ++ own_names test (drop (i + 1) rules)
@@ -45,8 +45,8 @@ module _ (test : Text → Bool) where
 
 pub RepeatSearch-own : {S : Type 0} (b : Bool) (old new : HashSet Text S) (done next rest later all : List Text) (x : Text) → next ≡ done ++ (if b then [] else x ∷ []) → rest ≡ (if b then [] else x ∷ []) ++ later → RepeatSearch old.keys done rest all → InsertsPrivate {X = Unit {0}} b old x new (Ok tt) → RepeatSearch new.keys next later all
 RepeatSearch-own true old new done next rest later all x t d seen puts = record {
-  has = λ y. ap (list_any (same y)) puts ∙ seen.has y ∙ ap (list_any (same y)) (sym (t ∙ append-nil done));
-  once = ap (λ k. repeats k later) (t ∙ append-nil done) ∙ ap (repeats done) (sym d) ∙ seen.once;
+  same_keys = λ y. ap (list_any (same y)) puts ∙ seen.same_keys y ∙ ap (list_any (same y)) (sym (t ∙ append-nil done));
+  same_repeats = ap (λ k. repeats k later) (t ∙ append-nil done) ∙ ap (repeats done) (sym d) ∙ seen.same_repeats;
 }
 RepeatSearch-own false old new done next rest later all x t d seen puts =
     subst (λ k. RepeatSearch new.keys k later all) (sym t) (RepeatSearch-more old.keys new.keys done later all x (subst (λ k. RepeatSearch old.keys done k all) d seen) puts.0 puts.1)

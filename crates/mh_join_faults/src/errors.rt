@@ -93,7 +93,7 @@ fn check_prec(names: &SymbolTables, prec: &Option<Ref>) -> Result<(), JoinFault>
     ensures { ReportsFirst (unlevelled (meanings_in names.now) prec.now) result }
 {
     match prec {
-        Some(Ref::Plain(name)) => require_level(names.is_levelled(name), name),
+        Some(Ref::Plain(name)) => require_level(names.may_follow_prec(name), name),
         _ => Ok(()),
     }
 }

@@ -55,7 +55,7 @@ fn check_head(
         (meant_by (meanings_in names.now) file (formals_in formals.now)) reference.now)
         result }
 {
-    let is_known = in_body && is_error(reference) || names.stands(file, formals, reference);
+    let is_known = in_body && is_error(reference) || names.defines(file, formals, reference);
     require_defined(is_known, text_of(reference))
 }
 

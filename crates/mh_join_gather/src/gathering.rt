@@ -42,7 +42,7 @@ fn fill(
     prelude: bool,
     from_prelude: &[Rule],
 ) -> Result<(), Memory>
-    requires blank { HasNoNames names.old }
+    requires empty { HasNoNames names.old }
     requires from_prelude { from_prelude.now ≡ prelude_rules prelude }
     ensures { OnOk result (HasMeanings prelude files.now names.new) }
 {

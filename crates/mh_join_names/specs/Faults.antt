@@ -4,7 +4,7 @@ use Rattle.std.specs.Prelude.{◌≡◌, ◌==◌, ◌&&◌, ◌||◌, ◌⊎◌
 use Rattle.std.specs.List.{enumerate_from, list_any, flat_map, find}
 use Rattle.std.specs.Map.{lookup}
 use Rattle.mh_grammar.specs.declared.types.Level.{Level}
-use Rattle.mh_rules.specs.declared.joined.TheConstants.{MAX_TOKENS}
+use Rattle.mh_rules.specs.Limits.{max_tokens}
 use Rattle.mh_rules.specs.declared.modules.Ref.{Ref}
 use Rattle.mh_rules.specs.declared.modules.Ref.TheVariants.{Plain, Alias}
 use Rattle.mh_rules.specs.declared.modules.Actual.{Actual}
@@ -253,9 +253,9 @@ unlevelled_in_rule w r = flat_map (λ a. unlevelled w a.prec) r.alternatives
 abbrev pub unlevelled_in_file : Meanings → Module → List JoinFault
 unlevelled_in_file w m = flat_map (unlevelled_in_rule w) m.rules
 
--- A fault if the grammar has more than `MAX_TOKENS` tokens.
+-- A fault if the grammar has more than `max_tokens` tokens.
 abbrev pub many_tokens : ℕ → List JoinFault
-many_tokens n = unless (not (nat_lt MAX_TOKENS n)) (faults.TooManyTokens n)
+many_tokens n = unless (not (nat_lt max_tokens n)) (faults.TooManyTokens n)
 
 -- ALL FAULTS, IN THE ORDER OF THE SEARCH
 

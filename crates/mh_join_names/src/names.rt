@@ -6,6 +6,7 @@ ghost use Rattle.mh_join_names.specs.Names as spec;
 ghost use Rattle.mh_join_names.specs.Names.{same, user_head, visible_head};
 ghost use Rattle.mh_join_names.specs.Faults.{meant_by};
 ghost use Rattle.mh_join_names.specs.code.SymbolTables.{numbers_in, meanings_in, elsewhere_in, formals_in};
+ghost use Rattle.mh_rules.specs.Limits.{max_tokens};
 
 use crate::aliases::Aliases;
 use crate::formals::Formals;
@@ -13,7 +14,7 @@ use crate::kinds::NameKind;
 use crate::name_list::NameList;
 use crate::numbering::Numbering;
 use mh_grammar::{Level, Name, Token};
-use mh_rules::{Head, MAX_TOKENS, Ref};
+use mh_rules::{Head, Ref};
 use std::collections::HashMap;
 
 /// The first cost given to each token that has one, from 1 to 1,000.
@@ -50,11 +51,11 @@ pub struct SymbolTables {
 
 impl SymbolTables {
     /// Whether a name or string is defined, in a rule of this file with these formals.
-    pub fn stands(&self, file: u64, formals: &Formals, reference: &Ref) -> bool
+    pub fn defines(&self, file: u64, formals: &Formals, reference: &Ref) -> bool
         ensures { result ≡ is_some (meant_by (meanings_in self.now) file (formals_in formals.now) reference.now) }
     {
         match reference {
-            Ref::Plain(name) => self.name_stands(file, formals, name),
+            Ref::Plain(name) => self.defines_name(file, formals, name),
             Ref::Alias(alias) => match self.aliases.get(alias) {
                 Some(token) => self.is_token(token),
                 None => false,
@@ -62,7 +63,7 @@ impl SymbolTables {
         }
     }
 
-    fn name_stands(&self, file: u64, formals: &Formals, name: &Name) -> bool
+    fn defines_name(&self, file: u64, formals: &Formals, name: &Name) -> bool
         ensures { result ≡ is_some (spec.head_of_name (numbers_in self.now) file (formals_in formals.now) name.now) }
     {
         if formals.contains_key(name) {
@@ -115,7 +116,7 @@ impl SymbolTables {
     }
 
     fn token_head(&self, name: &Name) -> Option<Head>
-        requires { length self.now.tokens.keys ≤ MAX_TOKENS }
+        requires { length self.now.tokens.keys ≤ max_tokens }
         ensures { result ≡ spec.token_head (numbers_in self.now) name.now }
     {
         match self.tokens.place_of(name) {
@@ -125,7 +126,7 @@ impl SymbolTables {
     }
 
     fn user_head(&self, file: u64, name: &Name) -> Option<Head>
-        requires { length self.now.tokens.keys ≤ MAX_TOKENS }
+        requires { length self.now.tokens.keys ≤ max_tokens }
         ensures { result ≡ user_head (numbers_in self.now) file name.now }
     {
         if let Some(head) = self.token_head(name) {
@@ -138,7 +139,7 @@ impl SymbolTables {
     }
 
     fn visible_head(&self, file: u64, name: &Name) -> Option<Head>
-        requires { length self.now.tokens.keys ≤ MAX_TOKENS }
+        requires { length self.now.tokens.keys ≤ max_tokens }
         ensures { result ≡ visible_head (numbers_in self.now) file name.now }
     {
         if file == 0 {
@@ -149,7 +150,7 @@ impl SymbolTables {
     }
 
     fn head_of_name(&self, file: u64, formals: &Formals, name: &Name) -> Option<Head>
-        requires { length self.now.tokens.keys ≤ MAX_TOKENS }
+        requires { length self.now.tokens.keys ≤ max_tokens }
         ensures { result ≡ spec.head_of_name (numbers_in self.now) file (formals_in formals.now) name.now }
     {
         if let Some(number) = formals.get(name) {
@@ -163,7 +164,7 @@ impl SymbolTables {
 
     /// The meaning of a name or string, in a rule of this file with these formals.
     pub fn head_of(&self, file: u64, formals: &Formals, reference: &Ref) -> Option<Head>
-        requires { length self.now.tokens.keys ≤ MAX_TOKENS }
+        requires { length self.now.tokens.keys ≤ max_tokens }
         ensures { result ≡ meant_by (meanings_in self.now) file (formals_in formals.now) reference.now }
     {
         match reference {
@@ -172,8 +173,8 @@ impl SymbolTables {
         }
     }
 
-    /// Whether a name is a token or has a level.
-    pub fn is_levelled(&self, name: &Name) -> bool
+    /// Whether a name may follow `%prec`: whether it is a token, or has a level.
+    pub fn may_follow_prec(&self, name: &Name) -> bool
         ensures { result ≡ (list_any (same name.now) self.now.tokens.keys || is_some (get same self.now.levels name.now)) }
     {
         self.tokens.contains(name) || self.levels.contains_key(name)

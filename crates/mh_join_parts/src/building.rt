@@ -9,13 +9,13 @@ ghost use Rattle.mh_join_names.specs.Faults.{meant_by, undefined_in_actual, unde
 ghost use Rattle.mh_join_names.specs.Joining.{resolved, all_resolved, prec_by, alternative_by, token_info, on_error_in, rule_without, AreRules};
 ghost use Rattle.mh_join_names.specs.code.SymbolTables.{meanings_in, elsewhere_in, formals_in};
 ghost use Rattle.mh_join_parts.specs.code.CanJoin.{unresolved, unresolved_in_rule, unresolved_in_rules, unresolved_in_file, unresolved_on_error, definitions_by, AddsAlternatives};
+ghost use Rattle.mh_rules.specs.Limits.{max_tokens};
 
 use crate::printing::printed;
 use mh_grammar::{Level, Memory, Name, Sequence, TokenInfo, lost};
 use mh_join_names::{Formals, SymbolTables, formals_of, marked_public, name_by, owner_in};
 use mh_rules::{
-    Actual, Alternative, Applied, JoinedAlternative, JoinedRule, MAX_TOKENS, Module, Prec, Ref,
-    Rule,
+    Actual, Alternative, Applied, JoinedAlternative, JoinedRule, Module, Prec, Ref, Rule,
 };
 use std::alloc::Global;
 use std::collections::HashSet;
@@ -41,8 +41,8 @@ struct Definition<'a> {
 /// The actual with its names resolved.
 #[cycle(actuals)]
 fn joined_actual(alloc: Global, scope: &Scope<'_>, actual: &Actual) -> Result<Applied, Memory>
-    requires few { length scope.now.names.now.tokens.keys ≤ MAX_TOKENS }
-    requires stand { undefined_in_actual false
+    requires few { length scope.now.names.now.tokens.keys ≤ max_tokens }
+    requires resolved { undefined_in_actual false
         (meant_by (meanings_in scope.now.names.now) scope.now.file (formals_in scope.now.formals.now)) actual.now
         ≡ [] }
     ensures { IfOk result (λ a.
@@ -63,8 +63,8 @@ fn joined_actuals(
     scope: &Scope<'_>,
     actuals: &[Actual],
 ) -> Result<Sequence<Applied>, Memory>
-    requires few { length scope.now.names.now.tokens.keys ≤ MAX_TOKENS }
-    requires stand { flat_map
+    requires few { length scope.now.names.now.tokens.keys ≤ max_tokens }
+    requires resolved { flat_map
         (undefined_in_actual false (meant_by (meanings_in scope.now.names.now) scope.now.file (formals_in scope.now.formals.now)))
         actuals.now
         ≡ [] }
@@ -137,8 +137,8 @@ fn start_number(names: &SymbolTables, name: &Name) -> u64
 
 /// Appends the numbers of the start symbols.
 pub(crate) fn put_starts(names: &SymbolTables, starts: &mut Sequence<u64>) -> Result<(), Memory>
-    requires blank { starts.old ≡ [] }
-    requires stand { flat_map (undefined_start (meanings_in names.now)) (meanings_in names.now).starts ≡ [] }
+    requires empty { starts.old ≡ [] }
+    requires resolved { flat_map (undefined_start (meanings_in names.now)) (meanings_in names.now).starts ≡ [] }
     ensures { OnOk result
         (map Some starts.new
         ≡ map ((meanings_in names.now).numbers.rule None) (meanings_in names.now).starts) }
@@ -155,8 +155,8 @@ fn add_on_error(
     declared: &[Sequence<Actual>],
     joined: &mut Sequence<Sequence<Applied>>,
 ) -> Result<(), Memory>
-    requires few { length scope.now.names.now.tokens.keys ≤ MAX_TOKENS }
-    requires stand { flat_map
+    requires few { length scope.now.names.now.tokens.keys ≤ max_tokens }
+    requires resolved { flat_map
         (undefined_in_on_error (meant_by (meanings_in scope.now.names.now) scope.now.file (formals_in scope.now.formals.now)))
         declared.now
         ≡ [] }
@@ -178,10 +178,10 @@ fn put_all_on_error(
     modules: &[Module],
     joined: &mut Sequence<Sequence<Applied>>,
 ) -> Result<(), Memory>
-    requires few { length names.now.tokens.keys ≤ MAX_TOKENS }
+    requires few { length names.now.tokens.keys ≤ max_tokens }
     requires none { (x : Text) → formals_in none.now x ≡ formal_number [] x }
-    requires blank { joined.old ≡ [] }
-    requires stand { flat_map (unresolved_on_error (meanings_in names.now)) (files modules.now) ≡ [] }
+    requires empty { joined.old ≡ [] }
+    requires resolved { flat_map (unresolved_on_error (meanings_in names.now)) (files modules.now) ≡ [] }
     ensures { OnOk result
         (map Some joined.new ≡ flat_map (on_error_in (meanings_in names.now)) (files modules.now)) }
 {
@@ -204,9 +204,9 @@ pub(crate) fn put_on_error(
     modules: &[Module],
     joined: &mut Sequence<Sequence<Applied>>,
 ) -> Result<(), Memory>
-    requires few { length names.now.tokens.keys ≤ MAX_TOKENS }
-    requires blank { joined.old ≡ [] }
-    requires stand { flat_map (unresolved_on_error (meanings_in names.now)) (files modules.now) ≡ [] }
+    requires few { length names.now.tokens.keys ≤ max_tokens }
+    requires empty { joined.old ≡ [] }
+    requires resolved { flat_map (unresolved_on_error (meanings_in names.now)) (files modules.now) ≡ [] }
     ensures { OnOk result
         (map Some joined.new ≡ flat_map (on_error_in (meanings_in names.now)) (files modules.now)) }
 {
@@ -222,8 +222,8 @@ fn joined_alternative(
     place: u64,
     alternative: &Alternative,
 ) -> Result<JoinedAlternative, Memory>
-    requires few { length scope.now.names.now.tokens.keys ≤ MAX_TOKENS }
-    requires stand { unresolved (meant_by (meanings_in scope.now.names.now) scope.now.file (formals_in scope.now.formals.now)) alternative.now ≡ [] }
+    requires few { length scope.now.names.now.tokens.keys ≤ max_tokens }
+    requires resolved { unresolved (meant_by (meanings_in scope.now.names.now) scope.now.file (formals_in scope.now.formals.now)) alternative.now ≡ [] }
     ensures { IfOk result (λ a. Some a
         ≡ alternative_by (meanings_in scope.now.names.now) scope.now.file
         (meant_by (meanings_in scope.now.names.now) scope.now.file (formals_in scope.now.formals.now)) (place, alternative.now)) }
@@ -243,9 +243,9 @@ fn add_alternatives(
     alternatives: &[Alternative],
     joined: &mut Sequence<JoinedAlternative>,
 ) -> Result<(), Memory>
-    requires few { length scope.now.names.now.tokens.keys ≤ MAX_TOKENS }
+    requires few { length scope.now.names.now.tokens.keys ≤ max_tokens }
     requires fits { place + length alternatives.now < 2 ^ 64 }
-    requires stand { flat_map
+    requires resolved { flat_map
         (unresolved (meant_by (meanings_in scope.now.names.now) scope.now.file (formals_in scope.now.formals.now))) alternatives.now
         ≡ [] }
     ensures { OnOk result (map Some joined.new
@@ -269,9 +269,9 @@ fn add_definition(
     definition: &Definition<'_>,
     joined: &mut Sequence<JoinedAlternative>,
 ) -> Result<(), Memory>
-    requires few { length names.now.tokens.keys ≤ MAX_TOKENS }
+    requires few { length names.now.tokens.keys ≤ max_tokens }
     requires fits { definition.now.place + length definition.now.rule.now.alternatives < 2 ^ 64 }
-    requires stand { unresolved_in_rule (meanings_in names.now) definition.now.file definition.now.rule.now ≡ [] }
+    requires resolved { unresolved_in_rule (meanings_in names.now) definition.now.file definition.now.rule.now ≡ [] }
     ensures { OnOk result (map Some joined.new
         ≡ map Some joined.old
         ++ map
@@ -298,9 +298,9 @@ fn add_rule(
     definition: &Definition<'_>,
     joined: &mut [JoinedRule],
 ) -> Result<(), Memory>
-    requires few { length names.now.tokens.keys ≤ MAX_TOKENS }
+    requires few { length names.now.tokens.keys ≤ max_tokens }
     requires fits { definition.now.place + length definition.now.rule.now.alternatives < 2 ^ 64 }
-    requires stand { unresolved_in_rule (meanings_in names.now) definition.now.file definition.now.rule.now ≡ [] }
+    requires resolved { unresolved_in_rule (meanings_in names.now) definition.now.file definition.now.rule.now ≡ [] }
     ensures { OnOk result (AddsAlternatives (meanings_in names.now)
         (record { file = definition.now.file; owner = definition.now.owner; place = definition.now.place; rule = definition.now.rule.now } ∷ []) joined.old
         joined.new) }
@@ -340,9 +340,9 @@ fn add_rules(
     rules: &[Rule],
     joined: &mut [JoinedRule],
 ) -> Result<(), Memory>
-    requires few { length names.now.tokens.keys ≤ MAX_TOKENS }
+    requires few { length names.now.tokens.keys ≤ max_tokens }
     requires marked { (x : Text) → contains same marked.now x ≡ marks_public rules.now x }
-    requires stand { unresolved_in_rules (meanings_in names.now) file rules.now ≡ [] }
+    requires resolved { unresolved_in_rules (meanings_in names.now) file rules.now ≡ [] }
     ensures { OnOk result (AddsAlternatives (meanings_in names.now)
         (definitions_from (names_spec.owner_in names.now.starts.keys file rules.now) file 0
         rules.now)
@@ -372,8 +372,8 @@ fn add_file(
     rules: &[Rule],
     joined: &mut [JoinedRule],
 ) -> Result<(), Memory>
-    requires few { length names.now.tokens.keys ≤ MAX_TOKENS }
-    requires stand { unresolved_in_rules (meanings_in names.now) file rules.now ≡ [] }
+    requires few { length names.now.tokens.keys ≤ max_tokens }
+    requires resolved { unresolved_in_rules (meanings_in names.now) file rules.now ≡ [] }
     ensures { OnOk result (AddsAlternatives (meanings_in names.now)
         (definitions_from (names_spec.owner_in names.now.starts.keys file rules.now) file 0
         rules.now)
@@ -392,8 +392,8 @@ fn add_prelude(
     rules: &[Rule],
     joined: &mut [JoinedRule],
 ) -> Result<(), Memory>
-    requires few { length names.now.tokens.keys ≤ MAX_TOKENS }
-    requires stand { unresolved_in_rules (meanings_in names.now) 0 rules.now ≡ [] }
+    requires few { length names.now.tokens.keys ≤ max_tokens }
+    requires resolved { unresolved_in_rules (meanings_in names.now) 0 rules.now ≡ [] }
     ensures { OnOk result
         (AddsAlternatives (meanings_in names.now) (names_spec.prelude_definitions rules.now) joined.old joined.new) }
 {
@@ -451,8 +451,8 @@ fn add_files(
     modules: &[Module],
     joined: &mut [JoinedRule],
 ) -> Result<(), Memory>
-    requires few { length names.now.tokens.keys ≤ MAX_TOKENS }
-    requires stand { flat_map (unresolved_in_file (meanings_in names.now)) (files modules.now) ≡ [] }
+    requires few { length names.now.tokens.keys ≤ max_tokens }
+    requires resolved { flat_map (unresolved_in_file (meanings_in names.now)) (files modules.now) ≡ [] }
     ensures { OnOk result (AddsAlternatives (meanings_in names.now)
         (flat_map (definitions_in names.now.starts.keys) (files modules.now)) joined.old joined.new) }
 {
@@ -470,9 +470,9 @@ fn add_all(
     from_prelude: &[Rule],
     joined: &mut [JoinedRule],
 ) -> Result<(), Memory>
-    requires few { length names.now.tokens.keys ≤ MAX_TOKENS }
-    requires stand { flat_map (unresolved_in_file (meanings_in names.now)) (files modules.now) ≡ [] }
-    requires prelude_stands { unresolved_in_rules (meanings_in names.now) 0 from_prelude.now ≡ [] }
+    requires few { length names.now.tokens.keys ≤ max_tokens }
+    requires resolved { flat_map (unresolved_in_file (meanings_in names.now)) (files modules.now) ≡ [] }
+    requires prelude_resolved { unresolved_in_rules (meanings_in names.now) 0 from_prelude.now ≡ [] }
     ensures { OnOk result
         (AddsAlternatives (meanings_in names.now) (definitions_by names.now modules.now from_prelude.now) joined.old
         joined.new) }
@@ -489,9 +489,9 @@ pub(crate) fn joined_rules(
     modules: &[Module],
     from_prelude: &[Rule],
 ) -> Result<Sequence<JoinedRule>, Memory>
-    requires few { length names.now.tokens.keys ≤ MAX_TOKENS }
-    requires stand { flat_map (unresolved_in_file (meanings_in names.now)) (files modules.now) ≡ [] }
-    requires prelude_stands { unresolved_in_rules (meanings_in names.now) 0 from_prelude.now ≡ [] }
+    requires few { length names.now.tokens.keys ≤ max_tokens }
+    requires resolved { flat_map (unresolved_in_file (meanings_in names.now)) (files modules.now) ≡ [] }
+    requires prelude_resolved { unresolved_in_rules (meanings_in names.now) 0 from_prelude.now ≡ [] }
     ensures { IfOk result
         (AreRules (meanings_in names.now) (elsewhere_in names.now) names.now.numbering.rules.items
         (definitions_by names.now modules.now from_prelude.now)) }

@@ -6,11 +6,12 @@ ghost use Rattle.mh_join_names.specs.Joining.{IsJoinedBy, on_error_in, token_inf
 ghost use Rattle.mh_join_names.specs.Names.{files};
 ghost use Rattle.mh_join_names.specs.code.SymbolTables.{meanings_in, elsewhere_in};
 ghost use Rattle.mh_join_parts.specs.code.CanJoin.{CanJoin, definitions_by, unresolved_on_error};
+ghost use Rattle.mh_rules.specs.Limits.{max_tokens};
 
 use crate::building::{joined_rules, put_on_error, put_starts, put_tokens};
 use mh_grammar::{Memory, Sequence, lost};
 use mh_join_names::SymbolTables;
-use mh_rules::{Joined, MAX_TOKENS, Module, Rule};
+use mh_rules::{Joined, Module, Rule};
 use std::alloc::Global;
 
 /// Appends the tokens, the start symbols and the on-error declarations.
@@ -20,7 +21,7 @@ fn put_names(
     modules: &[Module],
     joined: &mut Joined,
 ) -> Result<(), Memory>
-    requires few { length names.now.tokens.keys ≤ MAX_TOKENS }
+    requires few { length names.now.tokens.keys ≤ max_tokens }
     requires starts { flat_map (undefined_start (meanings_in names.now)) (meanings_in names.now).starts ≡ [] }
     requires on_error { flat_map (unresolved_on_error (meanings_in names.now)) (files modules.now) ≡ [] }
     requires no_tokens { joined.old.tokens ≡ [] }

@@ -213,18 +213,18 @@ literal_some text s c are = let n = character_above text c in positive_test (lit
 -- The longest identifier at the beginning of the bytes.
 record IdIn (s : List ℕ) : Type 0 where
   id : List ℕ
-  behind : List ℕ
-  are : IsId id
-  split : s ≡ id ++ behind
+  rest : List ℕ
+  is_id : IsId id
+  split : s ≡ id ++ rest
   size : id_rest s ≡ length id
 
 id_in : (s : List ℕ) → IdIn s
-id_in [] = record { id = []; behind = []; are = tt; split = refl; size = refl }
+id_in [] = record { id = []; rest = []; is_id = tt; split = refl; size = refl }
 id_in (b ∷ bs) = by (is_id_byte b) refl (id_in bs)
   where
     by : (c : Bool) → is_id_byte b ≡ c → IdIn bs → IdIn (b ∷ bs)
-    by true e x = record { id = b ∷ x.id; behind = x.behind; are = (e, x.are); split = ap (λ k. b ∷ k) x.split; size = rw e (ap (λ k. k + 1) x.size ∙ (omega arith)) }
-    by false e x = record { id = []; behind = b ∷ bs; are = tt; split = refl; size = rw e refl }
+    by true e x = record { id = b ∷ x.id; rest = x.rest; is_id = (e, x.is_id); split = ap (λ k. b ∷ k) x.split; size = rw e (ap (λ k. k + 1) x.size ∙ (omega arith)) }
+    by false e x = record { id = []; rest = b ∷ bs; is_id = tt; split = refl; size = rw e refl }
 
 has_behind : (s r : List ℕ) (c : ℕ) → has (s ++ r) (length s) c ≡ has r 0 c
 has_behind [] r c = refl
@@ -238,9 +238,9 @@ id_up_to_bar (b ∷ bs) r h = rw h.0 (ap (λ k. k + 1) (id_up_to_bar bs r h.1) �
 -- The bytes begin with a brace, an identifier and a bar.
 record OpeningIn (s : List ℕ) (n : ℕ) : Type 0 where
   id : List ℕ
-  behind : List ℕ
-  are : IsId id
-  split : s ≡ 123 ∷ id ++ 124 ∷ behind
+  rest : List ℕ
+  is_id : IsId id
+  split : s ≡ 123 ∷ id ++ 124 ∷ rest
   size : n ≡ length id + 2
 
 opening_in : (s : List ℕ) → nat_lt 0 (quoted_opening s) ≡ true → OpeningIn s (quoted_opening s)
@@ -250,8 +250,8 @@ opening_in s h = by (has s 0 123 && has s (id_rest (drop 1 s) + 1) 124) refl h
     behind_brace : (bs : List ℕ) → has bs (id_rest bs) 124 ≡ true → OpeningIn (123 ∷ bs) (id_rest bs + 2)
     behind_brace bs h =
         let x = id_in bs in
-        let bar : has x.behind 0 124 ≡ true = sym (has_behind x.id x.behind 124) ∙ ap (λ n. has (x.id ++ x.behind) n 124) (sym x.size) ∙ subst (λ k. has k (id_rest bs) 124 ≡ true) x.split h in
-        record { id = x.id; behind = drop 1 x.behind; are = x.are; split = ap (λ k. 123 ∷ k) (x.split ∙ ap (λ k. x.id ++ k) (first_byte_is x.behind 124 refl bar)); size = ap (λ n. n + 2) x.size }
+        let bar : has x.rest 0 124 ≡ true = sym (has_behind x.id x.rest 124) ∙ ap (λ n. has (x.id ++ x.rest) n 124) (sym x.size) ∙ subst (λ k. has k (id_rest bs) 124 ≡ true) x.split h in
+        record { id = x.id; rest = drop 1 x.rest; is_id = x.is_id; split = ap (λ k. 123 ∷ k) (x.split ∙ ap (λ k. x.id ++ k) (first_byte_is x.rest 124 refl bar)); size = ap (λ n. n + 2) x.size }
 
     at : (s : List ℕ) → (has s 0 123 ≡ true) × (has s (id_rest (drop 1 s) + 1) 124 ≡ true) → OpeningIn s (id_rest (drop 1 s) + 2)
     at [] h = absurd (true≢false (sym h.0))
@@ -450,8 +450,8 @@ module _ (id behind : List ℕ) where
 quoted_reading : {nest : Option ℕ} {close : List ℕ} (s : List ℕ) (n : ℕ) → OpeningIn s n → Reading nest close s (step_past n (quoted_rest (quoted_id n s) (drop n s)))
 quoted_reading {nest} {close} s n x =
     subst (λ t. Reading nest close t (step_past n (quoted_rest (quoted_id n t) (drop n t)))) (sym x.split)
-    (subst (λ k. Reading nest close (123 ∷ x.id ++ 124 ∷ x.behind) (step_past k (quoted_rest (quoted_id k (123 ∷ x.id ++ 124 ∷ x.behind)) (drop k (123 ∷ x.id ++ 124 ∷ x.behind))))) (sym x.size)
-    (quoted_from x.id x.behind x.are _ refl))
+    (subst (λ k. Reading nest close (123 ∷ x.id ++ 124 ∷ x.rest) (step_past k (quoted_rest (quoted_id k (123 ∷ x.id ++ 124 ∷ x.rest)) (drop k (123 ∷ x.id ++ 124 ∷ x.rest))))) (sym x.size)
+    (quoted_from x.id x.rest x.is_id _ refl))
 
 -- Lemmas on steps over a single byte.
 starts_not : {s : List ℕ} → StartsItem s → AreBytes s → has s 0 34 ≡ false → nat_lt 0 (literal s) ≡ false → is_word_start (byte_at s 0) ≡ false → nat_lt 0 (quoted_opening s) ≡ false → begins_comment s ≡ false → ⊥

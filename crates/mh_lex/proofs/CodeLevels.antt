@@ -69,12 +69,12 @@ Closing (e ∷ es) now rest = (mid : List ℕ) × Body e now mid × Closing es m
 -- code ends at `rest` exactly if the open levels do.
 pub record Inside (e : Delimiter) (start now : List ℕ) (es : List Delimiter) : Type 0 where
   pub sound : (rest : List ℕ) → Closing es now rest → Body e start rest
-  pub whole : (rest : List ℕ) → Body e start rest → Closing es now rest
+  pub complete : (rest : List ℕ) → Body e start rest → Closing es now rest
 
 pub Inside-start : (e : Delimiter) (start : List ℕ) → Inside e start start (e ∷ [])
 Inside-start e start = record {
   sound = λ rest l. subst (λ m. Body e start m) (sym l.2) l.1;
-  whole = λ rest b. (rest, b, refl);
+  complete = λ rest b. (rest, b, refl);
 }
 
 Inside-done : {e : Delimiter} {start now : List ℕ} → Inside e start now [] → Body e start now
@@ -84,49 +84,49 @@ module _ {e top : Delimiter} {start now : List ℕ} {es : List Delimiter} (i : I
   Inside-passes : {n : ℕ} → step top now ≡ Passes n → Inside e start (drop n now) (top ∷ es)
   Inside-passes s = record {
     sound = λ rest l. i.sound rest (l.0, passes s l.1, l.2);
-    whole = λ rest b. let l = i.whole rest b in (l.0, Body-passes s l.1, l.2);
+    complete = λ rest b. let l = i.complete rest b in (l.0, Body-passes s l.1, l.2);
   }
 
   Inside-nests : step top now ≡ Nests → Inside e start (drop 1 now) (top ∷ top ∷ es)
   Inside-nests s = record {
     sound = λ rest l. i.sound rest (l.2.0, nests s l.1 l.2.1, l.2.2);
-    whole = λ rest b. let l = i.whole rest b in let x = Body-nests s l.1 in (x.0, x.1, (l.0, x.2, l.2));
+    complete = λ rest b. let l = i.complete rest b in let x = Body-nests s l.1 in (x.0, x.1, (l.0, x.2, l.2));
   }
 
   Inside-remark : step top now ≡ Remark → Inside e start (drop 2 now) (Comment ∷ top ∷ es)
   Inside-remark s = record {
     sound = λ rest l. i.sound rest (l.2.0, remark s l.1 l.2.1, l.2.2);
-    whole = λ rest b. let l = i.whole rest b in let x = Body-remark s l.1 in (x.0, x.1, (l.0, x.2, l.2));
+    complete = λ rest b. let l = i.complete rest b in let x = Body-remark s l.1 in (x.0, x.1, (l.0, x.2, l.2));
   }
 
   Inside-closes : {n : ℕ} → step top now ≡ Closes n → Inside e start (drop n now) es
   Inside-closes {n} s = record {
     sound = λ rest l. i.sound rest (drop n now, closes s refl, l);
-    whole = λ rest b. let l = i.whole rest b in subst (λ m. Closing es m rest) (Body-closes s l.1) l.2;
+    complete = λ rest b. let l = i.complete rest b in subst (λ m. Closing es m rest) (Body-closes s l.1) l.2;
   }
 
   Inside-stuck : step top now ≡ Stuck → (rest : List ℕ) → Body e start rest → ⊥
-  Inside-stuck s rest b = Body-stuck s (i.whole rest b).1
+  Inside-stuck s rest b = Body-stuck s (i.complete rest b).1
 
 -- In a comment no byte opens a level.
 record IsFlat (f : CodeStep) : Type 0 where
-  flat : f ≡ Nests → ⊥
+  not_nesting : f ≡ Nests → ⊥
 
 flat_cond : {x y : CodeStep} (b : Bool) → IsFlat x → IsFlat y → IsFlat (cond b x y)
 flat_cond true f g = f
 flat_cond false f g = g
 
 flat_closes : {n : ℕ} → IsFlat (Closes n)
-flat_closes = record { flat = λ e. cc }
+flat_closes = record { not_nesting = λ e. cc }
 
 flat_passes : {n : ℕ} → IsFlat (Passes n)
-flat_passes = record { flat = λ e. cc }
+flat_passes = record { not_nesting = λ e. cc }
 
 flat_remark : IsFlat Remark
-flat_remark = record { flat = λ e. cc }
+flat_remark = record { not_nesting = λ e. cc }
 
 flat_stuck : IsFlat Stuck
-flat_stuck = record { flat = λ e. cc }
+flat_stuck = record { not_nesting = λ e. cc }
 
 flat_passed : (opening : ℕ) (o : Option ℕ) → IsFlat (step_past opening o)
 flat_passed opening None = flat_stuck
@@ -193,7 +193,7 @@ module _ (code : Delimiter) (start : List ℕ) (at outer remarks : ℕ) (i : Ins
 
 pub nests_at : (code : Delimiter) (start : List ℕ) (at outer remarks : ℕ) → Inside code start (drop at start) (levels code remarks outer) → Nests ≡ step (innermost_of code remarks) (drop at start) →
     Inside code start (drop (at + 1) start) (levels code remarks (outer + 1))
-nests_at code start at outer (suc remarks) i s = absurd ((flat_comment (drop at start)).flat (sym s))
+nests_at code start at outer (suc remarks) i s = absurd ((flat_comment (drop at start)).not_nesting (sym s))
 nests_at code start at zero zero i s = subst (λ m. Inside code start m (code ∷ code ∷ [])) (drop-drop 1 at start) (Inside-nests i (sym s))
 nests_at code start at (suc outer) zero i s =
     rw (add-one (suc outer)) (subst (λ m. Inside code start m (code ∷ code ∷ outers code outer)) (drop-drop 1 at start) (Inside-nests i (sym s)))

@@ -1,5 +1,5 @@
--- The piece with which bytes inside code, comments and types begin (a rule of this project; the Menhir manual leaves
--- the content of actions to OCaml).
+-- The next piece of the bytes inside code, comments and types, where the scan goes on (a rule of this project; the
+-- Menhir manual leaves the content of actions to OCaml).
 use Rattle.std.specs.Prelude.{ℕ, ◌+◌, ◌&&◌, Bool, true, false, cond, List, Option, Some, None, drop, nat_lt}
 use Rattle.mh_lex.specs.declared.code.Delimiter.{Delimiter}
 use Rattle.mh_lex.specs.declared.code.Delimiter.TheVariants.{Comment, Brace, Bracket, Header, Angle, Slash}

@@ -53,8 +53,8 @@ pub data StartsItem : List ℕ → Type 0 where
 
 -- The text, which is followed by `rest`, is code and its closing delimiter `close`. Code consists of items, comments,
 -- nested levels and single bytes. A nested level begins with the byte `nest` and is closed like the code itself. A
--- level or a single byte is read only where no item or comment begins; a single byte also where no level begins and the
--- code is not closed.
+-- level or a single byte is read only where no item or comment begins. A single byte is read only where, besides, no
+-- level begins and the closing delimiter does not come next.
 pub data Code : Option ℕ → List ℕ → List ℕ → List ℕ → Type 0 where
   closes : {nest : Option ℕ} {close text rest : List ℕ} → text ≡ close → Code nest close text rest
   item : {nest : Option ℕ} {close rest : List ℕ} (text more : List ℕ) → CodeItem text (more ++ rest) → Code nest close more rest → Code nest close (text ++ more) rest

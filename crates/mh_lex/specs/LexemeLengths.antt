@@ -15,7 +15,7 @@ word_rest [] = 0
 word_rest (b ∷ bs) = cond (is_word_byte b) (word_rest bs + 1) 0
 
 -- The number of bytes after a string's opening quote, up to and including the closing quote. A backslash escapes the
--- next byte: `taken` is true if this byte is escaped.
+-- next byte: `taken` is true if the first byte of the list is escaped.
 abbrev pub string_rest : Bool → List ℕ → Option ℕ
 string_rest taken [] = None
 string_rest taken (b ∷ bs) = cond (not taken && b == 34) (Some 1) (plus_one (string_rest (not taken && b == 92) bs))

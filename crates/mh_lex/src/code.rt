@@ -34,7 +34,7 @@ pub enum Delimiter {
 pub enum CodeStep {
     /// The closing delimiter of the innermost level.
     Closes(usize),
-    /// Bytes that are passed over as a whole.
+    /// Bytes that are passed over in one step: their number.
     Passes(usize),
     /// One byte that opens a nested level.
     Nests,
@@ -182,7 +182,7 @@ fn closing_length(ends: Delimiter, rest: &[u8]) -> Option<usize>
     }
 }
 
-/// The step if the code is not closed here.
+/// The step at these bytes, if they do not begin with the closing delimiter.
 fn open_step(ends: Delimiter, rest: &[u8]) -> CodeStep
     ensures value { result ≡ step_over_opening ends rest.now }
     ensures within { IsStepWithin (length rest.now) result }

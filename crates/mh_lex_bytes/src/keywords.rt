@@ -1,4 +1,4 @@
-//! The words that may follow a percent sign, with a row for each. The definitions read the same rows as the code.
+//! The words that may follow a percent sign, with a row for each.
 ghost use Rattle.std.specs.Prelude.{◌≡◌};
 ghost use Rattle.mh_lex_bytes.specs.Keywords.{keywords as all_rows, keyword_among, keyword_named, text_rows};
 

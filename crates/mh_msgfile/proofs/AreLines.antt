@@ -26,7 +26,7 @@ ended_one line none = lines-one (line ++ 10 ∷ []) (omega (arith, one_longer li
     let within : k < length line = omega (arith, one_longer line, lt) in
     subst (λ (b : ℕ). b ≢ 10) (sym (get_or_append_left line (10 ∷ []) 0 k within)) (none k 0 within))
 
-ended_more : (line rest : Text) → HasNoLineFeed line → lines_of (line ++ 10 ∷ rest) ≡ (line ++ 10 ∷ []) ∷ lines_of rest
+pub ended_more : (line rest : Text) → HasNoLineFeed line → lines_of (line ++ 10 ∷ rest) ≡ (line ++ 10 ∷ []) ∷ lines_of rest
 ended_more line rest none =
     ap lines_of (sym (append_assoc line (10 ∷ []) rest)) ∙ lines-append (length (line ++ 10 ∷ [])) (line ++ 10 ∷ []) rest (omega arith) (inr (ends line))
     ∙ ap (λ (l : List Text). l ++ lines_of rest) (ended_one line none)

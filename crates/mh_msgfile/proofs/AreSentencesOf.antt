@@ -83,7 +83,7 @@ cut_shorter : (c : Bool) (n : ℕ) (line : Text) → n ≤ length line → lengt
 cut_shorter true n line le = omega (arith, length-take-le n line le)
 cut_shorter false n line le = omega arith
 
-are_short : (bytes : Text) (lines : List Text) → AreLines bytes lines → (k : ℕ) → length (slice_index_or lines k []) ≤ length bytes
+pub are_short : (bytes : Text) (lines : List Text) → AreLines bytes lines → (k : ℕ) → length (slice_index_or lines k []) ≤ length bytes
 are_short bytes lines NoLine k = omega arith
 are_short bytes lines (LastLine line none some) zero = omega arith
 are_short bytes lines (LastLine line none some) (suc k) = omega arith

@@ -56,7 +56,7 @@ module _ {A : Type 0} (separates : A → Bool) where
 
 -- ---- Words.
 
-not_byte : (b k : ℕ) → is_word_byte b ≡ true → is_word_byte k ≡ false → (b == k) ≡ false
+pub not_byte : (b k : ℕ) → is_word_byte b ≡ true → is_word_byte k ≡ false → (b == k) ≡ false
 not_byte b k is none = elim (cases_Bool (b == k)) [
   | inl same ↦ (let e : b ≡ k = eqb-true b k same in let word : is_word_byte k ≡ true = subst (λ (c : ℕ). is_word_byte c ≡ true) e is in absurd (cc))
   | inr other ↦ other

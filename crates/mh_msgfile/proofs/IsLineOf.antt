@@ -66,17 +66,17 @@ module _ (g : Grammar) (has : HasReadableNames g) where
   spaced_line i tokens line lt are l =
       let name = start_name g i in
       let word = has.start_words i lt in
-      let whole = l.front ++ 58 ∷ l.back in
-      let colon : colon_place whole ≡ length l.front = colon_is l.front l.back (spaced_clear (name ∷ []) l.front (word, tt) l.named) in
-      let within : nat_lt (colon_place whole) (length whole) ≡ true = rw colon (grind (arith, nat_tests, length-append l.front (58 ∷ l.back))) in
-      let front : take (colon_place whole) whole ≡ l.front = ap (λ (k : ℕ). take k whole) colon ∙ take-append_seam l.front (58 ∷ l.back) in
-      let back : drop (colon_place whole + 1) whole ≡ l.back = ap (λ (k : ℕ). drop (k + 1) whole) colon ∙ drop_past_colon l.front l.back in
-      let one : pieces l.front ≡ name ∷ [] = pieces_are (name ∷ []) l.front (word, tt) l.named in
+      let whole = l.before_colon ++ 58 ∷ l.after_colon in
+      let colon : colon_place whole ≡ length l.before_colon = colon_is l.before_colon l.after_colon (spaced_clear (name ∷ []) l.before_colon (word, tt) l.named) in
+      let within : nat_lt (colon_place whole) (length whole) ≡ true = rw colon (grind (arith, nat_tests, length-append l.before_colon (58 ∷ l.after_colon))) in
+      let front : take (colon_place whole) whole ≡ l.before_colon = ap (λ (k : ℕ). take k whole) colon ∙ take-append_seam l.before_colon (58 ∷ l.after_colon) in
+      let back : drop (colon_place whole + 1) whole ≡ l.after_colon = ap (λ (k : ℕ). drop (k + 1) whole) colon ∙ drop_past_colon l.before_colon l.after_colon in
+      let one : pieces l.before_colon ≡ name ∷ [] = pieces_are (name ∷ []) l.before_colon (word, tt) l.named in
       let start : only_word (pieces (take (colon_place whole) whole)) ≡ Some name = ap (λ (t : Text). only_word (pieces t)) front ∙ ap only_word one ∙ alone name word in
       ap (sentence_in (vocabulary_of g)) l.split ∙ rw (within, start, back) (named_from)
     where
       alone : (w : Text) → is_word w ≡ true → only_word (w ∷ []) ≡ Some w
       alone w is = rw is refl
 
-      named_from : sentence_from (vocabulary_of g) (Some (start_name g i)) l.back ≡ IsSentence (record { start = i; tokens = tokens })
-      named_from = rw (pieces_are (map (token_name g) tokens) l.back (tokens_are_words tokens are) l.spelled, all_words g has tokens are, start_found g has i lt, tokens_found g has tokens are) refl
+      named_from : sentence_from (vocabulary_of g) (Some (start_name g i)) l.after_colon ≡ IsSentence (record { start = i; tokens = tokens })
+      named_from = rw (pieces_are (map (token_name g) tokens) l.after_colon (tokens_are_words tokens are) l.spelled, all_words g has tokens are, start_found g has i lt, tokens_found g has tokens are) refl

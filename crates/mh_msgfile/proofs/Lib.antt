@@ -11,3 +11,5 @@ pub mod MsgSpells
 pub mod PrintedAgain
 pub mod IsLineOf
 pub mod LoopSteps
+pub mod ReadsLooseEntries
+pub mod WrittenEntries

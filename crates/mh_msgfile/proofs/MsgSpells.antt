@@ -17,20 +17,20 @@ module _ (g : Grammar) (bytes : Text) where
 
   pub fault_once : (a b : MessagesFault) → HasFault g bytes a → HasFault g bytes b → a ≡ b
   fault_once a b p q =
-      let lines : p.lines ≡ q.lines = lines_once bytes p.lines p.are ∙ sym (lines_once bytes q.lines q.are) in
+      let lines : p.lines ≡ q.lines = lines_once bytes p.lines p.are_lines ∙ sym (lines_once bytes q.lines q.are_lines) in
       let both : a ∷ p.later ≡ b ∷ q.later = sym p.first ∙ ap (λ (l : List Text). faults_in (vocabulary_of g) l (blocks l)) lines ∙ q.first in cc
 
   pub spelled_has_no_fault : (a : MsgFile) (f : MessagesFault) → MsgSpells g bytes a → HasFault g bytes f → ⊥
   spelled_has_no_fault a f p q =
-      let lines : a.lines ≡ q.lines = lines_once bytes a.lines p.lines ∙ sym (lines_once bytes q.lines q.are) in
-      let both : [] ≡ f ∷ q.later = sym p.right ∙ ap (λ (l : List Text). faults_in (vocabulary_of g) l (blocks l)) lines ∙ q.first in cc
+      let lines : a.lines ≡ q.lines = lines_once bytes a.lines p.lines ∙ sym (lines_once bytes q.lines q.are_lines) in
+      let both : [] ≡ f ∷ q.later = sym p.no_faults ∙ ap (λ (l : List Text). faults_in (vocabulary_of g) l (blocks l)) lines ∙ q.first in cc
 
   abbrev all_lines : List Text
   all_lines = map without_terminator (lines_of bytes)
 
   found : (fs : List MessagesFault) → faults_in (vocabulary_of g) all_lines (blocks all_lines) ≡ fs → ((file : MsgFile) × MsgSpells g bytes file) ⊎ ((f : MessagesFault) × HasFault g bytes f)
-  found [] is = inl (record { lines = all_lines; entries = entries_in (vocabulary_of g) all_lines (blocks all_lines) }, record { lines = are_lines bytes; right = is; entries = refl })
-  found (f ∷ later) is = inr (f, record { lines = all_lines; are = are_lines bytes; later = later; first = is })
+  found [] is = inl (record { lines = all_lines; entries = entries_in (vocabulary_of g) all_lines (blocks all_lines) }, record { lines = are_lines bytes; no_faults = is; entries = refl })
+  found (f ∷ later) is = inr (f, record { lines = all_lines; are_lines = are_lines bytes; later = later; first = is })
 
   pub spelled_or_not : ((file : MsgFile) × MsgSpells g bytes file) ⊎ ((f : MessagesFault) × HasFault g bytes f)
   spelled_or_not = found (faults_in (vocabulary_of g) all_lines (blocks all_lines)) refl

@@ -21,10 +21,10 @@ use Rattle.mh_msgfile.proofs.CanonicalLine.{HasNoSeparator, run_plain, canonical
 
 -- ---- Blocks as lists of texts instead of line numbers.
 
-abbrev texts_of : List Text → List ℕ → List Text
+abbrev pub texts_of : List Text → List ℕ → List Text
 texts_of lines block = map (line_at lines) block
 
-abbrev blank_text : Text → Bool
+abbrev pub blank_text : Text → Bool
 blank_text line = list_all is_blank line
 
 abbrev pub is_kept_text : Text → Bool
@@ -79,7 +79,7 @@ texts_from lines k (x ∷ xs) is =
     let next : drop (k + 1) lines ≡ xs = ap (λ (n : ℕ). drop n lines) (add-one k) ∙ d.1 in
     let tail : map (line_at lines) (numbers_from (k + 1 + 1) (length xs)) ≡ xs = texts_from lines (k + 1) xs next in λ i. head i ∷ tail i
 
-texts_of_blocks : (lines : List Text) → map (texts_of lines) (blocks lines) ≡ runs blank_text (filter is_kept_text lines)
+pub texts_of_blocks : (lines : List Text) → map (texts_of lines) (blocks lines) ≡ runs blank_text (filter is_kept_text lines)
 texts_of_blocks lines =
     map_runs (line_at lines) blank_text (kept_lines lines)
     ∙ ap (runs blank_text) (map_filter (line_at lines) (is_kept lines) is_kept_text (λ n. refl) (numbers_from 1 (length lines)) ∙ ap (filter is_kept_text) (texts_from lines 0 lines refl))
@@ -90,7 +90,7 @@ all_filter_on : {A : Type 0} (P : A → Type 0) (q : A → Bool) (x : A) (xs : L
 all_filter_on P q x xs true is here all = rw is ((here, is), all)
 all_filter_on P q x xs false is here all = rw is all
 
-all_filter : {A : Type 0} (P : A → Type 0) (q : A → Bool) (xs : List A) → AllByRecursion P xs → AllByRecursion (λ y. P y × (q y ≡ true)) (filter q xs)
+pub all_filter : {A : Type 0} (P : A → Type 0) (q : A → Bool) (xs : List A) → AllByRecursion P xs → AllByRecursion (λ y. P y × (q y ≡ true)) (filter q xs)
 all_filter P q [] all = tt
 all_filter P q (x ∷ xs) all = all_filter_on P q x xs (q x) refl all.0 (all_filter P q xs all.1)
 
@@ -110,7 +110,7 @@ module _ {A : Type 0} (p : A → Bool) (P : A → Type 0) where
   run_fields [] all = (tt, tt)
   run_fields (x ∷ xs) all = run_fields_on x xs (p x) refl all.0 (run_fields xs all.1)
 
-  all_runs : (xs : List A) → AllByRecursion P xs → AllByRecursion (λ run. IsRun run × (has_items run ≡ true)) (runs p xs)
+  pub all_runs : (xs : List A) → AllByRecursion P xs → AllByRecursion (λ run. IsRun run × (has_items run ≡ true)) (runs p xs)
   all_runs xs all = all_filter IsRun has_items (fields p xs) (run_fields xs all)
 
 -- ---- The contents of blocks, by the names of a grammar.
@@ -119,35 +119,35 @@ abbrev Content : Type 0
 Content = List (ℕ × List ℕ) × Text
 
 module _ (g : Grammar) where
-  abbrev content_at : LineResult → List (ℕ × List ℕ)
+  abbrev pub content_at : LineResult → List (ℕ × List ℕ)
   content_at (IsSentence s) = (s.start, s.tokens) ∷ []
   content_at IsUnreadable = []
   content_at (NamesNoStart name) = []
   content_at LacksStart = []
   content_at (NamesUnknown name) = []
 
-  abbrev found_in : Text → LineResult
+  abbrev pub found_in : Text → LineResult
   found_in line = sentence_in (vocabulary_of g) line
 
-  abbrev contents_of : List Text → List (ℕ × List ℕ)
+  abbrev pub contents_of : List Text → List (ℕ × List ℕ)
   contents_of block = flat_map (λ line. content_at (found_in line)) block
 
-  abbrev contents : List (List Text) → List Content
+  abbrev pub contents : List (List Text) → List Content
   contents [] = []
   contents (block ∷ []) = []
   contents (block ∷ message ∷ rest) = (contents_of block, with_ends message) ∷ contents rest
 
-  abbrev IsGood : LineResult → Type 0
+  abbrev pub IsGood : LineResult → Type 0
   IsGood (IsSentence s) = Unit {0}
   IsGood IsUnreadable = ⊥
   IsGood (NamesNoStart name) = ⊥
   IsGood LacksStart = ⊥
   IsGood (NamesUnknown name) = ⊥
 
-  abbrev AreGood : List Text → Type 0
+  abbrev pub AreGood : List Text → Type 0
   AreGood block = AllByRecursion (λ line. IsGood (found_in line)) block
 
-  abbrev Right : List (List Text) → Type 0
+  abbrev pub Right : List (List Text) → Type 0
   Right [] = Unit {0}
   Right (block ∷ []) = ⊥
   Right (block ∷ message ∷ rest) = AreGood block × Right rest
@@ -168,11 +168,11 @@ module _ (g : Grammar) where
         ∙ ap (λ (l : List (ℕ × List ℕ)). l ++ map content_of (sentences_of (vocabulary_of g) lines block)) (content_one n (found_in (line_at lines n)))
         ∙ ap (λ (l : List (ℕ × List ℕ)). content_at (found_in (line_at lines n)) ++ l) (content_block block)
 
-    message_block : (block : List ℕ) → message_of lines block ≡ with_ends (texts_of lines block)
+    pub message_block : (block : List ℕ) → message_of lines block ≡ with_ends (texts_of lines block)
     message_block [] = refl
     message_block (n ∷ block) = ap (λ (l : Text). (line_at lines n ++ 10 ∷ []) ++ l) (message_block block)
 
-    content_entries : (bs : List (List ℕ)) → map entry_content (entries_in (vocabulary_of g) lines bs) ≡ contents (map (texts_of lines) bs)
+    pub content_entries : (bs : List (List ℕ)) → map entry_content (entries_in (vocabulary_of g) lines bs) ≡ contents (map (texts_of lines) bs)
     content_entries [] = refl
     content_entries (block ∷ []) = refl
     content_entries (block ∷ message ∷ rest) =
@@ -202,20 +202,20 @@ module _ (g : Grammar) where
     good_block [] all = refl
     good_block (n ∷ block) all = rw (good_to n (found_in (line_at lines n)) all.0) (good_block block all.1)
 
-    right_from : (bs : List (List ℕ)) → faults_in (vocabulary_of g) lines bs ≡ [] → Right (map (texts_of lines) bs)
+    pub right_from : (bs : List (List ℕ)) → faults_in (vocabulary_of g) lines bs ≡ [] → Right (map (texts_of lines) bs)
     right_from [] is = tt
     right_from (block ∷ []) is = absurd (let both = nil_parts (faults_of (vocabulary_of g) lines block) (BadShape (first_number block) ∷ []) is in let no = both.1 in cc)
     right_from (block ∷ message ∷ rest) is =
         let both = nil_parts (faults_of (vocabulary_of g) lines block) (faults_in (vocabulary_of g) lines rest) is in (block_good block both.0, right_from rest both.1)
 
-    right_to : (bs : List (List ℕ)) → Right (map (texts_of lines) bs) → faults_in (vocabulary_of g) lines bs ≡ []
+    pub right_to : (bs : List (List ℕ)) → Right (map (texts_of lines) bs) → faults_in (vocabulary_of g) lines bs ≡ []
     right_to [] right = refl
     right_to (block ∷ []) right = absurd right
     right_to (block ∷ message ∷ rest) right = rw (good_block block right.0) (right_to rest right.1)
 
   -- ---- The lines of the printed text.
 
-  abbrev canonical : ℕ × List ℕ → Text
+  abbrev pub canonical : ℕ × List ℕ → Text
   canonical c = sentence_text g c.0 c.1
 
   abbrev printed : List (List Text) → List Text
@@ -260,7 +260,7 @@ module _ (g : Grammar) where
 
   -- ---- The printed sentences are read as the same sentences.
 
-  abbrev IsKnown : ℕ × List ℕ → Type 0
+  abbrev pub IsKnown : ℕ × List ℕ → Type 0
   IsKnown c = (c.0 < length g.starts) × AllByRecursion (λ z. z < length g.tokens) c.1
 
   known_one : (line : Text) (f : LineResult) → found_in line ≡ f → AllByRecursion IsKnown (content_at f)
@@ -285,19 +285,19 @@ module _ (g : Grammar) where
   contents_some [] some good = absurd (cc)
   contents_some (line ∷ block) some good = content_some (found_in line) (contents_of block) good.0
 
-  some_mapped : (cs : List (ℕ × List ℕ)) → has_items cs ≡ true → has_items (map canonical cs) ≡ true
+  pub some_mapped : (cs : List (ℕ × List ℕ)) → has_items cs ≡ true → has_items (map canonical cs) ≡ true
   some_mapped [] some = some
   some_mapped (c ∷ cs) some = refl
 
-  abbrev IsLine : Text → Type 0
+  abbrev pub IsLine : Text → Type 0
   IsLine line = IsReadUnchanged line × (is_kept_text line ≡ true)
 
   module _ (has : HasReadableNames g) where
-    read_back : (cs : List (ℕ × List ℕ)) → AllByRecursion IsKnown cs → contents_of (map canonical cs) ≡ cs
+    pub read_back : (cs : List (ℕ × List ℕ)) → AllByRecursion IsKnown cs → contents_of (map canonical cs) ≡ cs
     read_back [] all = refl
     read_back (c ∷ cs) all = rw (canonical_line g has c.0 c.1 all.0.0 all.0.1) (ap (λ (l : List (ℕ × List ℕ)). c ∷ l) (read_back cs all.1))
 
-    good_back : (cs : List (ℕ × List ℕ)) → AllByRecursion IsKnown cs → AreGood (map canonical cs)
+    pub good_back : (cs : List (ℕ × List ℕ)) → AllByRecursion IsKnown cs → AreGood (map canonical cs)
     good_back [] all = tt
     good_back (c ∷ cs) all = (subst IsGood (sym (canonical_line g has c.0 c.1 all.0.0 all.0.1)) tt, good_back cs all.1)
 
@@ -306,7 +306,7 @@ module _ (g : Grammar) where
     lines_back (c ∷ cs) all =
         let is = line_begins g has c.0 c.1 all.0.0 all.0.1 in (((is.no_end, is.whole), ap not is.kept), lines_back cs all.1)
 
-    plain_back : (cs : List (ℕ × List ℕ)) → AllByRecursion IsKnown cs → HasNoSeparator blank_text (map canonical cs)
+    pub plain_back : (cs : List (ℕ × List ℕ)) → AllByRecursion IsKnown cs → HasNoSeparator blank_text (map canonical cs)
     plain_back [] all = tt
     plain_back (c ∷ cs) all = ((line_begins g has c.0 c.1 all.0.0 all.0.1).some, plain_back cs all.1)
 
@@ -339,7 +339,7 @@ module _ (g : Grammar) where
     Fit (block ∷ []) = Unit {0}
     Fit (block ∷ message ∷ rest) = CanBePrinted block message × Fit rest
 
-    two_runs : (xs ys rest : List Text) → has_items xs ≡ true → HasNoSeparator blank_text xs → has_items ys ≡ true → HasNoSeparator blank_text ys → runs blank_text (xs ++ [] ∷ (ys ++ [] ∷ rest)) ≡ xs ∷ ys ∷ runs blank_text rest
+    pub two_runs : (xs ys rest : List Text) → has_items xs ≡ true → HasNoSeparator blank_text xs → has_items ys ≡ true → HasNoSeparator blank_text ys → runs blank_text (xs ++ [] ∷ (ys ++ [] ∷ rest)) ≡ xs ∷ ys ∷ runs blank_text rest
     two_runs [] ys rest some plain more plain' = absurd (cc)
     two_runs (x ∷ xs) [] rest some plain more plain' = absurd (cc)
     two_runs (x ∷ xs) (y ∷ ys) rest some plain more plain' =
@@ -365,23 +365,23 @@ module _ (g : Grammar) where
         recursion-append IsLine (map canonical (contents_of block)) ([] ∷ (message ++ [] ∷ printed rest)) (lines_back (contents_of block) (known_block block))
         (empty_line, recursion-append IsLine message ([] ∷ printed rest) fit.0.lines (empty_line, lines_printed rest fit.1))
 
-    wholes : (lines : List Text) → AllByRecursion IsLine lines → AllByRecursion IsReadUnchanged lines
-    wholes [] all = tt
-    wholes (line ∷ lines) all = (all.0.0, wholes lines all.1)
+    pub all_unchanged : (lines : List Text) → AllByRecursion IsLine lines → AllByRecursion IsReadUnchanged lines
+    all_unchanged [] all = tt
+    all_unchanged (line ∷ lines) all = (all.0.0, all_unchanged lines all.1)
 
-    all_kept : (lines : List Text) → AllByRecursion IsLine lines → filter is_kept_text lines ≡ lines
+    pub all_kept : (lines : List Text) → AllByRecursion IsLine lines → filter is_kept_text lines ≡ lines
     all_kept [] all = refl
     all_kept (line ∷ lines) all = rw (all.0.1) (ap (λ (l : List Text). line ∷ l) (all_kept lines all.1))
 
     -- ---- The blocks of a file can be printed and read again.
 
-    abbrev IsFree : Text → Type 0
+    abbrev pub IsFree : Text → Type 0
     IsFree message = (front rest : Text) → message ≡ front ++ 13 ∷ 10 ∷ rest → ⊥
 
-    abbrev IsBlock : List Text → Type 0
+    abbrev pub IsBlock : List Text → Type 0
     IsBlock run = AllByRecursion (λ line. (HasNoLineFeed line × (is_kept_text line ≡ true)) × (blank_text line ≡ false)) run × (has_items run ≡ true)
 
-    message_lines : (lines : List Text) (before : Text) → ((front rest : Text) → before ++ with_ends lines ≡ front ++ 13 ∷ 10 ∷ rest → ⊥) → AllByRecursion (λ line. (HasNoLineFeed line × (is_kept_text line ≡ true)) × (blank_text line ≡ false)) lines → AllByRecursion IsLine lines
+    pub message_lines : (lines : List Text) (before : Text) → ((front rest : Text) → before ++ with_ends lines ≡ front ++ 13 ∷ 10 ∷ rest → ⊥) → AllByRecursion (λ line. (HasNoLineFeed line × (is_kept_text line ≡ true)) × (blank_text line ≡ false)) lines → AllByRecursion IsLine lines
     message_lines [] before free all = tt
     message_lines (line ∷ lines) before free all = (
       ((all.0.0.0, ends_in_cr line _ refl (λ front is. free (before ++ front) (with_ends lines) (here front is))), all.0.0.1),
@@ -391,7 +391,7 @@ module _ (g : Grammar) where
         here : (front : Text) → line ≡ front ++ 13 ∷ [] → before ++ with_ends (line ∷ lines) ≡ (before ++ front) ++ 13 ∷ 10 ∷ with_ends lines
         here front is = rw is (simp append_assoc)
 
-    plain_lines : (lines : List Text) → AllByRecursion (λ line. (HasNoLineFeed line × (is_kept_text line ≡ true)) × (blank_text line ≡ false)) lines → HasNoSeparator blank_text lines
+    pub plain_lines : (lines : List Text) → AllByRecursion (λ line. (HasNoLineFeed line × (is_kept_text line ≡ true)) × (blank_text line ≡ false)) lines → HasNoSeparator blank_text lines
     plain_lines [] all = tt
     plain_lines (line ∷ lines) all = (all.0.1, plain_lines lines all.1)
 
@@ -422,7 +422,7 @@ module _ (g : Grammar) where
     printed_again bytes file spells free =
         let bs = map (texts_of file.lines) (blocks file.lines) in
         let same : map entry_content file.entries ≡ contents bs = ap (map entry_content) spells.entries ∙ content_entries file.lines (blocks file.lines) in
-        let right : Right bs = right_from file.lines (blocks file.lines) spells.right in
+        let right : Right bs = right_from file.lines (blocks file.lines) spells.no_faults in
         let runs_are : bs ≡ runs blank_text (filter is_kept_text file.lines) = texts_of_blocks file.lines in
         let kept = all_filter HasNoLineFeed is_kept_text file.lines (lines_end bytes file.lines spells.lines) in
         let are = all_runs blank_text (λ line. HasNoLineFeed line × (is_kept_text line ≡ true)) (filter is_kept_text file.lines) kept in
@@ -434,8 +434,8 @@ module _ (g : Grammar) where
         let blocks_are : map (texts_of lines) (blocks lines) ≡ blocks_printed bs = texts_of_blocks lines ∙ ap (runs blank_text) (all_kept lines of_lines) ∙ runs_printed bs right fit in (
           record { lines = lines; entries = entries_in (vocabulary_of g) lines (blocks lines) },
           record {
-            lines = subst (λ (b : Text). AreLines b lines) (sym text) (lines_of_with_ends lines (wholes lines of_lines));
-            right = right_to lines (blocks lines) (subst Right (sym blocks_are) (right_back bs right));
+            lines = subst (λ (b : Text). AreLines b lines) (sym text) (lines_of_with_ends lines (all_unchanged lines of_lines));
+            no_faults = right_to lines (blocks lines) (subst Right (sym blocks_are) (right_back bs right));
             entries = refl;
           },
           same ∙ sym (content_entries lines (blocks lines) ∙ ap contents blocks_are ∙ contents_back bs),

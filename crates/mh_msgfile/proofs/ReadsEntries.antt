@@ -74,11 +74,11 @@ module _ (v : Vocabulary) (lines : List Text) where
     pub spelled_by : (entries : List Entry) → ReadsEntries v lines (blocks lines) (Ok entries) → MsgSpells g bytes (record { lines = lines; entries = entries })
     spelled_by entries read = record {
       lines = are;
-      right = ap (λ (u : Vocabulary). faults_in u lines (blocks lines)) (sym words) ∙ read.0;
+      no_faults = ap (λ (u : Vocabulary). faults_in u lines (blocks lines)) (sym words) ∙ read.0;
       entries = read.1 ∙ ap (λ (u : Vocabulary). entries_in u lines (blocks lines)) words;
     }
 
     pub fault_by : (fault : MsgFault) → ReadsEntries v lines (blocks lines) (Err fault) → ReportsFault fault (HasFault g bytes)
     fault_by fault read =
         tells fault (BeginsWithFault (faults_in v lines (blocks lines))) (HasFault g bytes)
-        (λ f begins. record { lines = lines; are = are; later = begins.0; first = ap (λ (u : Vocabulary). faults_in u lines (blocks lines)) (sym words) ∙ begins.1 }) read
+        (λ f begins. record { lines = lines; are_lines = are; later = begins.0; first = ap (λ (u : Vocabulary). faults_in u lines (blocks lines)) (sym words) ∙ begins.1 }) read

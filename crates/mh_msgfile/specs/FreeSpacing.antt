@@ -15,8 +15,8 @@ pub data Spaced : List Text → Text → Type 0 where
 
 -- The line consists of the name of the start, a colon and the names of the tokens, with free spacing.
 pub record IsLineOf (g : Grammar) (start : ℕ) (tokens : List ℕ) (line : Text) : Type 0 where
-  pub front : Text
-  pub back : Text
-  pub split : line ≡ front ++ 58 ∷ back
-  pub named : Spaced (start_name g start ∷ []) front
-  pub spelled : Spaced (map (token_name g) tokens) back
+  pub before_colon : Text
+  pub after_colon : Text
+  pub split : line ≡ before_colon ++ 58 ∷ after_colon
+  pub named : Spaced (start_name g start ∷ []) before_colon
+  pub spelled : Spaced (map (token_name g) tokens) after_colon

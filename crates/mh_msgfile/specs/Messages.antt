@@ -81,13 +81,13 @@ entries_in v lines (block ∷ message ∷ rest) = record { sentences = sentences
 -- The bytes spell this messages file.
 pub record MsgSpells (g : Grammar) (bytes : Text) (file : MsgFile) : Type 0 where
   pub lines : AreLines bytes file.lines
-  pub right : faults_in (vocabulary_of g) file.lines (blocks file.lines) ≡ []
+  pub no_faults : faults_in (vocabulary_of g) file.lines (blocks file.lines) ≡ []
   pub entries : file.entries ≡ entries_in (vocabulary_of g) file.lines (blocks file.lines)
 
 -- This is the first fault of the bytes.
 pub record HasFault (g : Grammar) (bytes : Text) (fault : MessagesFault) : Type 0 where
   pub lines : List Text
-  pub are : AreLines bytes lines
+  pub are_lines : AreLines bytes lines
   pub later : List MessagesFault
   pub first : faults_in (vocabulary_of g) lines (blocks lines) ≡ fault ∷ later
 

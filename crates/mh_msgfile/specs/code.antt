@@ -1,2 +1,3 @@
 pub mod LineSteps
 pub mod FileSteps
+pub mod LooseSteps

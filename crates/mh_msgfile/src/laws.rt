@@ -14,7 +14,7 @@ pub fn spelled_once(grammar: &Grammar)
     ensures file { (bytes : List ℕ) (a b : MsgFile) → MsgSpells grammar.now bytes a → MsgSpells grammar.now bytes b → a ≡ b }
     ensures fault { (bytes : List ℕ) (a b : MessagesFault) → HasFault grammar.now bytes a → HasFault grammar.now bytes b → a ≡ b }
     ensures either { (bytes : List ℕ) → ((file : MsgFile) × MsgSpells grammar.now bytes file) ⊎ ((fault : MessagesFault) × HasFault grammar.now bytes fault) }
-    ensures apart { (bytes : List ℕ) (file : MsgFile) (fault : MessagesFault) → MsgSpells grammar.now bytes file → HasFault grammar.now bytes fault → ⊥ }
+    ensures not_both { (bytes : List ℕ) (file : MsgFile) (fault : MessagesFault) → MsgSpells grammar.now bytes file → HasFault grammar.now bytes fault → ⊥ }
 {
     let _grammar = grammar;
 }

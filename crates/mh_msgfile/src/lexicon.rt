@@ -1,10 +1,10 @@
 //! The numbers of a grammar's starts and tokens by name.
 ghost use Rattle.std.specs.Prelude.{◌≡◌, ◌≤◌, [], length, map, IfOk, OnOk};
 ghost use Rattle.mh_grammar.specs.Plain.{plain_of, IsInRange};
-ghost use Rattle.mh_grammar.specs.declared.types.TheConstants.{MAX_NUMBERED};
 ghost use Rattle.mh_msgfile.specs.code.LineSteps.{AreNumbers, InsertsName};
 ghost use Rattle.mh_msgfile.specs.StartNames.{start_names, only_one};
 ghost use Rattle.mh_msgfile.specs.Sentences.{vocabulary_of, vocabulary_in};
+ghost use Rattle.mh_grammar.specs.Limits.{max_numbered};
 
 use mh_grammar::{Grammar, Memory, Token, TokenInfo};
 use std::alloc::Global;
@@ -42,7 +42,7 @@ fn number_tokens(
     numbers: &mut HashMap<Vec<u8>, Token>,
     tokens: &[TokenInfo],
 ) -> Result<(), Memory>
-    requires few { length tokens.now ≤ MAX_NUMBERED }
+    requires few { length tokens.now ≤ max_numbered }
     requires none { numbers.old.entries ≡ [] }
     ensures { OnOk result (AreNumbers (map (λ token. token.name) tokens.now) numbers.new.entries) }
 {

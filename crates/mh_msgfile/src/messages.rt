@@ -66,7 +66,7 @@ fn put_kept(numbers: &mut Vec<u32>, lines: &[Name], number: u32) -> Result<(), M
 }
 
 /// The numbers of the lines that are not ignored.
-fn kept_lines(alloc: Global, lines: &[Name]) -> Result<Vec<u32>, Memory>
+pub(crate) fn kept_lines(alloc: Global, lines: &[Name]) -> Result<Vec<u32>, Memory>
     requires { length lines.now < 2 ^ 31 }
     ensures { IfOk result (λ numbers. numbers.items ≡ kept lines.now) }
 {
@@ -108,7 +108,7 @@ fn size_of_block(lines: &[Name], numbers: &[u32]) -> usize
 }
 
 /// The first block, with the lines after it.
-fn first_block<'a>(lines: &[Name], numbers: &'a [u32]) -> Option<(&'a [u32], &'a [u32])>
+pub(crate) fn first_block<'a>(lines: &[Name], numbers: &'a [u32]) -> Option<(&'a [u32], &'a [u32])>
     ensures { FirstPiece (is_blank_number lines.now) numbers.now result }
 {
     let (_, block) = numbers.split_at(count_blank_lines(lines, numbers));
@@ -119,7 +119,11 @@ fn first_block<'a>(lines: &[Name], numbers: &'a [u32]) -> Option<(&'a [u32], &'a
 }
 
 /// The message of a block: its lines, each followed by an LF.
-fn message_of(alloc: Global, lines: &[Name], block: &[u32]) -> Result<Sequence<u8>, Memory>
+pub(crate) fn message_of(
+    alloc: Global,
+    lines: &[Name],
+    block: &[u32],
+) -> Result<Sequence<u8>, Memory>
     ensures { IfOk result (λ message. message ≡ message_text lines.now block.now) }
 {
     let mut message = Vec::new(alloc);
@@ -173,7 +177,7 @@ fn put_sentences(
 }
 
 /// The number of the first line of a block.
-fn first_line(block: &[u32]) -> u32
+pub(crate) fn first_line(block: &[u32]) -> u32
     ensures { result ≡ first_number block.now }
 {
     match block.first() {

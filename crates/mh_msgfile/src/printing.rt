@@ -6,7 +6,8 @@ use crate::messages::{Entry, MsgFile, MsgSentence};
 use mh_grammar::{Grammar, Memory, Token, start_name, token_name};
 use std::alloc::Global;
 
-fn write_names(text: &mut Vec<u8>, grammar: &Grammar, tokens: &[Token]) -> Result<(), Memory>
+/// Appends the names of the tokens, each after one space. Fails only if memory runs out.
+pub fn write_names(text: &mut Vec<u8>, grammar: &Grammar, tokens: &[Token]) -> Result<(), Memory>
     ensures { OnOk result (text.new.items ≡ text.old.items ++ names_after grammar.now tokens.now) }
 {
     for token in tokens {

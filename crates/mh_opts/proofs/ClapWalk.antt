@@ -6,7 +6,8 @@ use Rattle.std.specs.List.{list_all}
 use Rattle.std.specs.Option.{option_map_or}
 use Rattle.clap.specs.Lexer.{long_of, short_of}
 use Rattle.clap.specs.Kinds.{Kinds, or_else}
-use Rattle.clap.specs.Walk.{Held, Outcome, Row, Rule, Step, Text, Waiting, Walk, after_flag, after_step, arg_by_id, arg_by_index, arg_by_long, arg_by_short, bundle, bundle_met, bundle_step, has_row, idle, is_pending, long_met, long_or_other, long_word, option, plain, plain_word, positional, pushed, reacted, reading_by, settled, settled_rows, short_or_plain, to_positional, trailing, used, value, used_by_id, values_or_missing, walked}
+use Rattle.clap.specs.Walk.{Held, Outcome, Row, Rule, Step, Text, Waiting, Walk, after_flag, after_step, arg_by_id, arg_by_index, arg_by_long, arg_by_short, bundle, bundle_met, bundle_step, idle, is_pending, long_met, long_or_other, long_word, option, plain, plain_word, positional, pushed, reacted, reading_by, settled, settled_rows, short_or_plain, to_positional, trailing, used, value, used_by_id, values_or_missing, walked}
+use Rattle.clap.specs.Takes.{is_given}
 use Rattle.clap.specs.Simple.{Shape, new_shape}
 use Rattle.clap.specs.Faults.{bundle_fault, bundle_step_fault, flag_word_fault, flags_fault, long_fault, positional_fault, react_fault, settle_fault, short_fault, step_fault, turn_fault}
 use Rattle.clap.specs.declared.builder.action.ArgAction.{ArgAction}
@@ -19,7 +20,7 @@ use Rattle.mh_opts.specs.Orders.{grammars_of}
 use Rattle.mh_opts.specs.PosixReading.{has_value, is_set}
 use Rattle.mh_opts.specs.RepeatedOption.{is_end}
 use Rattle.mh_opts.proofs.OptionLookup.{by_id, Found-long, found_short, help, is_fit, known_rules, of_files, of_option}
-use Rattle.mh_opts.proofs.RowsAfterUse.{is_plain, bytes_eq_refl, used_other, used_row, with_own, with_row}
+use Rattle.mh_opts.proofs.RowsAfterUse.{is_plain, bytes_eq_refl, used_given, used_other, with_given, with_own}
 
 -- The command as clap sees it, with these options.
 abbrev pub command_of : List (Opt Text) → Shape
@@ -53,10 +54,10 @@ abbrev pub files_held : List (Opt Text) → List Row → Option (Text × List Te
 files_held os rows pending = grammars_of (settled_rows (known_rules os) pending rows)
 
 pub record AwaitsValue (os : List (Opt Text)) (pending : Option (Text × List Text)) (id : Text) (awaited : Bool) : Type 0 where
-  pub yes : awaited ≡ true
-  pub bare : pending ≡ Some (id, [])
-  pub by : arg_by_id (known_rules os) id ≡ Some (of_option id Set)
-  pub other : bytes_eq id GRAMMARS.now ≡ false
+  pub is_awaited : awaited ≡ true
+  pub no_value : pending ≡ Some (id, [])
+  pub rule_is : arg_by_id (known_rules os) id ≡ Some (of_option id Set)
+  pub not_grammars : bytes_eq id GRAMMARS.now ≡ false
 
 -- Whether the walk awaits a value.
 abbrev pub IsAwaited : List (Opt Text) → Option (Text × List Text) → Waiting → Bool → Type 0
@@ -64,9 +65,9 @@ IsAwaited os pending idle awaited = awaited ≡ false
 IsAwaited os pending positional awaited = awaited ≡ false
 IsAwaited os pending (option id) awaited = AwaitsValue os pending id awaited
 
--- Whether an argument was used so far.
+-- Whether the words give an argument so far.
 abbrev pub is_used : List (Opt Text) → List Row → Option (Text × List Text) → Text → Bool
-is_used os rows pending name = has_row name (settled_rows (known_rules os) pending rows)
+is_used os rows pending name = is_given name (settled_rows (known_rules os) pending rows)
 
 -- The arguments used so far, and one more.
 abbrev pub one_more : List (Opt Text) → List Row → Option (Text × List Text) → Text → Text → Bool
@@ -130,9 +131,9 @@ kept Set simple name vs rows other = ap (λ (o : Option (List Text)). unwrap_or 
 kept SetTrue simple name vs rows other = ap (λ (o : Option (List Text)). unwrap_or o []) (used_other SetTrue refl name GRAMMARS.now (reading_by (of_option name SetTrue)) (values_or_missing (of_option name SetTrue) vs) rows other)
 kept action simple name vs rows other = absurd (true≢false (sym simple))
 
-used_there : (action : ArgAction) → is_plain action ≡ true → (name other : Text) (vs : List Text) (rows : List Row) → has_row other (used (of_option name action) vs rows) ≡ (bytes_eq name other || has_row other rows)
-used_there Set simple name other vs rows = used_row Set refl name other (reading_by (of_option name Set)) (values_or_missing (of_option name Set) vs) rows
-used_there SetTrue simple name other vs rows = used_row SetTrue refl name other (reading_by (of_option name SetTrue)) (values_or_missing (of_option name SetTrue) vs) rows
+used_there : (action : ArgAction) → is_plain action ≡ true → (name other : Text) (vs : List Text) (rows : List Row) → is_given other (used (of_option name action) vs rows) ≡ (bytes_eq name other || is_given other rows)
+used_there Set simple name other vs rows = used_given Set refl name other (reading_by (of_option name Set)) (values_or_missing (of_option name Set) vs) rows
+used_there SetTrue simple name other vs rows = used_given SetTrue refl name other (reading_by (of_option name SetTrue)) (values_or_missing (of_option name SetTrue) vs) rows
 used_there action simple name other vs rows = absurd (true≢false (sym simple))
 
 by_action : (os : List (Opt Text)) (rows : List Row) (p : Option (Text × List Text)) (x : Waiting) (word name : Text) (action : ArgAction) (v : Option Text)
@@ -153,9 +154,9 @@ by_action os rows p x word name Set None simple valued by other none = record {
   pending = Some (name, []);
   waiting = option name;
   is = refl;
-  awaits = record { yes = valued; bare = refl; by = by; other = other };
+  awaits = record { is_awaited = valued; no_value = refl; rule_is = by; not_grammars = other };
   held = ap (λ (r : Option Rule). grammars_of (used_by_id r [] (settled_rows (known_rules os) p rows))) by ∙ kept Set refl name [] (settled_rows (known_rules os) p rows) other;
-  used = λ n apart. ap (λ (r : Option Rule). has_row n (used_by_id r [] (settled_rows (known_rules os) p rows))) by ∙ used_there Set refl name n [] (settled_rows (known_rules os) p rows);
+  used = λ n apart. ap (λ (r : Option Rule). is_given n (used_by_id r [] (settled_rows (known_rules os) p rows))) by ∙ used_there Set refl name n [] (settled_rows (known_rules os) p rows);
 }
 by_action os rows p x word name SetTrue None simple valued by other none = record {
   rows = used (of_option name SetTrue) [] (settled_rows (known_rules os) p rows);
@@ -175,7 +176,7 @@ by_rule : (os : List (Opt Text)) → list_all is_fit os ≡ true → (rows : Lis
 by_rule os fit rows p x word name v None at none = cc
 by_rule os fit rows p x word name v (Some rule) at none = elim (Found-long os fit name rule at) [
   | inl f ↦ (
-      let go = by_action os rows p x word name f.action v f.plain f.valued (by_id os name rule f ∙ ap Some f.is) f.other in
+      let go = by_action os rows p x word name f.action v f.plain f.valued (by_id os name rule f ∙ ap Some f.is) f.not_grammars in
       subst (λ (r : Rule). long_fault (known_rules os) false (Some r) v (matches_so_far rows p) ≡ [] → IsWalkState os (let m = long_met (known_rules os) (Some r) v (matches_so_far rows p) in onward (known_rules os) rows p x word (after_flag (known_rules os) x word m.0 m.1)) (not (is_some v) && has_value os name) (files_held os rows p) (one_more os rows p name)) (sym f.is) go none
       )
   | inr is_help ↦ absurd (no_help os (matches_so_far rows p) v (subst (λ (r : Rule). long_fault (known_rules os) false (Some r) v (matches_so_far rows p) ≡ []) is_help none))
@@ -216,7 +217,7 @@ by_flags : (os : List (Opt Text)) (rows : List Row) (p : Option (Text × List Te
 by_flags os rows p x word None none = refl
 by_flags os rows p x word (Some flags) none = ap (λ (m : Held × Outcome). after_flag (known_rules os) x word m.0 m.1) (letters os rows p flags none)
 
--- The first of two branches whose condition is false.
+-- A branch whose condition is false is not taken.
 pub never_first : {X : Type 0} (b : Bool) (x y : X) → (if b && false then x else y) ≡ y
 never_first true x y = refl
 never_first false x y = refl
@@ -230,6 +231,10 @@ positional_is_file os rows p word x is_trailing =
 pub files_held-file : (os : List (Opt Text)) (rows : List Row) (word : Text) → files_held os rows (Some (GRAMMARS.now, word ∷ [])) ≡ grammars_of rows ++ word ∷ []
 files_held-file os rows word = with_own GRAMMARS.now (reading_by of_files) CommandLine (word ∷ []) rows
 
+-- A file uses no option.
+pub file_used : (os : List (Opt Text)) (rows : List Row) (word n : Text) → bytes_eq GRAMMARS.now n ≡ false → is_used os rows (Some (GRAMMARS.now, word ∷ [])) n ≡ is_given n rows
+file_used os rows word n apart = with_given GRAMMARS.now n (reading_by of_files) (word ∷ []) rows ∙ rw apart refl
+
 walk_file : (os : List (Opt Text)) (rows : List Row) (p : Option (Text × List Text)) (x : Waiting) (word : Text)
     → IsWalkState os (to_positional (known_rules os) (arg_by_index (known_rules os) 1) word (walk_at rows p x false) (matches_so_far rows p)) false (files_held os rows p ++ word ∷ []) (is_used os rows p)
 walk_file os rows p x word = record {
@@ -239,26 +244,26 @@ walk_file os rows p x word = record {
   is = positional_is_file os rows p word x false;
   awaits = refl;
   held = files_held-file os (settled_rows (known_rules os) p rows) word;
-  used = λ n apart. with_row GRAMMARS.now n (reading_by of_files) CommandLine (word ∷ []) (settled_rows (known_rules os) p rows) ∙ rw apart refl;
+  used = λ n apart. file_used os (settled_rows (known_rules os) p rows) word n apart;
 }
 
 -- The value of an option is one word.
 value_is : (os : List (Opt Text)) (rows : List Row) (p : Option (Text × List Text)) (id word : Text) (awaited : Bool) → AwaitsValue os p id awaited
     → onward (known_rules os) rows p (option id) word (plain_word (known_rules os) (option id) word (matches_so_far rows p)) ≡ walk_at rows (Some (id, word ∷ [])) idle false
 value_is os rows p id word awaited a =
-    subst (λ (q : Option (Text × List Text)). onward (known_rules os) rows q (option id) word (plain_word (known_rules os) (option id) word (matches_so_far rows q)) ≡ walk_at rows (Some (id, word ∷ [])) idle false) (sym a.bare) (rw (a.by, bytes_eq_refl id) refl)
+    subst (λ (q : Option (Text × List Text)). onward (known_rules os) rows q (option id) word (plain_word (known_rules os) (option id) word (matches_so_far rows q)) ≡ walk_at rows (Some (id, word ∷ [])) idle false) (sym a.no_value) (rw (a.rule_is, bytes_eq_refl id) refl)
 
 value_held : (os : List (Opt Text)) (rows : List Row) (p : Option (Text × List Text)) (id word : Text) (awaited : Bool) → AwaitsValue os p id awaited → files_held os rows (Some (id, word ∷ [])) ≡ files_held os rows p
 value_held os rows p id word awaited a =
-    let same : files_held os rows (Some (id, [])) ≡ files_held os rows p = ap (files_held os rows) (sym a.bare) in
-    ap (λ (r : Option Rule). grammars_of (used_by_id r (word ∷ []) rows)) a.by ∙ kept Set refl id (word ∷ []) rows a.other
-    ∙ sym (ap (λ (r : Option Rule). grammars_of (used_by_id r [] rows)) a.by ∙ kept Set refl id [] rows a.other) ∙ same
+    let same : files_held os rows (Some (id, [])) ≡ files_held os rows p = ap (files_held os rows) (sym a.no_value) in
+    ap (λ (r : Option Rule). grammars_of (used_by_id r (word ∷ []) rows)) a.rule_is ∙ kept Set refl id (word ∷ []) rows a.not_grammars
+    ∙ sym (ap (λ (r : Option Rule). grammars_of (used_by_id r [] rows)) a.rule_is ∙ kept Set refl id [] rows a.not_grammars) ∙ same
 
 value_used : (os : List (Opt Text)) (rows : List Row) (p : Option (Text × List Text)) (id word : Text) (awaited : Bool) → AwaitsValue os p id awaited → (n : Text) → is_used os rows (Some (id, word ∷ [])) n ≡ is_used os rows p n
 value_used os rows p id word awaited a n =
-    let same : is_used os rows (Some (id, [])) n ≡ is_used os rows p n = ap (λ (q : Option (Text × List Text)). is_used os rows q n) (sym a.bare) in
-    ap (λ (r : Option Rule). has_row n (used_by_id r (word ∷ []) rows)) a.by ∙ used_there Set refl id n (word ∷ []) rows
-    ∙ sym (ap (λ (r : Option Rule). has_row n (used_by_id r [] rows)) a.by ∙ used_there Set refl id n [] rows) ∙ same
+    let same : is_used os rows (Some (id, [])) n ≡ is_used os rows p n = ap (λ (q : Option (Text × List Text)). is_used os rows q n) (sym a.no_value) in
+    ap (λ (r : Option Rule). is_given n (used_by_id r (word ∷ []) rows)) a.rule_is ∙ used_there Set refl id n (word ∷ []) rows
+    ∙ sym (ap (λ (r : Option Rule). is_given n (used_by_id r [] rows)) a.rule_is ∙ used_there Set refl id n [] rows) ∙ same
 
 walk_value : (os : List (Opt Text)) (rows : List Row) (p : Option (Text × List Text)) (id word : Text) (awaited : Bool) → AwaitsValue os p id awaited
     → IsWalkState os (onward (known_rules os) rows p (option id) word (plain_word (known_rules os) (option id) word (matches_so_far rows p))) false (files_held os rows p) (is_used os rows p)
@@ -276,7 +281,7 @@ walk_plain_word : (os : List (Opt Text)) (rows : List Row) (p : Option (Text × 
     → IsWalkState os (onward (known_rules os) rows p x word (plain_word (known_rules os) x word (matches_so_far rows p))) false (if awaited then files_held os rows p else files_held os rows p ++ word ∷ []) (is_used os rows p)
 walk_plain_word os rows p idle word awaited a = rw a (walk_file os rows p idle word)
 walk_plain_word os rows p positional word awaited a = rw a (walk_file os rows p positional word)
-walk_plain_word os rows p (option id) word awaited a = let yes : awaited ≡ true = a.yes in rw yes (walk_value os rows p id word awaited a)
+walk_plain_word os rows p (option id) word awaited a = let yes : awaited ≡ true = a.is_awaited in rw yes (walk_value os rows p id word awaited a)
 
 -- The state of the walk after a word that is not an option.
 other_is : (os : List (Opt Text)) (rows : List Row) (p : Option (Text × List Text)) (x : Waiting) (word : Text) → is_end word ≡ false → long_of word ≡ None
@@ -302,7 +307,7 @@ pub bare_walked : (os : List (Opt Text)) (rows : List Row) (p : Option (Text × 
     → is_end word ≡ false → long_of word ≡ Some (name, None) → walked (known_rules os) [] (walk_at rows p x false) word ≡ walk_at (settled_rows (known_rules os) p rows) (Some (name, [])) (option name) false
 bare_walked os rows p x word name by more is = walked_is (known_rules os) rows p x word ∙ rw (more, is) (ap (λ (r : Option Rule). onward (known_rules os) rows p x word (let m = long_met (known_rules os) r None (matches_so_far rows p) in after_flag (known_rules os) x word m.0 m.1)) by)
 
--- A file has no fault.
+-- If clap finds no fault in the step over a word that is a file's name, then the argument for files has no fault.
 pub plain_fault : (os : List (Opt Text)) (rows : List Row) (p : Option (Text × List Text)) (x : Waiting) (word : Text) → plain_word (known_rules os) x word (matches_so_far rows p) ≡ (matches_so_far rows p, value) → is_end word ≡ false → long_of word ≡ None
     → turn_fault (command_of os) [] (walk_at rows p x false) word ≡ [] → positional_fault (known_rules os) false of_files (matches_so_far rows p) ≡ []
 plain_fault os rows p x word file more is none =

@@ -1,6 +1,8 @@
 pub mod RenamedWord
 pub mod SingleMode
 pub mod FilesInWords
+pub mod UsesInWords
+pub mod FollowsOptions
 pub mod Given
 pub mod OptionLookup
 pub mod SecondUseRefused

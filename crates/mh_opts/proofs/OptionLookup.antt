@@ -39,7 +39,7 @@ pub record Found (os : List (Opt Text)) (name : Text) (rule : Rule) : Type 0 whe
   pub plain : is_plain action ≡ true
   pub valued : has_value os name ≡ is_set action
   pub by_id : arg_by_id (rules_with_help os) name ≡ Some rule
-  pub other : bytes_eq name GRAMMARS.now ≡ false
+  pub not_grammars : bytes_eq name GRAMMARS.now ≡ false
 
 last : (b : Bool) (rule : Rule) → (if b then Some help else None) ≡ Some rule → rule ≡ help
 last true rule e = cc
@@ -57,7 +57,7 @@ found_step o os plain other name rule later true e is =
       plain = plain;
       valued = rw e refl;
       by_id = rw e is;
-      other = subst (λ (n : Text). bytes_eq n GRAMMARS.now ≡ false) same other;
+      not_grammars = subst (λ (n : Text). bytes_eq n GRAMMARS.now ≡ false) same other;
     })
 found_step o os plain other name rule later false e is = elim (later is) [
   | inl f ↦ inl (record {
@@ -66,7 +66,7 @@ found_step o os plain other name rule later false e is = elim (later is) [
     plain = f.plain;
     valued = rw e f.valued;
     by_id = rw e f.by_id;
-    other = f.other;
+    not_grammars = f.not_grammars;
   })
   | inr h ↦ inr h
 ]
@@ -79,7 +79,7 @@ Found-long (o ∷ os) fit name rule e =
     found_step o os one.0 (is_false (bytes_eq o.name GRAMMARS.now) one.1) name rule (Found-long os parts.1 name rule) (bytes_eq o.name name) refl e
 
 pub by_id : (os : List (Opt Text)) (name : Text) (rule : Rule) → Found os name rule → arg_by_id (known_rules os) name ≡ Some rule
-by_id os name rule f = let other : bytes_eq GRAMMARS.now name ≡ false = bytes_eq_false_sym name GRAMMARS.now f.other in rw other f.by_id
+by_id os name rule f = let other : bytes_eq GRAMMARS.now name ≡ false = bytes_eq_false_sym name GRAMMARS.now f.not_grammars in rw other f.by_id
 
 -- No option has a one-letter name.
 pub found_short : (os : List (Opt Text)) (letter : ℕ) (rule : Rule) → arg_by_short (rules_with_help os) letter ≡ Some rule → rule ≡ help

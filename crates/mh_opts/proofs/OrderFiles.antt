@@ -15,16 +15,14 @@ use Rattle.mh_opts.specs.declared.jobs.JobKind.{JobKind}
 use Rattle.mh_opts.specs.declared.jobs.Opt.{Opt}
 use Rattle.mh_opts.specs.declared.order.Order.{Order}
 use Rattle.mh_opts.specs.declared.jobs.JobKind.TheVariants as modes
-use Rattle.mh_opts.specs.declared.jobs.TheConstants.{LENGTH, SAMPLE, SHOW_EXPECTED, TABLES}
-use Rattle.mh_opts.specs.declared.numbers.TheConstants.{MAX_LENGTH}
 use Rattle.mh_opts.specs.declared.order.UsageFault.{UsageFault}
 use Rattle.mh_opts.specs.declared.order.UsageFault.TheVariants.{Misplaced, NoGrammar, Number, Parse}
 use Rattle.mh_opts.specs.declared.repeated_option.SeenUses.{SeenUses}
 use Rattle.mh_opts.specs.declared.repeated_option.SeenUses.TheVariants.{Nothing, One, All}
-use Rattle.mh_opts.specs.declared.repeated_option.TheConstants.{AGAIN, ONCE, ONCE_WITH_VALUE}
-use Rattle.mh_opts.specs.App.{menhir_app, options}
-use Rattle.mh_opts.specs.Orders.{clashes, file_of, grammars_of, is_sample, job_for, lacks_number, late_needs, lists_nothing, misplaced_in, mode_in, needs, order_by, order_for, order_in, order_late, order_of, order_renamed, order_with, written, EqualsUnlessMemory, IsWithinLimits}
-use Rattle.mh_opts.specs.Numbers.{at_most as up_to, number_in}
+use Rattle.mh_opts.specs.App.{menhir_app}
+use Rattle.mh_opts.specs.Options.{late_needs, needs, options}
+use Rattle.mh_opts.specs.Orders.{clashes, file_of, grammars_of, is_sample, job_for, lacks_number, lists_nothing, misplaced_in, mode_in, order_by, order_for, order_in, order_late, order_of, order_renamed, order_with, written, EqualsUnlessMemory, IsWithinLimits}
+use Rattle.mh_opts.specs.Numbers.{at_most as up_to, max_length, number_in}
 use Rattle.mh_opts.specs.PosixReading.{at_most, awaits, files_from, files_in, is_listed, is_option, is_use_of, occurrences}
 use Rattle.mh_opts.specs.RepeatedOption.{again, is_end, is_reserved, is_use, renamed, renamed_from, seen_after, word_with}
 use Rattle.mh_opts.proofs.FilesInWords.{end_files, walk_files, walk_on}
@@ -33,21 +31,21 @@ use Rattle.mh_opts.proofs.ClapWalk.{or_else_empty_second, or_else_empty_first, c
 use Rattle.mh_opts.proofs.SecondUseRefused.{at_most_once, IsOptionNamed-listed, one_if, occurrences-end, occurrences-step}
 use Rattle.mh_opts.proofs.SimpleCommand.{is_not_empty}
 
--- The command.
+-- Lemmas on the command for clap.
 
-shape_is : (built menhir_app).top ≡ command_of options
+pub shape_is : (built menhir_app).top ≡ command_of options
 unfolding options
 shape_is = refl
 
-no_names : names_of (built menhir_app) ≡ []
+pub no_names : names_of (built menhir_app) ≡ []
 unfolding options
 no_names = refl
 
-all_fit : list_all is_fit options ≡ true
+pub all_fit : list_all is_fit options ≡ true
 unfolding options
 all_fit = refl
 
-words_of : (words : List Text) → argument_words menhir_app words ≡ words
+pub words_of : (words : List Text) → argument_words menhir_app words ≡ words
 unfolding options
 words_of words = refl
 
@@ -64,7 +62,7 @@ level_taken s names words has below none =
     let later = or_else_empty_second walking (or_else below (or_else settle last)) none in
     (or_else_empty_first walking (or_else below (or_else settle last)) none, or_else_empty_first settle last (or_else_empty_second below (or_else settle last) later))
 
-words_taken : (words : List Text) → fault_of menhir_app words ≡ [] → Taken (command_of options) [] (walk_at [] None idle false) words
+pub words_taken : (words : List Text) → fault_of menhir_app words ≡ [] → Taken (command_of options) [] (walk_at [] None idle false) words
 words_taken words none =
     let app = built menhir_app in
     let there = argument_words menhir_app words in
@@ -78,7 +76,7 @@ found_files words none =
     let rows : matches_of menhir_app words ≡ finished (known_rules options) w.held = rw (shape_is, no_names, words_of words) refl in
     ap grammars_of rows ∙ end_files options all_fit w ∙ walk_files options all_fit words [] None idle false refl (words_taken words none).0
 
--- The order.
+-- Lemmas on the order that the words spell.
 
 three : (a b c : Bool) (x y z : UsageFault) (r : Result Order UsageFault) (order : Order) → (if a then Err x else (if b then Err y else (if c then Err z else r))) ≡ Ok order → r ≡ Ok order
 three true b c x y z r order e = cc
@@ -87,7 +85,7 @@ three false false true x y z r order e = cc
 three false false false x y z r order e = e
 
 -- If a choice between a fault and a result gives an order, the result is this order.
-chosen_order : (b : Bool) (fault : UsageFault) (r : Result Order UsageFault) (order : Order) → (if b then Err fault else r) ≡ Ok order → r ≡ Ok order
+pub chosen_order : (b : Bool) (fault : UsageFault) (r : Result Order UsageFault) (order : Order) → (if b then Err fault else r) ≡ Ok order → r ≡ Ok order
 chosen_order true fault r order e = cc
 chosen_order false fault r order e = e
 
@@ -98,17 +96,17 @@ late_is rows mode None order e = let same = chosen_order (not (is_sample mode) &
 by_mode : (rows : List Row) (mode : JobKind) (option : Option Text) (order : Order) → order_with rows mode option ≡ Ok order → order_for rows mode ≡ order
 by_mode rows mode (Some option) order e = cc
 by_mode rows mode None order e =
-    let late = three (clashes rows mode) (is_sample mode && not (is_empty (grammars_of rows))) (lists_nothing rows) (Misplaced (written TABLES.now)) (Misplaced (written SAMPLE.now)) (Misplaced (written SHOW_EXPECTED.now)) (order_late rows mode (misplaced_in rows late_needs)) order e in
+    let late = three (clashes rows mode) (is_sample mode && not (is_empty (grammars_of rows))) (lists_nothing rows) (Misplaced (written (codes "tables"))) (Misplaced (written (codes "sample"))) (Misplaced (written (codes "show-expected"))) (order_late rows mode (misplaced_in rows late_needs)) order e in
     late_is rows mode (misplaced_in rows late_needs) order late
 
-by_modes : (rows : List Row) (mode : Result JobKind UsageFault) (order : Order) → order_by rows mode ≡ Ok order → (one : JobKind) × (order_for rows one ≡ order)
+by_modes : (rows : List Row) (mode : Result JobKind UsageFault) (order : Order) → order_by rows mode ≡ Ok order → (one : JobKind) × (mode ≡ Ok one) × (order_for rows one ≡ order)
 by_modes rows (Err fault) order e = cc
-by_modes rows (Ok mode) order e = (mode, by_mode rows mode (misplaced_in rows needs) order e)
+by_modes rows (Ok mode) order e = (mode, refl, by_mode rows mode (misplaced_in rows needs) order e)
 
-by_rows : (rows : List Row) (order : Order) → order_in rows ≡ Ok order → (one : JobKind) × (order_for rows one ≡ order)
+pub by_rows : (rows : List Row) (order : Order) → order_in rows ≡ Ok order → (one : JobKind) × (mode_in rows options ≡ Ok one) × (order_for rows one ≡ order)
 by_rows rows order e = by_modes rows (mode_in rows options) order (chosen_order (lacks_number rows) Number (order_by rows (mode_in rows options)) order e)
 
-taken : (b : Bool) (r : Result Order UsageFault) (order : Order) → (if b then r else Err Parse) ≡ Ok order → (b ≡ true) × (r ≡ Ok order)
+pub taken : (b : Bool) (r : Result Order UsageFault) (order : Order) → (if b then r else Err Parse) ≡ Ok order → (b ≡ true) × (r ≡ Ok order)
 taken true r order e = (refl, e)
 taken false r order e = cc
 
@@ -116,7 +114,7 @@ by_renamed : (words : List Text) (order : Order) → order_renamed words ≡ Ok 
 by_renamed words order e =
     let parts = taken (is_empty (fault_of menhir_app words)) (order_in (matches_of menhir_app words)) order e in
     let one = by_rows (matches_of menhir_app words) order parts.1 in
-    sym (ap (λ (o : Order). o.grammars) one.1) ∙ found_files words (is_nil (fault_of menhir_app words) parts.0)
+    sym (ap (λ (o : Order). o.grammars) one.2) ∙ found_files words (is_nil (fault_of menhir_app words) parts.0)
 
 -- ---- The limits of the job of an order.
 
@@ -129,7 +127,7 @@ at_most_is most (Some n) = go (nat_le n most) refl
     go false e = omega arith
 
 job_limits : (rows : List Row) (mode : JobKind) → IsWithinLimits (job_for rows mode)
-job_limits rows modes.RandomSentence = at_most_is MAX_LENGTH (number_in 4 (file_of rows LENGTH.now))
+job_limits rows modes.RandomSentence = at_most_is max_length (number_in 4 (file_of rows (codes "length")))
 job_limits rows modes.Interpret = tt
 job_limits rows modes.InterpretError = tt
 job_limits rows modes.Session = tt
@@ -140,6 +138,7 @@ job_limits rows modes.CompileErrors = tt
 job_limits rows modes.CompareErrors = tt
 job_limits rows modes.EchoErrors = tt
 job_limits rows modes.UpdateErrors = tt
+job_limits rows modes.RebaseErrors = tt
 job_limits rows modes.Sample = tt
 job_limits rows modes.ShortestSentences = tt
 
@@ -148,7 +147,7 @@ order_limits words order e =
     let there = chosen_order (is_reserved words) Parse (order_renamed (renamed words)) order e in
     let rows = matches_of menhir_app (renamed words) in
     let one = by_rows rows order (taken (is_empty (fault_of menhir_app (renamed words))) (order_in rows) order there).1 in
-    subst (λ (o : Order). IsWithinLimits o.job) one.1 (job_limits rows one.0)
+    subst (λ (o : Order). IsWithinLimits o.job) one.2 (job_limits rows one.0)
 
 pub answer_limits : (words : List Text) (r : Result Order UsageFault) → EqualsUnlessMemory (order_of words) r → IfOk r (λ (order : Order). IsWithinLimits order.job)
 answer_limits words (Err fault) h = tt
@@ -157,36 +156,36 @@ answer_limits words (Ok order) h = order_limits words order h
 -- The option that may occur twice.
 
 -- A use of the option: the name alone, or the name with `=` and a value.
-data Use (word : Text) : Type 0 where
-  bare : word ≡ ONCE.now → Use word
-  valued : (value : Text) → word ≡ ONCE_WITH_VALUE.now ++ value → Use word
+pub data Use (word : Text) : Type 0 where
+  bare : word ≡ (codes "--compare-errors") → Use word
+  valued : (value : Text) → word ≡ (codes "--compare-errors=") ++ value → Use word
 
-use_is : (word : Text) (b : Bool) → bytes_eq word ONCE.now ≡ b → (b || starts_with nat_eq word ONCE_WITH_VALUE.now) ≡ true → Use word
-use_is word true e u = bare ((bytes_eq-Decides word ONCE.now).0 e)
-use_is word false e u = valued (drop (length ONCE_WITH_VALUE.now) word) ((starts_is Decides-eqb word ONCE_WITH_VALUE.now (starts_with nat_eq word ONCE_WITH_VALUE.now) refl).0 u)
+pub use_is : (word : Text) (b : Bool) → bytes_eq word (codes "--compare-errors") ≡ b → (b || starts_with nat_eq word (codes "--compare-errors=")) ≡ true → Use word
+use_is word true e u = bare ((bytes_eq-Decides word (codes "--compare-errors")).0 e)
+use_is word false e u = valued (drop (length (codes "--compare-errors=")) word) ((starts_is Decides-eqb word (codes "--compare-errors=") (starts_with nat_eq word (codes "--compare-errors=")) refl).0 u)
 
 -- The renamed word is an option too, and it awaits a value exactly if the original word does.
-record Alike (word other : Text) : Type 0 where
-  ends : is_end word ≡ false
-  other_end : is_end other ≡ false
-  is_one : is_option word ≡ true
-  other_is_one : is_option other ≡ true
-  awaited : awaits options other ≡ awaits options word
+pub record Alike (word other : Text) : Type 0 where
+  pub ends : is_end word ≡ false
+  pub other_end : is_end other ≡ false
+  pub is_one : is_option word ≡ true
+  pub other_is_one : is_option other ≡ true
+  pub awaited : awaits options other ≡ awaits options word
 
-use_alike : (word : Text) → Use word → Alike word (again word)
+pub use_alike : (word : Text) → Use word → Alike word (again word)
 unfolding options
 use_alike word (bare e) = rw e (record { ends = refl; other_end = refl; is_one = refl; other_is_one = refl; awaited = refl })
 use_alike word (valued value e) = rw e (record { ends = refl; other_end = refl; is_one = refl; other_is_one = refl; awaited = refl })
 
-all_same : (words : List Text) → renamed_from All words ≡ words
+pub all_same : (words : List Text) → renamed_from All words ≡ words
 all_same [] = refl
 all_same (word ∷ words) = ap (λ (ws : List Text). word ∷ ws) (all_same words)
 
-not_renamed : (word : Text) → is_use word ≡ false → word_with One word ≡ word
+pub not_renamed : (word : Text) → is_use word ≡ false → word_with One word ≡ word
 not_renamed word e = ap (λ (b : Bool). if b then again word else word) e
 
--- The second use is renamed.
-use_renamed : (word : Text) (words : List Text) → is_use word ≡ true → is_end word ≡ false → renamed_from One (word ∷ words) ≡ again word ∷ words
+-- A second use of the option gets the other name.
+pub use_renamed : (word : Text) (words : List Text) → is_use word ≡ true → is_end word ≡ false → renamed_from One (word ∷ words) ≡ again word ∷ words
 use_renamed word words e more =
     let seen : seen_after One word ≡ All = rw (more, e) refl in
     ap (λ (b : Bool). (if b then again word else word) ∷ renamed_from (seen_after One word) words) e
@@ -215,7 +214,7 @@ alike_files awaited word other words a = rw (a.ends, a.other_end, a.is_one, a.ot
 second_files : (awaited : Bool) (word : Text) (words : List Text) → ((a : Bool) → files_from options a (renamed_from (seen_after One word) words) ≡ files_from options a words) → (b : Bool) → is_use word ≡ b
     → files_from options awaited (renamed_from One (word ∷ words)) ≡ files_from options awaited (word ∷ words)
 second_files awaited word words later true e =
-    let alike = use_alike word (use_is word (bytes_eq word ONCE.now) refl e) in
+    let alike = use_alike word (use_is word (bytes_eq word (codes "--compare-errors")) refl e) in
     ap (files_from options awaited) (use_renamed word words e alike.ends) ∙ alike_files awaited word (again word) words alike
 second_files awaited word words later false e =
     ap (λ (v : Text). files_from options awaited (v ∷ renamed_from (seen_after One word) words)) (not_renamed word e)
@@ -232,7 +231,7 @@ pub order_files : (words : List Text) (order : Order) → order_of words ≡ Ok 
 order_files words order e =
     by_renamed (renamed words) order (chosen_order (is_reserved words) Parse (order_renamed (renamed words)) order e) ∙ renamed_files Nothing words false
 
--- A second use.
+-- Lemmas on a second use of the option.
 
 once_taken : (name : Text) → is_listed name options ≡ true → (words : List Text) → fault_of menhir_app words ≡ [] → occurrences name words ≤ 1
 once_taken name listed words none =
@@ -247,7 +246,7 @@ twice_refused words some = go (fault_of menhir_app words) refl
     go (k ∷ ks) e = let more = is_not_empty k ks in rw more refl
 
 -- Renaming changes the name of one use of the option that may occur twice.
-use_names : (word : Text) → Use word → (name : Text) → is_use_of name word ≡ bytes_eq (codes "compare-errors") name
+pub use_names : (word : Text) → Use word → (name : Text) → is_use_of name word ≡ bytes_eq (codes "compare-errors") name
 use_names word (bare e) name = rw e refl
 use_names word (valued value e) name = rw e refl
 
@@ -278,7 +277,7 @@ lost name = one_if (bytes_eq (codes "compare-errors") name)
 
 second_times : (name word : Text) (words : List Text) → Hides name words (renamed_from (seen_after One word) words) (lost name) → (b : Bool) → is_use word ≡ b → Hides name (word ∷ words) (renamed_from One (word ∷ words)) (lost name)
 second_times name word words later true e =
-    let spelled = use_is word (bytes_eq word ONCE.now) refl e in
+    let spelled = use_is word (bytes_eq word (codes "--compare-errors")) refl e in
     let alike = use_alike word spelled in
     let here : occurrences name (word ∷ words) ≡ lost name + occurrences name words = occurrences-step name word words alike.ends ∙ ap (λ (b : Bool). one_if b + occurrences name words) (use_names word spelled name) in
     let there = one_hidden (occurrences name (word ∷ words)) (occurrences name (again word ∷ words)) (lost name) (one_if (is_use_of name (again word))) (occurrences name words) here (occurrences-step name (again word) words alike.other_end) in

@@ -1,9 +1,11 @@
 -- Lemmas on how the use of one argument changes the rows of this and of other arguments.
-use Rattle.std.proofs.Common.{◌≡◌, ◌∙◌, ◌++◌, ◌||◌, Bool, true, false, not, List, [], ◌∷◌, refl, sym, ap, subst, bytes_eq, if◌then◌else◌, true≢false}
+use Rattle.std.proofs.Common.{◌≡◌, ◌∙◌, ◌++◌, ◌||◌, Bool, true, false, not, List, [], ◌∷◌, Option, Some, None, refl, sym, ap, subst, bytes_eq, if◌then◌else◌, true≢false}
 use Rattle.std.specs.Prelude.{unwrap_or}
 use Rattle.std.proofs.lemmas.Slice.Eq.{bytes_eq-Decides}
-use Rattle.std.proofs.lemmas.Bool.{false_from_ne_true}
-use Rattle.clap.specs.Walk.{Row, Text, all_of, default_rows, has_row, more_values, used_as, with_values, without}
+use Rattle.std.proofs.lemmas.Bool.{false_from_ne_true, or_parts}
+use Rattle.clap.specs.Facts.{explicit_source}
+use Rattle.clap.specs.Takes.{is_given}
+use Rattle.clap.specs.Walk.{Row, Rule, Text, all_of, default_rows, has_row, more_values, reading_by, stronger, used_as, with_default, with_values, without}
 use Rattle.clap.specs.declared.builder.value_parser.Reading.{Reading}
 use Rattle.clap.specs.declared.builder.action.ArgAction.{ArgAction}
 use Rattle.clap.specs.declared.builder.action.ArgAction.TheVariants.{Set, SetTrue}
@@ -79,40 +81,127 @@ pub with_own : (g : Text) (how : Reading) (s : ValueSource) (vs : List Text) (ro
 with_own g how s vs [] = rw (bytes_eq_refl g) refl
 with_own g how s vs (r ∷ rs) = own_step g how s vs r rs (with_own g how s vs rs) (bytes_eq r.id g) refl
 
--- Which arguments have a row.
+-- Which arguments the words give: those with a row whose source is not a default.
 
-here_too : (x h : Bool) → (x || h) ≡ (x || (x || h))
-here_too true h = refl
-here_too false h = refl
+given_step : (n : Text) (r : Row) (rs : List Row) → is_given n (r ∷ rs) ≡ (if bytes_eq r.id n then explicit_source r.source else is_given n rs)
+given_step n r rs = go (bytes_eq r.id n) refl
+  where
+    go : (b : Bool) → bytes_eq r.id n ≡ b → is_given n (r ∷ rs) ≡ (if bytes_eq r.id n then explicit_source r.source else is_given n rs)
+    go true e = rw e refl
+    go false e = rw e refl
 
-turned : (x y h : Bool) → (y || (x || h)) ≡ (x || (y || h))
-turned true true h = refl
-turned true false h = refl
-turned false y h = refl
+-- The row of a use.
+abbrev used_row : Text → Reading → List Text → Row
+used_row id how vs = record {
+  id = id;
+  values = vs;
+  count = None;
+  source = Some CommandLine;
+  reading = how;
+}
 
-row_step : (id n : Text) (how : Reading) (s : ValueSource) (vs : List Text) (r : Row) (rs : List Row)
-    → has_row n (with_values id how s vs rs) ≡ (bytes_eq id n || has_row n rs) → (b : Bool) → bytes_eq r.id id ≡ b
-    → has_row n (if b then more_values s vs r ++ rs else (r ∷ with_values id how s vs rs)) ≡ (bytes_eq id n || has_row n (r ∷ rs))
-row_step id n how s vs r rs so_far true e =
-    subst (λ (i : Text). (bytes_eq r.id n || has_row n rs) ≡ (bytes_eq i n || (bytes_eq r.id n || has_row n rs))) ((bytes_eq-Decides r.id id).0 e) (here_too (bytes_eq r.id n) (has_row n rs))
-row_step id n how s vs r rs so_far false e = ap (λ (h : Bool). bytes_eq r.id n || h) so_far ∙ turned (bytes_eq id n) (bytes_eq r.id n) (has_row n rs)
+words_outweigh : (source : Option ValueSource) → explicit_source (Some (stronger source CommandLine)) ≡ true
+words_outweigh None = refl
+words_outweigh (Some DefaultValue) = refl
+words_outweigh (Some CommandLine) = refl
 
-pub with_row : (id n : Text) (how : Reading) (s : ValueSource) (vs : List Text) (rows : List Row) → has_row n (with_values id how s vs rows) ≡ (bytes_eq id n || has_row n rows)
-with_row id n how s vs [] = refl
-with_row id n how s vs (r ∷ rs) = row_step id n how s vs r rs (with_row id n how s vs rs) (bytes_eq r.id id) refl
+more_given : (n : Text) (vs : List Text) (r : Row) (rs : List Row) → is_given n (more_values CommandLine vs r ++ rs) ≡ (bytes_eq r.id n || is_given n (r ∷ rs))
+more_given n vs r rs = go (bytes_eq r.id n) refl
+  where
+    go : (b : Bool) → bytes_eq r.id n ≡ b → is_given n (more_values CommandLine vs r ++ rs) ≡ (bytes_eq r.id n || is_given n (r ∷ rs))
+    go true e = rw e (words_outweigh r.source)
+    go false e = rw e refl
 
-out_step : (id n : Text) (r : Row) (rs : List Row) → (bytes_eq id n || has_row n (without id rs)) ≡ (bytes_eq id n || has_row n rs) → (b : Bool) → bytes_eq r.id id ≡ b
-    → (bytes_eq id n || has_row n (if b then rs else (r ∷ without id rs))) ≡ (bytes_eq id n || has_row n (r ∷ rs))
-out_step id n r rs so_far true e =
-    subst (λ (i : Text). (bytes_eq i n || has_row n rs) ≡ (bytes_eq i n || (bytes_eq r.id n || has_row n rs))) ((bytes_eq-Decides r.id id).0 e) (here_too (bytes_eq r.id n) (has_row n rs))
-out_step id n r rs so_far false e =
-    turned (bytes_eq r.id n) (bytes_eq id n) (has_row n (without id rs)) ∙ ap (λ (h : Bool). bytes_eq r.id n || h) so_far ∙ turned (bytes_eq id n) (bytes_eq r.id n) (has_row n rs)
+apart_from : (id n : Text) (r : Row) → bytes_eq r.id id ≡ false → bytes_eq r.id n ≡ true → bytes_eq id n ≡ false
+apart_from id n r apart same = subst (λ (t : Text). bytes_eq id t ≡ false) ((bytes_eq-Decides r.id n).0 same) (bytes_eq_false_sym r.id id apart)
 
-without_row : (id n : Text) (rows : List Row) → (bytes_eq id n || has_row n (without id rows)) ≡ (bytes_eq id n || has_row n rows)
-without_row id n [] = refl
-without_row id n (r ∷ rs) = out_step id n r rs (without_row id n rs) (bytes_eq r.id id) refl
+later_given : (id n : Text) (r : Row) (old new : List Row) → bytes_eq r.id id ≡ false → is_given n new ≡ (bytes_eq id n || is_given n old) → is_given n (r ∷ new) ≡ (bytes_eq id n || is_given n (r ∷ old))
+later_given id n r old new apart so_far = go (bytes_eq r.id n) refl
+  where
+    go : (b : Bool) → bytes_eq r.id n ≡ b → is_given n (r ∷ new) ≡ (bytes_eq id n || is_given n (r ∷ old))
+    go true e = let other : bytes_eq id n ≡ false = apart_from id n r apart e in rw (e, other) refl
+    go false e = rw e so_far
 
-pub used_row : (action : ArgAction) → is_plain action ≡ true → (id n : Text) (how : Reading) (vs : List Text) (rows : List Row) → has_row n (used_as action id how vs rows) ≡ (bytes_eq id n || has_row n rows)
-used_row Set plain id n how vs rows = with_row id n how CommandLine vs (without id rows) ∙ without_row id n rows
-used_row SetTrue plain id n how vs rows = with_row id n how CommandLine vs (without id rows) ∙ without_row id n rows
-used_row action plain id n how vs rows = absurd (true≢false (sym plain))
+with_step_given : (id n : Text) (how : Reading) (vs : List Text) (r : Row) (rs : List Row) → is_given n (with_values id how CommandLine vs rs) ≡ (bytes_eq id n || is_given n rs)
+    → (b : Bool) → bytes_eq r.id id ≡ b → is_given n (if b then more_values CommandLine vs r ++ rs else (r ∷ with_values id how CommandLine vs rs)) ≡ (bytes_eq id n || is_given n (r ∷ rs))
+with_step_given id n how vs r rs so_far true e =
+    subst (λ (i : Text). is_given n (more_values CommandLine vs r ++ rs) ≡ (bytes_eq i n || is_given n (r ∷ rs))) ((bytes_eq-Decides r.id id).0 e) (more_given n vs r rs)
+with_step_given id n how vs r rs so_far false e = later_given id n r rs (with_values id how CommandLine vs rs) e so_far
+
+one_given : (id n : Text) (how : Reading) (vs : List Text) (b : Bool) → bytes_eq id n ≡ b → is_given n (used_row id how vs ∷ []) ≡ (bytes_eq id n || false)
+one_given id n how vs true e = rw e refl
+one_given id n how vs false e = rw e refl
+
+pub with_given : (id n : Text) (how : Reading) (vs : List Text) (rows : List Row) → is_given n (with_values id how CommandLine vs rows) ≡ (bytes_eq id n || is_given n rows)
+with_given id n how vs [] = one_given id n how vs (bytes_eq id n) refl
+with_given id n how vs (r ∷ rs) = with_step_given id n how vs r rs (with_given id n how vs rs) (bytes_eq r.id id) refl
+
+abbrev GivesBesides : Text → Text → List Row → List Row → Type 0
+GivesBesides id n old new = (bytes_eq id n || is_given n new) ≡ (bytes_eq id n || is_given n old)
+
+without_here : (n : Text) (r : Row) (rs : List Row) → GivesBesides r.id n (r ∷ rs) rs
+without_here n r rs = go (bytes_eq r.id n) refl
+  where
+    go : (b : Bool) → bytes_eq r.id n ≡ b → GivesBesides r.id n (r ∷ rs) rs
+    go true e = rw e refl
+    go false e = rw e refl
+
+without_later : (id n : Text) (r : Row) (rs : List Row) → GivesBesides id n rs (without id rs) → GivesBesides id n (r ∷ rs) (r ∷ without id rs)
+without_later id n r rs so_far = go (bytes_eq r.id n) refl
+  where
+    go : (b : Bool) → bytes_eq r.id n ≡ b → GivesBesides id n (r ∷ rs) (r ∷ without id rs)
+    go true e = rw e refl
+    go false e = rw e so_far
+
+without_step_given : (id n : Text) (r : Row) (rs : List Row) → GivesBesides id n rs (without id rs) → (b : Bool) → bytes_eq r.id id ≡ b → GivesBesides id n (r ∷ rs) (if b then rs else (r ∷ without id rs))
+without_step_given id n r rs so_far true e = subst (λ (i : Text). GivesBesides i n (r ∷ rs) rs) ((bytes_eq-Decides r.id id).0 e) (without_here n r rs)
+without_step_given id n r rs so_far false e = without_later id n r rs so_far
+
+without_given : (id n : Text) (rows : List Row) → GivesBesides id n rows (without id rows)
+without_given id n [] = refl
+without_given id n (r ∷ rs) = without_step_given id n r rs (without_given id n rs) (bytes_eq r.id id) refl
+
+pub used_given : (action : ArgAction) → is_plain action ≡ true → (id n : Text) (how : Reading) (vs : List Text) (rows : List Row) → is_given n (used_as action id how vs rows) ≡ (bytes_eq id n || is_given n rows)
+used_given Set plain id n how vs rows = with_given id n how vs (without id rows) ∙ without_given id n rows
+used_given SetTrue plain id n how vs rows = with_given id n how vs (without id rows) ∙ without_given id n rows
+used_given action plain id n how vs rows = absurd (true≢false (sym plain))
+
+-- An argument that the words give has a row.
+pub given_has_row : (n : Text) (rows : List Row) → is_given n rows ≡ true → has_row n rows ≡ true
+given_has_row n [] given = absurd (true≢false (sym given))
+given_has_row n (r ∷ rs) given = go (bytes_eq r.id n) (given_has_row n rs) (sym (given_step n r rs) ∙ given)
+  where
+    go : (b : Bool) → (is_given n rs ≡ true → has_row n rs ≡ true) → (if b then explicit_source r.source else is_given n rs) ≡ true → (b || has_row n rs) ≡ true
+    go true later here = refl
+    go false later there = later there
+
+-- A default gives no argument.
+
+default_later : (id n : Text) (r : Row) (old new : List Row) → is_given n new ≡ is_given n old → is_given n (r ∷ new) ≡ is_given n (r ∷ old)
+default_later id n r old new so_far = go (bytes_eq r.id n) refl
+  where
+    go : (b : Bool) → bytes_eq r.id n ≡ b → is_given n (r ∷ new) ≡ is_given n (r ∷ old)
+    go true e = rw e refl
+    go false e = rw e so_far
+
+default_row : (id n : Text) (how : Reading) (vs : List Text) (b : Bool) → bytes_eq id n ≡ b → is_given n (with_values id how DefaultValue vs []) ≡ false
+default_row id n how vs true e = rw e refl
+default_row id n how vs false e = rw e refl
+
+default_given : (id n : Text) (how : Reading) (vs : List Text) (rows : List Row) → has_row id rows ≡ false → is_given n (with_values id how DefaultValue vs rows) ≡ is_given n rows
+default_given id n how vs [] none = default_row id n how vs (bytes_eq id n) refl
+default_given id n how vs (r ∷ rs) none =
+    let parts = or_parts (bytes_eq r.id id) (has_row id rs) none in
+    let apart : bytes_eq r.id id ≡ false = parts.0 in
+    rw apart (default_later id n r rs (with_values id how DefaultValue vs rs) (default_given id n how vs rs parts.1))
+
+pub defaults_give_nothing : (n : Text) (rows : List Row) (rule : Rule) → is_given n (with_default rows rule) ≡ is_given n rows
+defaults_give_nothing n rows rule = go (has_row rule.id rows) refl
+  where
+    by_defaults : (ds : List Text) → has_row rule.id rows ≡ false → is_given n (default_rows rule.id (reading_by rule) ds rows) ≡ is_given n rows
+    by_defaults [] none = refl
+    by_defaults (d ∷ ds) none = default_given rule.id n (reading_by rule) (d ∷ ds) rows none
+
+    go : (b : Bool) → has_row rule.id rows ≡ b → is_given n (if b then rows else default_rows rule.id (reading_by rule) rule.defaults rows) ≡ is_given n rows
+    go true e = refl
+    go false e = by_defaults rule.defaults e

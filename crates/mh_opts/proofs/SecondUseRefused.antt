@@ -17,7 +17,7 @@ use Rattle.mh_opts.specs.declared.jobs.TheConstants.{GRAMMARS}
 use Rattle.mh_opts.specs.PosixReading.{before_end, is_listed, is_use_of, occurrences}
 use Rattle.mh_opts.specs.RepeatedOption.{is_end}
 use Rattle.mh_opts.proofs.OptionLookup.{rules_with_help, Found-long, is_fit, known_rules, of_files, of_option}
-use Rattle.mh_opts.proofs.RowsAfterUse.{is_plain, bytes_eq_false_sym}
+use Rattle.mh_opts.proofs.RowsAfterUse.{is_plain, bytes_eq_false_sym, given_has_row}
 use Rattle.mh_opts.proofs.FilesInWords.{faults, walk_on}
 use Rattle.mh_opts.proofs.ClapWalk.{AwaitsValue, IsWalkState, IsAwaited, or_else_empty_second, never_first, walk_end, or_else_empty_first, matches_so_far, is_used, no_help, one_more, walk_option, walk_other_word, plain_fault, command_of, walk_at, value_walked, word_fault, bare_walked}
 
@@ -26,9 +26,9 @@ use Rattle.mh_opts.proofs.ClapWalk.{AwaitsValue, IsWalkState, IsAwaited, or_else
 pub record IsOptionNamed (os : List (Opt Text)) (name : Text) : Type 0 where
   pub action : ArgAction
   pub plain : is_plain action ≡ true
-  pub long : arg_by_long (known_rules os) name ≡ Some (of_option name action)
+  pub long_name : arg_by_long (known_rules os) name ≡ Some (of_option name action)
   pub by_id : arg_by_id (rules_with_help os) name ≡ Some (of_option name action)
-  pub other : bytes_eq name GRAMMARS.now ≡ false
+  pub not_grammars : bytes_eq name GRAMMARS.now ≡ false
 
 named_step : (o : Opt Text) (os : List (Opt Text)) (name : Text) → is_plain o.action ≡ true → bytes_eq o.name GRAMMARS.now ≡ false → (is_listed name os ≡ true → IsOptionNamed os name)
     → (b : Bool) → bytes_eq o.name name ≡ b → (b || is_listed name os) ≡ true → IsOptionNamed (o ∷ os) name
@@ -38,18 +38,18 @@ named_step o os name plain other later true e listed =
     record {
       action = o.action;
       plain = plain;
-      long = rw e one;
+      long_name = rw e one;
       by_id = rw e one;
-      other = subst (λ (n : Text). bytes_eq n GRAMMARS.now ≡ false) same other;
+      not_grammars = subst (λ (n : Text). bytes_eq n GRAMMARS.now ≡ false) same other;
     }
 named_step o os name plain other later false e listed =
     let n = later listed in
     record {
       action = n.action;
       plain = n.plain;
-      long = rw e n.long;
+      long_name = rw e n.long_name;
       by_id = rw e n.by_id;
-      other = n.other;
+      not_grammars = n.not_grammars;
     }
 
 pub IsOptionNamed-listed : (os : List (Opt Text)) → list_all is_fit os ≡ true → (name : Text) → is_listed name os ≡ true → IsOptionNamed os name
@@ -60,9 +60,9 @@ IsOptionNamed-listed (o ∷ os) fit name listed =
     named_step o os name one.0 (is_false (bytes_eq o.name GRAMMARS.now) one.1) (IsOptionNamed-listed os parts.1 name) (bytes_eq o.name name) refl listed
 
 by_name : (os : List (Opt Text)) (name : Text) (n : IsOptionNamed os name) → arg_by_id (known_rules os) name ≡ Some (of_option name n.action)
-by_name os name n = let other : bytes_eq GRAMMARS.now name ≡ false = bytes_eq_false_sym name GRAMMARS.now n.other in rw other n.by_id
+by_name os name n = let other : bytes_eq GRAMMARS.now name ≡ false = bytes_eq_false_sym name GRAMMARS.now n.not_grammars in rw other n.by_id
 
--- A second use.
+-- Lemmas on a second use of an option.
 
 not_none : {X : Type 0} (x : X) (xs : List X) → x ∷ xs ≡ [] → ⊥
 not_none x xs e = cc
@@ -132,7 +132,7 @@ stuck_other os name n word words go rows vs positional awaited a has more is non
     stuck os name n rows vs has (file_settles os rows (Some (name, vs)) (plain_fault os rows (Some (name, vs)) positional word refl more is (faults os (walk_at rows (Some (name, vs)) positional false) word words none).0))
 stuck_other os name n word words go rows vs (option id) awaited a has more is none ends =
     let parts = faults os (walk_at rows (Some (name, vs)) (option id) false) word words none in
-    let same = same_name (Some (name, vs)) name id vs [] refl a.bare in
+    let same = same_name (Some (name, vs)) name id vs [] refl a.no_value in
     let next = value_walked os rows (Some (name, vs)) id word awaited a more is parts.0 in
     let again : walk_at rows (Some (id, word ∷ [])) idle false ≡ walk_at rows (Some (name, word ∷ [])) idle false = ap (λ (i : Text). walk_at rows (Some (i, word ∷ [])) idle false) (sym same) in
     let there : walked (known_rules os) [] (walk_at rows (Some (name, vs)) (option id) false) word ≡ walk_at rows (Some (name, word ∷ [])) idle false = next ∙ again in
@@ -162,19 +162,20 @@ used_again : (os : List (Opt Text)) → list_all is_fit os ≡ true → (name : 
     → walk_fault (command_of os) [] (walk_at rows p x false) (word ∷ words) ≡ [] → settle_fault (known_rules os) false (walk_on os (walk_at rows p x false) (word ∷ words)).held ≡ []
     → long_fault (known_rules os) false (Some (of_option name action)) v (matches_so_far rows p) ≡ [] → ⊥
 used_again os fit name Set plain n same word (Some v) words rows p x used more is none ends fault =
-    conflict name Set refl (v ∷ []) (settled_rows (known_rules os) p rows) used (or_else_empty_second (settle_fault (known_rules os) false (matches_so_far rows p)) (use_fault false (of_option name Set) (v ∷ []) (settled_rows (known_rules os) p rows)) fault)
+    conflict name Set refl (v ∷ []) (settled_rows (known_rules os) p rows) (given_has_row name (settled_rows (known_rules os) p rows) used) (or_else_empty_second (settle_fault (known_rules os) false (matches_so_far rows p)) (use_fault false (of_option name Set) (v ∷ []) (settled_rows (known_rules os) p rows)) fault)
 used_again os fit name Set plain n same word None words rows p x used more is none ends fault =
-    let there = bare_walked os rows p x word name (n.long ∙ ap (λ (a : ArgAction). Some (of_option name a)) same) more is in
+    let there = bare_walked os rows p x word name (n.long_name ∙ ap (λ (a : ArgAction). Some (of_option name a)) same) more is in
     let parts = faults os (walk_at rows p x false) word words none in
     let by : arg_by_id (known_rules os) name ≡ Some (of_option name Set) = by_name os name n ∙ ap (λ (a : ArgAction). Some (of_option name a)) same in
-    is_stuck os fit name n words (settled_rows (known_rules os) p rows) [] (option name) true (record { yes = refl; bare = refl; by = by; other = n.other }) used
+    is_stuck os fit name n words (settled_rows (known_rules os) p rows) [] (option name) true (record { is_awaited = refl; no_value = refl; rule_is = by; not_grammars = n.not_grammars })
+    (given_has_row name (settled_rows (known_rules os) p rows) used)
     (subst (λ (w : Walk). walk_fault (command_of os) [] w words ≡ []) there parts.1) (subst (λ (w : Walk). settle_fault (known_rules os) false (walk_on os w words).held ≡ []) there ends)
 used_again os fit name SetTrue plain n same word (Some v) words rows p x used more is none ends fault = no_value os (matches_so_far rows p) name v fault
 used_again os fit name SetTrue plain n same word None words rows p x used more is none ends fault =
-    conflict name SetTrue refl [] (settled_rows (known_rules os) p rows) used (or_else_empty_second (settle_fault (known_rules os) false (matches_so_far rows p)) (use_fault false (of_option name SetTrue) [] (settled_rows (known_rules os) p rows)) fault)
+    conflict name SetTrue refl [] (settled_rows (known_rules os) p rows) (given_has_row name (settled_rows (known_rules os) p rows) used) (or_else_empty_second (settle_fault (known_rules os) false (matches_so_far rows p)) (use_fault false (of_option name SetTrue) [] (settled_rows (known_rules os) p rows)) fault)
 used_again os fit name action plain n same word v words rows p x used more is none ends fault = absurd (true≢false (sym plain))
 
--- At most one use.
+-- Lemmas on at most one use of an option.
 
 abbrev pub one_if : Bool → ℕ
 one_if b = if b then 1 else 0
@@ -187,7 +188,7 @@ no_more : (b : Bool) → one_if b + 0 ≤ 1
 no_more true = omega arith
 no_more false = omega arith
 
--- The words after one word.
+-- Lemmas on the words after one word.
 onward : (os : List (Opt Text)) (name : Text) (words : List Text) → bytes_eq GRAMMARS.now name ≡ false → AtMostOnce os name words → (w : Walk) (awaited : Bool) (files : List Text) (uses : Text → Bool) → IsWalkState os w awaited files uses
     → walk_fault (command_of os) [] w words ≡ [] → settle_fault (known_rules os) false (walk_on os w words).held ≡ [] → one_if (uses name) + occurrences name words ≤ 1
 onward os name words other go w awaited files uses g none ends =
@@ -216,7 +217,7 @@ by_use n false apart le = omega arith
 
 module _ (os : List (Opt Text)) (fit : list_all is_fit os ≡ true) (name : Text) (n : IsOptionNamed os name) (word : Text) (words : List Text) (go : AtMostOnce os name words) where
   no_file : bytes_eq GRAMMARS.now name ≡ false
-  no_file = bytes_eq_false_sym name GRAMMARS.now n.other
+  no_file = bytes_eq_false_sym name GRAMMARS.now n.not_grammars
 
   by_option : (rows : List Row) (p : Option (Text × List Text)) (x : Waiting) (o : Text × Option Text) → is_end word ≡ false → long_of word ≡ Some o
       → walk_fault (command_of os) [] (walk_at rows p x false) (word ∷ words) ≡ [] → settle_fault (known_rules os) false (walk_on os (walk_at rows p x false) (word ∷ words)).held ≡ []
@@ -230,7 +231,7 @@ module _ (os : List (Opt Text)) (fit : list_all is_fit os ≡ true) (name : Text
       let is_name : long_of word ≡ Some (name, o.1) = is ∙ ap (λ (t : Text). Some (t, o.1)) same in
       let now = word_fault os rows p x word more parts.0 in
       let long : long_fault (known_rules os) false (arg_by_long (known_rules os) name) o.1 (matches_so_far rows p) ≡ [] = rw is_name at now in
-      let fault : long_fault (known_rules os) false (Some (of_option name n.action)) o.1 (matches_so_far rows p) ≡ [] = subst (λ (r : Option Rule). long_fault (known_rules os) false r o.1 (matches_so_far rows p) ≡ []) n.long long in
+      let fault : long_fault (known_rules os) false (Some (of_option name n.action)) o.1 (matches_so_far rows p) ≡ [] = subst (λ (r : Option Rule). long_fault (known_rules os) false r o.1 (matches_so_far rows p) ≡ []) n.long_name long in
       let once = by_use (occurrences name words) (is_used os rows p name) (λ used. used_again os fit name n.action n.plain n refl word o.1 words rows p x used more is_name none ends fault) after in
       let used_here : is_use_of name word ≡ true = rw is e in
       one_here (one_if (is_used os rows p name)) (occurrences name (word ∷ words)) (one_if (is_use_of name word)) (occurrences name words) (occurrences-step name word words more) (ap one_if used_here) once

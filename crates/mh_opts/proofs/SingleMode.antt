@@ -13,7 +13,7 @@ use Rattle.mh_opts.specs.App.{plain, plain_rows}
 use Rattle.mh_opts.specs.code.AllModes.{asked_in, only_of}
 use Rattle.mh_opts.specs.Orders.{EqualsUnlessMemory, present, mode_at, mode_in, only}
 
--- The modes counted so far, with more modes.
+-- The modes found so far, after more modes are counted.
 abbrev counted : FoundModes JobKind → List JobKind → FoundModes JobKind
 counted found [] = found
 counted found (mode ∷ modes) = counted (with_one found mode) modes

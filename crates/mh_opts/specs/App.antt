@@ -1,11 +1,12 @@
--- The definition of the command line as clap sees it: the options of the code's table, and the grammar files (clap's
--- documentation of arguments). The options are this project's own.
+-- The definition of the command line as clap sees it: the options, and the grammar files (clap's documentation of
+-- arguments). The code's table of options is read as rows whose names are texts.
 use Rattle.std.specs.Prelude.{Some, List, [], ◌∷◌, codes, map, true}
 use Rattle.clap.specs.Words.{App, Rule, Text, new_app, new_rule, with_rule}
 use Rattle.clap.specs.Simple.{on_top}
 use Rattle.clap.specs.declared.builder.action.ArgAction.TheVariants.{Append}
 use Rattle.mh_opts.specs.declared.jobs.Opt.{Opt}
-use Rattle.mh_opts.specs.declared.jobs.TheConstants.{GRAMMARS, OPTIONS}
+use Rattle.mh_opts.specs.declared.jobs.TheConstants.{GRAMMARS}
+use Rattle.mh_opts.specs.Options.{options}
 
 -- An option with its name as text.
 abbrev pub plain : {N : Type 0} → Opt N → (N → Text) → Opt Text
@@ -13,9 +14,6 @@ plain option text = record { name = text option.name; action = option.action; mo
 
 abbrev pub plain_rows : {N : Type 0} → List (Opt N) → (N → Text) → List (Opt Text)
 plain_rows rows text = map (λ option. plain option text) rows
-
-unfoldable pub options : List (Opt Text)
-options = plain_rows OPTIONS (λ name. name.now)
 
 abbrev pub option_rule : Opt Text → Rule
 option_rule option = record (new_rule option.name) { long = Some option.name; action = Some option.action }

@@ -5,7 +5,6 @@ use Rattle.std.specs.Char.{is_ascii_digit}
 use Rattle.std.specs.List.{list_all}
 use Rattle.clap.specs.Walk.{is_empty}
 use Rattle.clap.specs.Words.{Text}
-use Rattle.mh_opts.specs.declared.numbers.TheConstants.{MAX_LENGTH}
 
 -- The value of a number and the digits that follow it.
 abbrev pub value_after : ℕ → Text → ℕ
@@ -29,6 +28,10 @@ abbrev pub at_most : ℕ → Option ℕ → Option ℕ
 at_most most None = None
 at_most most (Some n) = if nat_le n most then Some n else None
 
--- The length of a random sentence: one to four decimal digits, with a value of at most `MAX_LENGTH`.
+-- The most tokens that a random sentence may be asked to have.
+abbrev pub max_length : ℕ
+max_length = 1000
+
+-- The length of a random sentence: one to four decimal digits, with a value of at most `max_length`.
 abbrev pub length_in : Text → Option ℕ
-length_in text = at_most MAX_LENGTH (number_in 4 text)
+length_in text = at_most max_length (number_in 4 text)

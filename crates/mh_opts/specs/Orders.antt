@@ -1,5 +1,5 @@
--- The definition of the order that the words of the command line spell, by the code's table of options. The rules are
--- this project's own; clap's definition says which words a command accepts and how they match.
+-- The definition of the order that the words of the command line spell, by the options. The rules are this project's
+-- own; clap's definition says which words a command accepts and how they match.
 use Rattle.std.specs.Prelude.{◌≡◌, ◌≤◌, ℕ, ◌++◌, is_none, Bool, true, false, not, ◌&&◌, ◌||◌, List, [], ◌∷◌, Option, Some, None, Result, Ok, Err, codes, map, unwrap_or, if◌then◌else◌}
 use Rattle.clap.specs.Words.{Row, Text, all_of, first_of, fault_of, matches_of}
 use Rattle.clap.specs.Walk.{is_empty}
@@ -8,15 +8,15 @@ use Rattle.mh_opts.specs.declared.jobs.JobKind.{JobKind}
 use Rattle.mh_opts.specs.declared.jobs.JobKind.TheVariants as mode
 use Rattle.mh_opts.specs.declared.jobs.Need.{Need}
 use Rattle.mh_opts.specs.declared.jobs.Opt.{Opt}
-use Rattle.mh_opts.specs.declared.jobs.TheConstants.{CANONICAL, COMPARE_ERRORS, COMPARE_ERRORS_2, COMPILE_ERRORS, ECHO_ERRORS, GRAMMARS, INTERPRET, INTERPRET_SHOW_CST, LATE_NEEDS, LENGTH, MESSAGES, NEEDS, NO_STDLIB, RANDOM_SENTENCE, SAMPLE, SHOW_EXPECTED, STRICT, TABLES, UPDATE_ERRORS}
+use Rattle.mh_opts.specs.declared.jobs.TheConstants.{GRAMMARS}
 use Rattle.mh_opts.specs.declared.jobs.Job.{Job}
 use Rattle.mh_opts.specs.declared.jobs.Job.TheVariants as job
 use Rattle.mh_opts.specs.declared.order.Order.{Order}
 use Rattle.mh_opts.specs.declared.order.UsageFault.{UsageFault}
 use Rattle.mh_opts.specs.declared.order.UsageFault.TheVariants.{Parse, Number, NoMode, TwoModes, Misplaced, NoGrammar, Memory}
-use Rattle.mh_opts.specs.App.{menhir_app, options}
-use Rattle.mh_opts.specs.declared.numbers.TheConstants.{MAX_LENGTH}
-use Rattle.mh_opts.specs.Numbers.{length_in, number_in}
+use Rattle.mh_opts.specs.App.{menhir_app}
+use Rattle.mh_opts.specs.Options.{late_needs, needs, options}
+use Rattle.mh_opts.specs.Numbers.{length_in, max_length, number_in}
 use Rattle.mh_opts.specs.RepeatedOption.{is_reserved, renamed}
 
 -- The mode of an option, if the option is among the words.
@@ -45,20 +45,20 @@ file_of rows option = unwrap_or (first_of option rows) []
 
 -- The number after `--sample`, if there is one.
 abbrev pub number_of : List Row → Option ℕ
-number_of rows = number_in 4 (file_of rows SAMPLE.now)
+number_of rows = number_in 4 (file_of rows (codes "sample"))
 
 -- The seed of the random sentence.
 abbrev pub seed_of : List Row → Option ℕ
-seed_of rows = number_in 19 (file_of rows RANDOM_SENTENCE.now)
+seed_of rows = number_in 19 (file_of rows (codes "random-sentence"))
 
 -- The most tokens of the random sentence.
 abbrev pub length_of : List Row → Option ℕ
-length_of rows = length_in (file_of rows LENGTH.now)
+length_of rows = length_in (file_of rows (codes "length"))
 
 -- An option that takes a number is given without a number of its form.
 abbrev pub lacks_number : List Row → Bool
 lacks_number rows =
-    (is_given SAMPLE.now rows && is_none (number_of rows)) || ((is_given RANDOM_SENTENCE.now rows && is_none (seed_of rows)) || (is_given LENGTH.now rows && is_none (length_of rows)))
+    (is_given (codes "sample") rows && is_none (number_of rows)) || ((is_given (codes "random-sentence") rows && is_none (seed_of rows)) || (is_given (codes "length") rows && is_none (length_of rows)))
 
 -- The job of a mode, with its files or its number.
 abbrev pub job_for : List Row → JobKind → Job
@@ -68,13 +68,14 @@ job_for rows mode.ShowAutomaton = job.ShowAutomaton
 job_for rows mode.WriteTables = job.WriteTables
 job_for rows mode.ListErrors = job.ListErrors
 job_for rows mode.InterpretError = job.InterpretError
-job_for rows mode.CompileErrors = job.CompileErrors (file_of rows COMPILE_ERRORS.now)
+job_for rows mode.CompileErrors = job.CompileErrors (file_of rows (codes "compile-errors"))
 job_for rows mode.Sample = job.Sample (unwrap_or (number_of rows) 0)
 job_for rows mode.ShortestSentences = job.ShortestSentences
 job_for rows mode.RandomSentence = job.RandomSentence (unwrap_or (seed_of rows) 0) (unwrap_or (length_of rows) 0)
-job_for rows mode.UpdateErrors = job.UpdateErrors (file_of rows UPDATE_ERRORS.now)
-job_for rows mode.EchoErrors = job.EchoErrors (file_of rows ECHO_ERRORS.now)
-job_for rows mode.CompareErrors = job.CompareErrors (file_of rows COMPARE_ERRORS.now) (file_of rows COMPARE_ERRORS_2.now)
+job_for rows mode.UpdateErrors = job.UpdateErrors (file_of rows (codes "update-errors"))
+job_for rows mode.RebaseErrors = job.RebaseErrors (file_of rows (codes "rebase-errors"))
+job_for rows mode.EchoErrors = job.EchoErrors (file_of rows (codes "echo-errors"))
+job_for rows mode.CompareErrors = job.CompareErrors (file_of rows (codes "compare-errors")) (file_of rows (codes "compare-errors-2"))
 
 -- An option with its two hyphens.
 abbrev pub written : Text → Text
@@ -86,13 +87,6 @@ plain_need need text = record { option = text need.option; needs = text need.nee
 
 abbrev pub plain_needs : {N : Type 0} → List (Need N) → (N → Text) → List (Need Text)
 plain_needs rows text = map (λ need. plain_need need text) rows
-
-unfoldable pub needs : List (Need Text)
-needs = plain_needs NEEDS (λ name. name.now)
-
--- The options that need another option, checked after the options that clash with another word.
-unfoldable pub late_needs : List (Need Text)
-late_needs = plain_needs LATE_NEEDS (λ name. name.now)
 
 -- The option is given without the option that it needs.
 abbrev pub lacks : List Row → Need Text → Bool
@@ -111,13 +105,13 @@ abbrev pub order_for : List Row → JobKind → Order
 order_for rows mode = record {
   job = job_for rows mode;
   grammars = grammars_of rows;
-  canonical = is_given CANONICAL.now rows;
-  strict = is_given STRICT.now rows;
-  stdlib = not (is_given NO_STDLIB.now rows);
-  show_cst = is_given INTERPRET_SHOW_CST.now rows;
-  show_expected = is_given SHOW_EXPECTED.now rows;
-  messages = first_of MESSAGES.now rows;
-  tables = first_of TABLES.now rows;
+  canonical = is_given (codes "canonical") rows;
+  strict = is_given (codes "strict") rows;
+  stdlib = not (is_given (codes "no-stdlib") rows);
+  show_cst = is_given (codes "interpret-show-cst") rows;
+  show_expected = is_given (codes "show-expected") rows;
+  messages = first_of (codes "messages") rows;
+  tables = first_of (codes "tables") rows;
 }
 
 abbrev pub is_sample : JobKind → Bool
@@ -126,11 +120,11 @@ is_sample mode = false
 
 -- A table file has no meaning with a canonical table, because that is built, nor with a sample.
 abbrev pub clashes : List Row → JobKind → Bool
-clashes rows mode = is_given TABLES.now rows && (is_given CANONICAL.now rows || is_sample mode)
+clashes rows mode = is_given (codes "tables") rows && (is_given (codes "canonical") rows || is_sample mode)
 
 -- The option `--show-expected` has no meaning without `--interpret`, nor with `--messages`.
 abbrev pub lists_nothing : List Row → Bool
-lists_nothing rows = is_given SHOW_EXPECTED.now rows && (not (is_given INTERPRET.now rows) || is_given MESSAGES.now rows)
+lists_nothing rows = is_given (codes "show-expected") rows && (not (is_given (codes "interpret") rows) || is_given (codes "messages") rows)
 
 -- The last checks of an order: the late needs, and a grammar file for every mode but a sample.
 abbrev pub order_late : List Row → JobKind → Option Text → Result Order UsageFault
@@ -141,7 +135,7 @@ order_late rows mode None = if not (is_sample mode) && is_empty (grammars_of row
 abbrev pub order_with : List Row → JobKind → Option Text → Result Order UsageFault
 order_with rows mode (Some option) = Err (Misplaced (written option))
 order_with rows mode None =
-    if clashes rows mode then Err (Misplaced (written TABLES.now)) else (if is_sample mode && not (is_empty (grammars_of rows)) then Err (Misplaced (written SAMPLE.now)) else (if lists_nothing rows then Err (Misplaced (written SHOW_EXPECTED.now)) else order_late rows mode (misplaced_in rows late_needs)))
+    if clashes rows mode then Err (Misplaced (written (codes "tables"))) else (if is_sample mode && not (is_empty (grammars_of rows)) then Err (Misplaced (written (codes "sample"))) else (if lists_nothing rows then Err (Misplaced (written (codes "show-expected"))) else order_late rows mode (misplaced_in rows late_needs)))
 
 abbrev pub order_by : List Row → Result JobKind UsageFault → Result Order UsageFault
 order_by rows (Err fault) = Err fault
@@ -171,7 +165,7 @@ EqualsUnlessMemory wanted (Err (Misplaced option)) = wanted ≡ Err (Misplaced o
 EqualsUnlessMemory wanted (Err NoGrammar) = wanted ≡ Err NoGrammar
 EqualsUnlessMemory wanted (Ok x) = wanted ≡ Ok x
 
--- The job is within its limits: a random sentence has at most `MAX_LENGTH` tokens.
+-- The job is within its limits: a random sentence has at most `max_length` tokens.
 abbrev pub IsWithinLimits : Job → Type 0
-IsWithinLimits (job.RandomSentence seed length) = length ≤ MAX_LENGTH
+IsWithinLimits (job.RandomSentence seed length) = length ≤ max_length
 IsWithinLimits _ = Unit {0}

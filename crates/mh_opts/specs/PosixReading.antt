@@ -10,7 +10,7 @@ use Rattle.clap.specs.Walk.{Text}
 use Rattle.clap.specs.declared.builder.action.ArgAction.{ArgAction}
 use Rattle.clap.specs.declared.builder.action.ArgAction.TheVariants.{Set}
 use Rattle.mh_opts.specs.declared.jobs.Opt.{Opt}
-use Rattle.mh_opts.specs.App.{options}
+use Rattle.mh_opts.specs.Options.{options}
 use Rattle.mh_opts.specs.RepeatedOption.{is_end}
 
 abbrev pub is_set : ArgAction → Bool
@@ -50,6 +50,10 @@ before_end (word ∷ words) = if is_end word then [] else word ∷ before_end wo
 -- The word is the option of this name, alone or with `=` and a value.
 abbrev pub is_use_of : Text → Text → Bool
 is_use_of name word = option_map_or (λ o. bytes_eq o.0 name) (long_of word) false
+
+-- One of the words before the end of the options is the option.
+abbrev pub is_used_in : Text → List Text → Bool
+is_used_in name words = list_any (is_use_of name) (before_end words)
 
 -- How often the option occurs before the end of the options.
 abbrev pub occurrences : Text → List Text → ℕ

@@ -6,7 +6,6 @@ use Rattle.std.specs.Str.{bytes_eq}
 use Rattle.clap.specs.Words.{Text}
 use Rattle.mh_opts.specs.declared.repeated_option.SeenUses.{SeenUses}
 use Rattle.mh_opts.specs.declared.repeated_option.SeenUses.TheVariants.{Nothing, One, All}
-use Rattle.mh_opts.specs.declared.repeated_option.TheConstants.{AGAIN, ONCE, ONCE_WITH_VALUE}
 
 -- The word ends the options.
 abbrev pub is_end : Text → Bool
@@ -14,11 +13,11 @@ is_end word = bytes_eq word (codes "--")
 
 -- The word is the option, alone or with its value.
 abbrev pub is_use : Text → Bool
-is_use word = bytes_eq word ONCE.now || starts_with nat_eq word ONCE_WITH_VALUE.now
+is_use word = bytes_eq word (codes "--compare-errors") || starts_with nat_eq word (codes "--compare-errors=")
 
 -- The word with the other name of the option.
 abbrev pub again : Text → Text
-again word = if starts_with nat_eq word ONCE.now then AGAIN.now ++ drop (length ONCE.now) word else word
+again word = if starts_with nat_eq word (codes "--compare-errors") then (codes "--compare-errors-2") ++ drop (length (codes "--compare-errors")) word else word
 
 -- The uses of the option up to this word.
 abbrev pub seen_after : SeenUses → Text → SeenUses
@@ -41,4 +40,4 @@ renamed words = renamed_from Nothing words
 -- Some word before the end of the options begins with the other name.
 abbrev pub is_reserved : List Text → Bool
 is_reserved [] = false
-is_reserved (word ∷ words) = if is_end word then false else (if starts_with nat_eq word AGAIN.now then true else is_reserved words)
+is_reserved (word ∷ words) = if is_end word then false else (if starts_with nat_eq word (codes "--compare-errors-2") then true else is_reserved words)

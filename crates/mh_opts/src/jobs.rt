@@ -1,11 +1,9 @@
-//! The jobs of the program, and the table of the options that ask for them. Definitions read the same table as the
-//! code.
+//! The jobs of the program, and the table of the options that ask for them.
 ghost use Rattle.std.specs.Prelude.{◌≡◌, IfOk};
 ghost use Rattle.clap.specs.Words.{found_of, rows_of};
-ghost use Rattle.mh_opts.specs.App as app;
 ghost use Rattle.mh_opts.specs.App.{plain_rows};
 ghost use Rattle.mh_opts.specs.declared.jobs.JobKind.TheVariants as mode;
-ghost use Rattle.mh_opts.specs.Orders as orders;
+ghost use Rattle.mh_opts.specs.Options as table;
 ghost use Rattle.mh_opts.specs.Orders.{job_for, plain_needs};
 
 use crate::clap_result::{both, file_of, length_number, sample_number, seed_number};
@@ -38,6 +36,8 @@ pub(crate) const COMPARE_ERRORS_2: &str = "compare-errors-2";
 pub(crate) const ECHO_ERRORS: &str = "echo-errors";
 
 pub(crate) const UPDATE_ERRORS: &str = "update-errors";
+
+pub(crate) const REBASE_ERRORS: &str = "rebase-errors";
 
 pub(crate) const SAMPLE: &str = "sample";
 
@@ -72,6 +72,8 @@ pub enum Job {
     EchoErrors { file: Name },
     /// `--update-errors FILE`: a messages file with its comment lines made anew.
     UpdateErrors { file: Name },
+    /// `--rebase-errors FILE`: a messages file for another version of the grammar, rebased onto this grammar.
+    RebaseErrors { file: Name },
     /// `--sample N`: the counts of a sample, that is of a generated grammar.
     Sample { number: u32 },
     /// `--shortest-sentences`: the shortest word of each nonterminal.
@@ -93,6 +95,7 @@ pub enum JobKind {
     CompareErrors,
     EchoErrors,
     UpdateErrors,
+    RebaseErrors,
     Sample,
     ShortestSentences,
     RandomSentence,
@@ -130,6 +133,9 @@ pub(crate) fn job_of(alloc: Global, matches: &ArgMatches<'_>, mode: JobKind) -> 
         JobKind::UpdateErrors => Ok(Job::UpdateErrors {
             file: file_of(alloc, matches, UPDATE_ERRORS)?,
         }),
+        JobKind::RebaseErrors => Ok(Job::RebaseErrors {
+            file: file_of(alloc, matches, REBASE_ERRORS)?,
+        }),
         JobKind::Sample => Ok(Job::Sample {
             number: sample_number(matches),
         }),
@@ -141,8 +147,8 @@ pub(crate) fn job_of(alloc: Global, matches: &ArgMatches<'_>, mode: JobKind) -> 
     }
 }
 
-/// An option. The type of its name is a parameter, because definitions can name a constant of rows only with the type
-/// `&str` as an argument.
+/// An option. The type of its name is a parameter: it is `&str` in the table `OPTIONS` and `Text` in the definitions,
+/// which map each row of the table to a row with the text of the name.
 pub struct Opt<T> {
     /// The name, without the two hyphens.
     pub name: T,
@@ -158,7 +164,7 @@ pub struct Need<T> {
     pub needs: T,
 }
 
-const OPTIONS: [Opt<&str>; 22] = [
+const OPTIONS: [Opt<&str>; 23] = [
     Opt {
         name: INTERPRET,
         action: ArgAction::SetTrue,
@@ -213,6 +219,11 @@ const OPTIONS: [Opt<&str>; 22] = [
         name: UPDATE_ERRORS,
         action: ArgAction::Set,
         mode: Some(JobKind::UpdateErrors),
+    },
+    Opt {
+        name: REBASE_ERRORS,
+        action: ArgAction::Set,
+        mode: Some(JobKind::RebaseErrors),
     },
     Opt {
         name: SAMPLE,
@@ -301,21 +312,21 @@ const LATE_NEEDS: [Need<&str>; 2] = [
 
 /// The table of options.
 pub(crate) fn options<'a>() -> &'a [Opt<&'a str>]
-    ensures { plain_rows result.now (λ name. name.now) ≡ app.options }
+    ensures { plain_rows result.now (λ name. name.now) ≡ table.options }
 {
     OPTIONS.as_slice()
 }
 
 /// The table of needs.
 pub(crate) fn needs<'a>() -> &'a [Need<&'a str>]
-    ensures { plain_needs result.now (λ name. name.now) ≡ orders.needs }
+    ensures { plain_needs result.now (λ name. name.now) ≡ table.needs }
 {
     NEEDS.as_slice()
 }
 
 /// The table of the late needs.
 pub(crate) fn late_needs<'a>() -> &'a [Need<&'a str>]
-    ensures { plain_needs result.now (λ name. name.now) ≡ orders.late_needs }
+    ensures { plain_needs result.now (λ name. name.now) ≡ table.late_needs }
 {
     LATE_NEEDS.as_slice()
 }

@@ -1,12 +1,12 @@
 //! Reads the order that the words spell.
-ghost use Rattle.std.specs.Prelude.{◌≡◌, IfOk, Ok, not, option_map, map, string_bytes};
+ghost use Rattle.std.specs.Prelude.{◌≡◌, IfOk, Ok, not, option_map, map, string_bytes, codes};
 ghost use Rattle.clap.specs.Walk.{is_empty};
 ghost use Rattle.clap.specs.Words.{first_of, found_of, rows_of};
 ghost use Rattle.mh_opts.specs.Orders as orders;
 ghost use Rattle.mh_opts.specs.code.AllModes.{asked_in, only_of};
-ghost use Rattle.mh_opts.specs.Orders.{EqualsUnlessMemory, IsWithinLimits, grammars_of, lacks, late_needs, misplaced_in, mode_at, mode_in, needs, order_in, order_of, order_renamed, plain_need, plain_needs, written};
-ghost use Rattle.mh_opts.specs.App.{options, plain};
-ghost use Rattle.mh_opts.specs.declared.jobs.TheConstants as constants;
+ghost use Rattle.mh_opts.specs.Orders.{EqualsUnlessMemory, IsWithinLimits, grammars_of, lacks, misplaced_in, mode_at, mode_in, order_in, order_of, order_renamed, plain_need, plain_needs, written};
+ghost use Rattle.mh_opts.specs.Options.{late_needs, needs, options};
+ghost use Rattle.mh_opts.specs.App.{plain};
 
 use crate::clap_result::{both, is_given, length_of, number_of, seed_of, value_of};
 use crate::command::menhir_command;
@@ -127,7 +127,7 @@ fn files_beside(
     matches: &ArgMatches<'_>,
 ) -> Result<(Option<Name>, Option<Name>), Memory>
     ensures { IfOk result (λ files.
-        (files.0 ≡ first_of constants.MESSAGES.now (rows_of (found_of matches.now))) × (files.1 ≡ first_of constants.TABLES.now (rows_of (found_of matches.now)))) }
+        (files.0 ≡ first_of (codes "messages") (rows_of (found_of matches.now))) × (files.1 ≡ first_of (codes "tables") (rows_of (found_of matches.now)))) }
 {
     both(
         value_of(alloc, matches, MESSAGES),

@@ -13,10 +13,10 @@ std_source_left remaining s = reader_remaining remaining s.inner
 
 -- A new source: nothing was read from the reader yet, and the buffer has room.
 pub record IsFresh {R : Type 0} (s : StdSource R) (inner : R) : Type 0 where
-  pub same : reader_inner s.inner ≡ inner
+  pub inner_is : reader_inner s.inner ≡ inner
   pub unread : reader_buffer s.inner ≡ []
-  pub room : 0 < reader_capacity s.inner
-  pub calm : s.faults ≡ 0
+  pub has_capacity : 0 < reader_capacity s.inner
+  pub no_faults : s.faults ≡ 0
 
 abbrev pub sink_inner : {W : Type 0} → StdSink W → W
 sink_inner s = s.inner

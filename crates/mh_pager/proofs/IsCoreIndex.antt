@@ -22,12 +22,12 @@ use Rattle.mh_pager_steps.proofs.HaveSameCore.{core_same}
 pub joined_core : (g : PlainGrammar) (k move joined : Kernel) → IsItemList g k → IsItemList g joined → HaveSameCore (Holds k) (Holds move) → IsJoin (Holds k) (Holds move) (Holds joined) → core_of joined ≡ core_of k
 joined_core g k move joined of_k of_joined core join = sym (core_same g k joined of_k of_joined (join_extends (Holds k) (Holds move) (Holds joined) core join).0.0)
 
-pub placed_none : AreGroupsOfCores [] []
-placed_none = record { within = λ core c h. absurd (contains_none (core, c) h); one_place = λ core c d h. absurd (contains_none (core, c) h); one_core = λ left right c h. absurd (contains_none (left, c) h) }
+pub AreGroupsOfCores-none : AreGroupsOfCores [] []
+AreGroupsOfCores-none = record { within = λ core c h. absurd (contains_none (core, c) h); one_place = λ core c d h. absurd (contains_none (core, c) h); one_core = λ left right c h. absurd (contains_none (left, c) h) }
 
-pub indexed_none : IsCoreIndex [] [] []
-indexed_none = record {
-  placed = placed_none;
+pub IsCoreIndex-none : IsCoreIndex [] [] []
+IsCoreIndex-none = record {
+  placed = AreGroupsOfCores-none;
   rising = λ c group e. cc;
   within = λ c group e. cc;
   all = λ n k e. cc;
@@ -42,10 +42,10 @@ module _ (kernels : List Kernel) (places : GroupNumbers) (groups : List (List �
     within = x.within c group of;
     all = λ n k e same.
         let s = x.all n k e in
-        let one : s.core ≡ c = x.placed.one_place (core_of move) s.core c (rw same at s.at) at in
+        let one : s.group_number ≡ c = x.placed.one_place (core_of move) s.group_number c (rw same at s.at) at in
         let both : Some s.group ≡ Some group = sym s.of_core ∙ ap (slice_get groups) one ∙ of in
         let is : s.group ≡ group = cc in
-        rw is at s.has;
+        rw is at s.in_group;
     only = λ n k has e. x.placed.one_core (core_of k) (core_of move) c (x.only c n group k of has e) at;
   }
 
@@ -59,7 +59,7 @@ module _ (kernels : List Kernel) (places : GroupNumbers) (groups : List (List �
       | inl s ↦ (
           let was = x.all n k at in
           let is : core_of k ≡ core_of h = sym same ∙ ap core_of s.1 in
-          record { core = was.core; group = was.group; at = rw is at was.at; of_core = was.of_core; has = rw s.0 was.has })
+          record { group_number = was.group_number; group = was.group; at = rw is at was.at; of_core = was.of_core; in_group = rw s.0 was.in_group })
       | inr s ↦ x.all m h s.1
     ];
     only = λ c m group h of has e. elim (set_cases kernels n j m h e) [
@@ -88,19 +88,19 @@ module _ (kernels : List Kernel) (places : GroupNumbers) (groups : List (List �
     all = λ n k e. elim (get_cases kernels move n k e) [
       | inl s ↦ (
           let was = x.all n k s in
-          elim (cases_eq was.core c) [
+          elim (cases_eq was.group_number c) [
             | inl t ↦ (
                 let both : Some was.group ≡ Some group = sym was.of_core ∙ ap (slice_get groups) t ∙ of in
                 let is : was.group ≡ group = cc in
-                record { core = c; group = group ++ length kernels ∷ []; at = rw t at was.at; of_core = set_here groups c (group ++ length kernels ∷ []) (slice_get_within groups c group of); has = Contains-append_left group (length kernels ∷ []) n (rw is at was.has) })
-            | inr t ↦ record { core = was.core; group = was.group; at = was.at; of_core = set_elsewhere groups c (group ++ length kernels ∷ []) was.core t ∙ was.of_core; has = was.has }
+                record { group_number = c; group = group ++ length kernels ∷ []; at = rw t at was.at; of_core = set_here groups c (group ++ length kernels ∷ []) (slice_get_within groups c group of); in_group = Contains-append_left group (length kernels ∷ []) n (rw is at was.in_group) })
+            | inr t ↦ record { group_number = was.group_number; group = was.group; at = was.at; of_core = set_elsewhere groups c (group ++ length kernels ∷ []) was.group_number t ∙ was.of_core; in_group = was.in_group }
           ])
       | inr s ↦ record {
-        core = c;
+        group_number = c;
         group = group ++ length kernels ∷ [];
         at = rw s.1 at;
         of_core = set_here groups c (group ++ length kernels ∷ []) (slice_get_within groups c group of);
-        has = rw s.0 (Contains-append_right group (length kernels ∷ []) (length kernels) (contains_here (length kernels) []));
+        in_group = rw s.0 (Contains-append_right group (length kernels ∷ []) (length kernels) (contains_here (length kernels) []));
       }
     ];
     only = λ d n other k e has f. elim (set_cases groups c (group ++ length kernels ∷ []) d other e) [
@@ -183,14 +183,14 @@ module _ (places new : GroupNumbers) (groups : List (List ℕ)) (core : Kernel) 
 
   -- The new group is empty.
   pub group_new : HasGroupNumber new (groups ++ [] ∷ []) core (length groups)
-  group_new = record { group = []; at = Contains-permutation ((core, length groups) ∷ places) new (core, length groups) put (contains_here (core, length groups) places); of = get_last groups [] (length groups) refl }
+  group_new = record { group = []; at = Contains-permutation ((core, length groups) ∷ places) new (core, length groups) put (contains_here (core, length groups) places); group_is = get_last groups [] (length groups) refl }
 
   pub indexed_new : (kernels : List Kernel) → IsCoreIndex kernels places groups → IsCoreIndex kernels new (groups ++ [] ∷ [])
   indexed_new kernels x = record {
     placed = placed_new;
     rising = λ c group e. elim (get_cases groups [] c group e) [ inl s ↦ x.rising c group s | inr s ↦ rw s.1 tt ];
     within = λ c group e. elim (get_cases groups [] c group e) [ inl s ↦ x.within c group s | inr s ↦ rw s.1 (λ k d l. absurd (omega arith)) ];
-    all = λ n k e. let s = x.all n k e in record { core = s.core; group = s.group; at = stays (core_of k) s.core s.at; of_core = get_left groups ([] ∷ []) s.core s.group s.of_core; has = s.has };
+    all = λ n k e. let s = x.all n k e in record { group_number = s.group_number; group = s.group; at = stays (core_of k) s.group_number s.at; of_core = get_left groups ([] ∷ []) s.group_number s.group s.of_core; in_group = s.in_group };
     only = λ c n group k of has e. elim (get_cases groups [] c group of) [
       | inl s ↦ stays (core_of k) c (x.only c n group k s has e)
       | inr s ↦ absurd (contains_none n (rw s.1 at has))
@@ -199,4 +199,4 @@ module _ (places new : GroupNumbers) (groups : List (List ℕ)) (core : Kernel) 
 
 -- A core in the map has a group.
 pub group_known : (places : GroupNumbers) (groups : List (List ℕ)) (core : Kernel) (c : ℕ) → AreGroupsOfCores places groups → Contains places (core, c) → HasGroupNumber places groups core c
-group_known places groups core c placed at = let g = get_within groups c (placed.within core c at) in record { group = g.0; at = at; of = g.1 }
+group_known places groups core c placed at = let g = get_within groups c (placed.within core c at) in record { group = g.0; at = at; group_is = g.1 }

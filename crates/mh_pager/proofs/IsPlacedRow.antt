@@ -25,31 +25,31 @@ module _ (g : PlainGrammar) (closed : Items) (move : Kernel) (X : Symbol) (valid
   pub move_of_kernel : (k : Kernel) → AreSameItems (Holds closed) (Close g (Holds k)) → IsMoveOf g k X move
   move_of_kernel k is = record {
     valid = valid;
-    some = HasItem-same (Moved g (Holds closed) X) (Holds move) (AreSameItems-sym (Holds move) (Moved g (Holds closed) X) same) some;
+    has_item = HasItem-same (Moved g (Holds closed) X) (Holds move) (AreSameItems-sym (Holds move) (Moved g (Holds closed) X) same) some;
     same = AreSameItems-trans (Holds move) (Moved g (Holds closed) X) (Moved g (Close g (Holds k)) X) same (Moved-same g (Holds closed) (Close g (Holds k)) X is);
   }
 
   module _ (symbols : List Symbol) (row : List Edge) (old mid new : MergeState) (r : IsPlacedRow g closed symbols row old mid) (n : ℕ) (p : PlacesMove g move mid new n) where
     pub all_put : (k : Kernel) → AreSameItems (Holds closed) (Close g (Holds k)) → PlacesMoves g k (symbols ++ X ∷ []) (targets_of row ++ n ∷ []) old new
-    all_put k is = all_put_push g k symbols (targets_of row) old mid new X n move (r.put k is) (move_of_kernel k is) p
+    all_put k is = all_put_push g k symbols (targets_of row) old mid new X n move (r.moves_placed k is) (move_of_kernel k is) p
 
     pub IsPlacedRow-push : IsPlacedRow g closed (symbols ++ X ∷ []) (row ++ record { symbol = X; target = n } ∷ []) old new
     IsPlacedRow-push = record {
-      on = map-append (λ (e : Edge). e.symbol) row (record { symbol = X; target = n } ∷ []) ∙ ap (λ xs. xs ++ X ∷ []) r.on;
-      put = λ k is. rw (map-append (λ (e : Edge). e.target) row (record { symbol = X; target = n } ∷ [])) (all_put k is);
+      symbols_are = map-append (λ (e : Edge). e.symbol) row (record { symbol = X; target = n } ∷ []) ∙ ap (λ xs. xs ++ X ∷ []) r.symbols_are;
+      moves_placed = λ k is. rw (map-append (λ (e : Edge). e.target) row (record { symbol = X; target = n } ∷ [])) (all_put k is);
     }
 
     pub ExceedsAtPrefix-push : (rest all : List Symbol) → all ≡ (symbols ++ X ∷ []) ++ rest → (limit : ℕ) → limit < length new.kernels → ExceedsAtPrefix g closed all old limit
-    ExceedsAtPrefix-push rest all are limit over = record { front = symbols ++ X ∷ []; rest = rest; are = are; targets = targets_of row ++ n ∷ []; placed = new; put = all_put; over = over }
+    ExceedsAtPrefix-push rest all are limit over = record { prefix = symbols ++ X ∷ []; rest = rest; split = are; targets = targets_of row ++ n ∷ []; placed = new; moves_placed = all_put; exceeds = over }
 
 pub IsPlacedRow-none : (g : PlainGrammar) (closed : Items) (old : MergeState) → IsPlacedRow g closed [] [] old old
-IsPlacedRow-none g closed old = record { on = refl; put = λ k is. refl }
+IsPlacedRow-none g closed old = record { symbols_are = refl; moves_placed = λ k is. refl }
 
 -- If a symbol is after a dot, the move on it is not empty.
 pub has_move_if_after_dot : (g : PlainGrammar) (closed : Items) (X : Symbol) → IsItemList g closed → IsAfterDot g closed X → HasItem (Moved g (Holds closed) X)
 has_move_if_after_dot g closed X is b =
     let look = Holds-core_item g closed is b.production b.dot b.place in
-    record { production = b.production; dot = suc b.dot; look = look.0; holds = items.Moved.moved look.1 (drop_from-slice_get (rhs_of g b.production) b.dot X b.behind) }
+    record { production = b.production; dot = suc b.dot; look = look.0; holds = items.Moved.moved look.1 (drop_from-slice_get (rhs_of g b.production) b.dot X b.at_dot) }
 
 pub after_dot_if_has_move : (g : PlainGrammar) (closed : Items) (X : Symbol) → HasItem (Moved g (Holds closed) X) → IsAfterDot g closed X
 after_dot_if_has_move g closed X h = after_dot_of_moved g closed X h.production h.dot h.look h.holds
@@ -76,8 +76,8 @@ module _ (g : PlainGrammar) (k : Kernel) (closed : Items) (is : IsItemList g clo
       oldest = oldest;
       kernel = k;
       at = at;
-      moving = rw r.on are_move_symbols;
-      put = rw r.on (r.put k same);
+      moving = rw r.symbols_are are_move_symbols;
+      moves_placed = rw r.symbols_are (r.moves_placed k same);
       row = row;
       placed = placed;
       after = refl;
@@ -90,15 +90,15 @@ module _ (g : PlainGrammar) (k : Kernel) (closed : Items) (is : IsItemList g clo
       oldest = oldest;
       kernel = k;
       at = at;
-      symbols = o.front;
+      symbols = o.prefix;
       rest = o.rest;
-      moving = rw (← o.are) are_move_symbols;
+      moving = rw (← o.split) are_move_symbols;
       targets = o.targets;
       placed = o.placed;
-      put = o.put k same;
-      over = o.over;
+      moves_placed = o.moves_placed k same;
+      exceeds = o.exceeds;
     }
 
 -- Placing the moves of a row keeps the precondition.
 pub row_ready : (g : PlainGrammar) (k : Kernel) (closed : Items) → AreSameItems (Holds closed) (Close g (Holds k)) → (symbols : List Symbol) (row : List Edge) (old new : MergeState) → IsPlacedRow g closed symbols row old new → IsWellFormed g old → IsWellFormed g new
-row_ready g k closed same symbols row old new r ready = all_put_well_formed g k symbols (targets_of row) old new (r.put k same) ready
+row_ready g k closed same symbols row old new r ready = all_put_well_formed g k symbols (targets_of row) old new (r.moves_placed k same) ready

@@ -10,7 +10,7 @@ use Rattle.mh_grammar.specs.Plain.{PlainGrammar, IsInRange}
 use Rattle.mh_grammar.proofs.Lists.{get_left, get_last, at_contains}
 use Rattle.mh_items_kernels.specs.KernelTypes.{Kernel}
 use Rattle.mh_items_kernels.specs.Automaton.{start_kernel}
-use Rattle.mh_canon_states.specs.declared.limits.TheConstants.{MAX_STATES}
+use Rattle.mh_canon_states.specs.Limits.{max_states}
 use Rattle.mh_pager_steps.specs.code.ReachedByMerging.{IsWellFormed, IsReachedByMerging, IsInitialUpTo}
 use Rattle.mh_pager_steps.specs.MergeSteps.{MergeState, IsMergeStep, MergeSteps, none, more, IsInitial, StepExceeds, MergingExceeds, start_numbers}
 use Rattle.mh_pager.proofs.IsWellFormed.{step_well_formed}
@@ -23,9 +23,9 @@ pub is_initial : (g : PlainGrammar) (w : MergeState) → IsInitialUpTo (length g
 is_initial g w b = record { kernels = b.kernels; rows = b.rows; queue = b.queue }
 
 pub IsReachedByMerging-start : (g : PlainGrammar) (w : MergeState) → IsInitialUpTo (length g.starts) w → IsReachedByMerging g w
-IsReachedByMerging-start g w b = record { first = w; begun = is_initial g w b; steps = none }
+IsReachedByMerging-start g w b = record { first = w; is_initial = is_initial g w b; steps = none }
 
-pub few_starts : (g : PlainGrammar) (w : MergeState) → IsInRange g → IsInitialUpTo (length g.starts) w → length w.kernels ≤ MAX_STATES
+pub few_starts : (g : PlainGrammar) (w : MergeState) → IsInRange g → IsInitialUpTo (length g.starts) w → length w.kernels ≤ max_states
 few_starts g w r b = let few = r.few_starts in let len = b.kernels.len in omega arith
 
 begun_ready : (g : PlainGrammar) (w : MergeState) → IsInitial g w → IsWellFormed g w
@@ -51,7 +51,7 @@ steps_ready g first last b none = begun_ready g first b
 steps_ready g first last b (more {old} s step) = step_well_formed g old last step (steps_ready g first old b s)
 
 pub is_well_formed : (g : PlainGrammar) (w : MergeState) → IsReachedByMerging g w → IsWellFormed g w
-is_well_formed g w l = steps_ready g l.first w l.begun l.steps
+is_well_formed g w l = steps_ready g l.first w l.is_initial l.steps
 
 abbrev with_queue : MergeState → List ℕ → MergeState
 with_queue w queue = record { kernels = w.kernels; rows = w.rows; queue = queue }
@@ -61,13 +61,13 @@ module _ (g : PlainGrammar) (old : MergeState) where
     pub IsReachedByMerging-step : IsReachedByMerging g old → IsMergeStep g (with_queue old (state ∷ rest)) new → IsReachedByMerging g new
     IsReachedByMerging-step l s =
         let step : IsMergeStep g old new = subst (λ (q : List ℕ). IsMergeStep g (with_queue old q) new) (sym e) s in
-        record { first = l.first; begun = l.begun; steps = more l.steps step }
+        record { first = l.first; is_initial = l.is_initial; steps = more l.steps step }
 
   pub next_well_formed : (state : ℕ) (rest : List ℕ) (e : old.queue ≡ state ∷ rest) → IsReachedByMerging g old → IsWellFormed g (with_queue old (state ∷ rest))
   next_well_formed state rest e l = subst (λ (q : List ℕ). IsWellFormed g (with_queue old q)) e (is_well_formed g old l)
 
   pub merging_exceeds : (limit state : ℕ) (rest : List ℕ) (e : old.queue ≡ state ∷ rest) → IsReachedByMerging g old → StepExceeds g limit (with_queue old (state ∷ rest)) → MergingExceeds g limit
-  merging_exceeds limit state rest e l o = record { first = l.first; old = old; begun = l.begun; steps = l.steps; overruns = subst (λ (q : List ℕ). StepExceeds g limit (with_queue old q)) (sym e) o }
+  merging_exceeds limit state rest e l o = record { first = l.first; last = old; is_initial = l.is_initial; steps = l.steps; step_exceeds = subst (λ (q : List ℕ). StepExceeds g limit (with_queue old q)) (sym e) o }
 
 pub step_lowers_weight : (g : PlainGrammar) (limit : ℕ) (old new : MergeState) (state : ℕ) (rest : List ℕ) → old.queue ≡ state ∷ rest → IsMergeStep g (with_queue old (state ∷ rest)) new → length new.kernels ≤ limit → weight g limit new < weight g limit old
 step_lowers_weight g limit old new state rest e s few = subst (λ (q : List ℕ). weight g limit new < weight g limit (with_queue old q)) (sym e) (step_weight g limit (with_queue old (state ∷ rest)) new s few)

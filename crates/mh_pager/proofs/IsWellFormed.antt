@@ -63,6 +63,6 @@ rest_well_formed g kernels rows n queue r = record { valid = r.valid; len = r.le
 pub step_well_formed : (g : PlainGrammar) (old new : MergeState) → IsMergeStep g old new → IsWellFormed g old → IsWellFormed g new
 step_well_formed g old new s ready =
     let oldest : IsWellFormed g (record { kernels = old.kernels; rows = old.rows; queue = s.state ∷ s.waiting }) = record { valid = ready.valid; len = ready.len; queued = λ n c. ready.queued n (rw s.oldest c) } in
-    let placed = all_put_well_formed g s.kernel (edge_symbols s.row) (targets_of s.row) (record { kernels = old.kernels; rows = old.rows; queue = s.waiting }) s.placed s.put (rest_well_formed g old.kernels old.rows s.state s.waiting oldest) in
+    let placed = all_put_well_formed g s.kernel (edge_symbols s.row) (targets_of s.row) (record { kernels = old.kernels; rows = old.rows; queue = s.waiting }) s.placed s.moves_placed (rest_well_formed g old.kernels old.rows s.state s.waiting oldest) in
     let after : IsWellFormed g (record { kernels = s.placed.kernels; rows = set s.placed.rows s.state s.row; queue = s.placed.queue }) = record { valid = placed.valid; len = length-set s.placed.rows s.state s.row ∙ placed.len; queued = placed.queued } in
     rw s.after after

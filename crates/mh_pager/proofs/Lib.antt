@@ -9,3 +9,6 @@ pub mod SumBelow
 pub mod PlacesAllMoves
 pub mod TerminationMeasure
 pub mod IsReachedByMerging
+pub mod PlacedOnce
+pub mod SomeRenumbering
+pub mod SomeMerged

@@ -22,16 +22,16 @@ placed_by_joining g move old new n unkept k first t =
     let one : Some t.kernel ≡ Some k = sym t.at ∙ first.at in
     let same : t.kernel ≡ k = cc in
     let join : IsJoin (Holds k) (Holds move) (Holds t.joined) = rw same at t.join in
-    inr (inl (record { kernel = k; joined = t.joined; unkept = unkept; first = first; valid = t.valid; join = join; kernels = t.kernels; rows = t.rows; queue = t.queue }))
+    inr (inl (record { kernel = k; joined = t.joined; none_contains = unkept; first = first; valid = t.valid; join = join; kernels = t.kernels; rows = t.rows; queue = t.queue }))
 
 pub placed_by_appending : (g : PlainGrammar) (move : Kernel) (old new : MergeState) (n : ℕ) → HasNoneWith (ContainsMove move) old.kernels → HasNoneWith (IsCompatibleWithMove move) old.kernels → AppendsMove move old new n → PlacesMove g move old new n
-placed_by_appending g move old new n unkept untaken a = inr (inr (record { unkept = unkept; untaken = untaken; last = a.last; kernels = a.kernels; rows = a.rows; queue = a.queue }))
+placed_by_appending g move old new n unkept untaken a = inr (inr (record { none_contains = unkept; none_compatible = untaken; last = a.last; kernels = a.kernels; rows = a.rows; queue = a.queue }))
 
 -- The new state exceeds the limit.
 pub placing_exceeds : (g : PlainGrammar) (move : Kernel) (old : MergeState) (limit : ℕ) → HasNoneWith (ContainsMove move) old.kernels → HasNoneWith (IsCompatibleWithMove move) old.kernels → length old.kernels ≡ limit → (n : ℕ) × (new : MergeState) × PlacesMove g move old new n × (limit < length new.kernels)
 placing_exceeds g move old limit unkept untaken e = (
   length old.kernels,
   record { kernels = old.kernels ++ move ∷ []; rows = old.rows ++ [] ∷ []; queue = old.queue ++ length old.kernels ∷ [] },
-  inr (inr (record { unkept = unkept; untaken = untaken; last = refl; kernels = refl; rows = refl; queue = refl })),
+  inr (inr (record { none_contains = unkept; none_compatible = untaken; last = refl; kernels = refl; rows = refl; queue = refl })),
   omega (arith, length_push old.kernels move),
 )

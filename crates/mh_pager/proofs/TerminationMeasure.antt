@@ -42,7 +42,7 @@ joined_more g move old new n j = elim (cases_lt (size g j.kernel) (size g j.join
   | inl l ↦ l
   | inr l ↦ absurd (
       let covers = size_covers g j.joined j.kernel j.valid (λ p d a h. (j.join p d a).1 (inl h)) l in
-      j.unkept n j.kernel j.first.at (j.first.has.0, λ p d a h. covers p d a ((j.join p d a).1 (inr h))))
+      j.none_contains n j.kernel j.first.at (j.first.holds.0, λ p d a h. covers p d a ((j.join p d a).1 (inr h))))
 ]
 
 module _ (g : PlainGrammar) (limit : ℕ) where
@@ -90,7 +90,7 @@ module _ (g : PlainGrammar) (limit : ℕ) where
   pub step_weight : (old new : MergeState) → IsMergeStep g old new → length new.kernels ≤ limit → weight g limit new < weight g limit old
   step_weight old new s few =
       let placed : length s.placed.kernels ≤ limit = rw s.after at few in
-      let put = all_put_weight s.kernel (edge_symbols s.row) (targets_of s.row) (record { kernels = old.kernels; rows = old.rows; queue = s.waiting }) s.placed s.put placed in
+      let put = all_put_weight s.kernel (edge_symbols s.row) (targets_of s.row) (record { kernels = old.kernels; rows = old.rows; queue = s.waiting }) s.placed s.moves_placed placed in
       let taken = weight_taken old.kernels old.rows old.rows s.state s.waiting in
       let now : weight g limit new ≡ weight g limit s.placed = ap (weight g limit) s.after ∙ weight_rows s.placed.kernels (set s.placed.rows s.state s.row) s.placed.rows s.placed.queue in
       let before : weight g limit old ≡ weight g limit (record { kernels = old.kernels; rows = old.rows; queue = s.state ∷ s.waiting }) = ap (λ (q : List ℕ). weight g limit (record { kernels = old.kernels; rows = old.rows; queue = q })) s.oldest in

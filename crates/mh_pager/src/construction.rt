@@ -6,10 +6,10 @@ ghost use Rattle.mh_items.specs.code.MoveBuilder.{IsMoveBuilder};
 ghost use Rattle.mh_pager.specs.code.Worklist.{merge_state_of, IsConsistentWorklist};
 ghost use Rattle.mh_pager_steps.specs.code.ReachedByMerging.{IsReachedByMerging, IsInitialUpTo};
 ghost use Rattle.mh_pager_steps.specs.MergeSteps.{MergingExceeds};
+ghost use Rattle.mh_canon_states.specs.Limits.{max_states};
 
 use crate::stepping::step;
 use crate::worklist::Worklist;
-use mh_canon_states::MAX_STATES;
 use mh_grammar::{Grammar, Memory};
 use mh_items::MoveBuilder;
 use mh_items_kernels::{StatesFault, start_kernel};
@@ -26,8 +26,8 @@ pub(crate) fn list_all<const W: usize>(
     requires kept { IsConsistentWorklist worklist.old }
     ensures ok { OnOk result (IsReachedByMerging (plain_of grammar.now) (merge_state_of worklist.new)) }
     ensures done { OnOk result (worklist.new.queue.states.items ≡ []) }
-    ensures few { OnOk result (length worklist.new.kernels.items ≤ MAX_STATES) }
-    ensures over { result ≡ Err StatesFault.TooManyStates → MergingExceeds (plain_of grammar.now) MAX_STATES }
+    ensures few { OnOk result (length worklist.new.kernels.items ≤ max_states) }
+    ensures exceeds { result ≡ Err StatesFault.TooManyStates → MergingExceeds (plain_of grammar.now) max_states }
 {
     begin(alloc, grammar, worklist)?;
     let mut mover = MoveBuilder::new(alloc, grammar)?;
@@ -47,8 +47,8 @@ fn step_all<const W: usize>(
     requires kept { IsConsistentWorklist worklist.old }
     ensures ok { OnOk result (IsReachedByMerging (plain_of grammar.now) (merge_state_of worklist.new)) }
     ensures done { OnOk result (worklist.new.queue.states.items ≡ []) }
-    ensures few { OnOk result (length worklist.new.kernels.items ≤ MAX_STATES) }
-    ensures over { result ≡ Err StatesFault.TooManyStates → MergingExceeds (plain_of grammar.now) MAX_STATES }
+    ensures few { OnOk result (length worklist.new.kernels.items ≤ max_states) }
+    ensures exceeds { result ≡ Err StatesFault.TooManyStates → MergingExceeds (plain_of grammar.now) max_states }
 {
     'steps: while let Some(state) = worklist.queue.take_oldest() {
         match step(alloc, grammar, mover, worklist, state) {

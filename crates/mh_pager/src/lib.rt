@@ -4,6 +4,7 @@
 
 mod construction;
 mod index;
+mod laws;
 mod merging;
 mod numbering;
 mod starts;
@@ -11,5 +12,6 @@ mod stepping;
 mod unions;
 mod worklist;
 
+pub use laws::some_merged;
 pub use merging::merged;
 pub use mh_pager_steps::{covers_canonical_paths, is_one_merged, weakly_compatible};

@@ -10,12 +10,12 @@ ghost use Rattle.mh_pager.specs.code.Worklist.{merge_state_of, IsConsistentWorkl
 ghost use Rattle.mh_pager_steps.specs.code.ReachedByMerging.{IsReachedByMerging};
 ghost use Rattle.mh_pager_steps.specs.MergeSteps.{IsMerged, MergingExceeds};
 ghost use Rattle.mh_items.specs.Fitting.{FitsSets};
+ghost use Rattle.mh_canon_states.specs.Limits.{max_states};
 
 use crate::construction::list_all;
 use crate::numbering::{pick, reach};
 use crate::starts::kept_first;
 use crate::worklist::Worklist;
-use mh_canon_states::MAX_STATES;
 use mh_grammar::{Grammar, Memory, Sequence};
 use mh_items_kernels::{Automaton, StatesFault};
 use std::alloc::Global;
@@ -26,9 +26,9 @@ use std::alloc::Global;
 pub fn merged<const W: usize>(alloc: Global, grammar: &Grammar) -> Result<Automaton<W>, StatesFault>
     requires fits { FitsSets W grammar.now }
     ensures ok { IfOk result (IsMerged (plain_of grammar.now)) }
-    ensures few { IfOk result (λ a. length a.kernels ≤ MAX_STATES) }
-    ensures exact { IfOk result (λ _. MergingExceeds (plain_of grammar.now) MAX_STATES → ⊥) }
-    ensures over { result ≡ Err StatesFault.TooManyStates → MergingExceeds (plain_of grammar.now) MAX_STATES }
+    ensures few { IfOk result (λ a. length a.kernels ≤ max_states) }
+    ensures exact { IfOk result (λ _. MergingExceeds (plain_of grammar.now) max_states → ⊥) }
+    ensures exceeds { result ≡ Err StatesFault.TooManyStates → MergingExceeds (plain_of grammar.now) max_states }
     ensures automaton { IfOk result (IsAutomaton (plain_of grammar.now)) }
     // Each path of the canonical automaton is a path of this automaton, to a state that contains its looks.
     ensures paths { IfOk result (CoversPaths (plain_of grammar.now)) }
@@ -50,9 +50,9 @@ fn merged_over<const W: usize>(
     requires empty { merge_state_of worklist.old ≡ record { kernels = []; rows = []; queue = [] } }
     requires kept { IsConsistentWorklist worklist.old }
     ensures ok { IfOk result (IsMerged (plain_of grammar.now)) }
-    ensures few { IfOk result (λ a. length a.kernels ≤ MAX_STATES) }
-    ensures exact { IfOk result (λ _. MergingExceeds (plain_of grammar.now) MAX_STATES → ⊥) }
-    ensures over { result ≡ Err StatesFault.TooManyStates → MergingExceeds (plain_of grammar.now) MAX_STATES }
+    ensures few { IfOk result (λ a. length a.kernels ≤ max_states) }
+    ensures exact { IfOk result (λ _. MergingExceeds (plain_of grammar.now) max_states → ⊥) }
+    ensures exceeds { result ≡ Err StatesFault.TooManyStates → MergingExceeds (plain_of grammar.now) max_states }
 {
     match list_all(alloc, grammar, worklist) {
         Ok(()) => Ok(numbered(alloc, grammar, worklist)?),
@@ -69,9 +69,9 @@ fn numbered<const W: usize>(
     requires fits { FitsSets W grammar.now }
     requires list { IsReachedByMerging (plain_of grammar.now) (merge_state_of worklist.now) }
     requires done { worklist.now.queue.states.items ≡ [] }
-    requires few { length worklist.now.kernels.items ≤ MAX_STATES }
+    requires few { length worklist.now.kernels.items ≤ max_states }
     ensures ok { IfOk result (IsMerged (plain_of grammar.now)) }
-    ensures few { IfOk result (λ a. length a.kernels ≤ MAX_STATES) }
+    ensures few { IfOk result (λ a. length a.kernels ≤ max_states) }
 {
     let mut automaton = Automaton {
         kernels: Sequence::new(alloc),
@@ -91,11 +91,11 @@ fn fill<const W: usize>(
     requires fits { FitsSets W grammar.now }
     requires list { IsReachedByMerging (plain_of grammar.now) (merge_state_of worklist.now) }
     requires done { worklist.now.queue.states.items ≡ [] }
-    requires few { length worklist.now.kernels.items ≤ MAX_STATES }
+    requires few { length worklist.now.kernels.items ≤ max_states }
     requires no_kernels { automaton.old.kernels ≡ [] }
     requires no_edges { automaton.old.edges ≡ [] }
     ensures ok { OnOk result (IsMerged (plain_of grammar.now) automaton.new) }
-    ensures few { OnOk result (length automaton.new.kernels ≤ MAX_STATES) }
+    ensures few { OnOk result (length automaton.new.kernels ≤ max_states) }
 {
     let starts = grammar.starts.len();
     let rows = worklist.rows.as_slice();

@@ -3,11 +3,11 @@ ghost use Rattle.std.specs.Prelude.{◌≡◌, ◌<◌, ◌≤◌, [], ℕ, Some
 ghost use Rattle.std.specs.List.{All, AllZip, range_with_len};
 ghost use Rattle.mh_pager_steps.specs.code.Renumbering.{AreWithinLimit, IsRenumbered, AreReachedStates, AreTargetsInRange};
 ghost use Rattle.mh_pager_steps.specs.MergeSteps.{start_numbers};
+ghost use Rattle.mh_canon_states.specs.Limits.{max_states};
 
 use crate::starts::place_state;
 use crate::unions::copied;
 use indexmap::IndexSet;
-use mh_canon_states::MAX_STATES;
 use mh_grammar::{Edge, Memory, Sequence};
 use mh_items_kernels::Kernel;
 use std::alloc::Global;
@@ -22,7 +22,7 @@ pub(crate) fn reach(
     edges: &mut Sequence<Sequence<Edge>>,
 ) -> Result<(), Memory>
     requires starts { starts ≤ length rows.now }
-    requires few { length rows.now ≤ MAX_STATES }
+    requires few { length rows.now ≤ max_states }
     requires closed { AreTargetsInRange rows.now }
     requires first { states.old.keys ≡ range_with_len 0 starts }
     requires none { edges.old ≡ [] }

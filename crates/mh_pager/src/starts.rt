@@ -2,15 +2,15 @@
 ghost use Rattle.std.specs.Prelude.{◌≡◌, ◌≤◌, IfOk};
 ghost use Rattle.std.specs.List.{range_with_len};
 ghost use Rattle.mh_grammar.specs.Placed.{Placed};
+ghost use Rattle.mh_canon_states.specs.Limits.{max_states};
 
 use indexmap::IndexSet;
-use mh_canon_states::MAX_STATES;
 use mh_grammar::Memory;
 use std::alloc::{AllocFailed, Global};
 
 /// The numbers of the start states.
 pub(crate) fn kept_first(alloc: Global, starts: usize) -> Result<IndexSet<u32>, Memory>
-    requires { starts ≤ MAX_STATES }
+    requires { starts ≤ max_states }
     ensures { IfOk result (λ s. s.keys ≡ range_with_len 0 starts) }
 {
     let mut states = IndexSet::new(alloc);

@@ -10,9 +10,9 @@ ghost use Rattle.mh_pager.specs.code.MergeStep.{with_oldest, PlacesAllMoves, Exc
 ghost use Rattle.mh_pager.specs.code.Worklist.{merge_state_of, IsConsistentWorklist};
 ghost use Rattle.mh_pager_steps.specs.code.ReachedByMerging.{IsWellFormed};
 ghost use Rattle.mh_pager_steps.specs.MergeSteps.{IsMergeStep, StepExceeds};
+ghost use Rattle.mh_canon_states.specs.Limits.{max_states};
 
 use crate::worklist::Worklist;
-use mh_canon_states::MAX_STATES;
 use mh_grammar::{Edge, Grammar, Sequence};
 use mh_items::{Move, MoveBuilder};
 use mh_items_kernels::StatesFault;
@@ -29,13 +29,13 @@ pub(crate) fn step<const W: usize>(
     requires fits { FitsSets W grammar.now }
     requires mover { IsMoveBuilder (plain_of grammar.now) mover.old }
     requires ready { IsWellFormed (plain_of grammar.now) (with_oldest worklist.old state) }
-    requires few { length worklist.old.kernels.items ≤ MAX_STATES }
+    requires few { length worklist.old.kernels.items ≤ max_states }
     requires kept { IsConsistentWorklist worklist.old }
     ensures ok { OnOk result (IsMergeStep (plain_of grammar.now) (with_oldest worklist.old state) (merge_state_of worklist.new)) }
     ensures mover { OnOk result (IsMoveBuilder (plain_of grammar.now) mover.new) }
-    ensures few { OnOk result (length worklist.new.kernels.items ≤ MAX_STATES) }
+    ensures few { OnOk result (length worklist.new.kernels.items ≤ max_states) }
     ensures kept { OnOk result (IsConsistentWorklist worklist.new) }
-    ensures over { result ≡ Err StatesFault.TooManyStates → StepExceeds (plain_of grammar.now) MAX_STATES (with_oldest worklist.old state) }
+    ensures exceeds { result ≡ Err StatesFault.TooManyStates → StepExceeds (plain_of grammar.now) max_states (with_oldest worklist.old state) }
 {
     let moves = mover.moves(alloc, grammar, &worklist.kernels[state as usize])?;
     match put_all(alloc, grammar, moves, worklist) {
@@ -57,12 +57,12 @@ fn put_all<const W: usize>(
     requires fits { FitsSets W grammar.now }
     requires moves { (closed : KernelOf) × IsItemList (plain_of grammar.now) closed × AreMoves (plain_of grammar.now) closed moves.items }
     requires ready { IsWellFormed (plain_of grammar.now) (merge_state_of worklist.old) }
-    requires few { length worklist.old.kernels.items ≤ MAX_STATES }
+    requires few { length worklist.old.kernels.items ≤ max_states }
     requires kept { IsConsistentWorklist worklist.old }
     ensures ok { IfOk result (λ row. PlacesAllMoves (plain_of grammar.now) moves.entry.items (merge_state_of worklist.old) (merge_state_of worklist.new) row) }
-    ensures few { OnOk result (length worklist.new.kernels.items ≤ MAX_STATES) }
+    ensures few { OnOk result (length worklist.new.kernels.items ≤ max_states) }
     ensures kept { OnOk result (IsConsistentWorklist worklist.new) }
-    ensures over { result ≡ Err StatesFault.TooManyStates → ExceedsForMoves (plain_of grammar.now) moves.entry.items (merge_state_of worklist.old) MAX_STATES }
+    ensures exceeds { result ≡ Err StatesFault.TooManyStates → ExceedsForMoves (plain_of grammar.now) moves.entry.items (merge_state_of worklist.old) max_states }
 {
     let mut row = Vec::with_capacity(alloc, moves.len())?;
     for found in moves {

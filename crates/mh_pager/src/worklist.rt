@@ -9,10 +9,11 @@ ghost use Rattle.mh_pager_steps.specs.FirstState.{IsFirst, HasNoneWith};
 ghost use Rattle.mh_pager_steps.specs.code.ReachedByMerging.{IsWellFormed};
 ghost use Rattle.mh_pager_steps.specs.MergeSteps.{MergeState, ContainsMove, PlacesMove};
 ghost use Rattle.mh_items.specs.Fitting.{FitsSets};
+ghost use Rattle.mh_canon_states.specs.Limits.{max_states};
 
 use crate::index::CoreIndex;
 use crate::unions::joined;
-use mh_canon_states::{MAX_STATES, number};
+use mh_canon_states::number;
 use mh_grammar::{Edge, Grammar, Memory, Sequence};
 use mh_items_kernels::{Kernel, StatesFault};
 use mh_pager_steps::{Queue, StateTest, first_fitting};
@@ -58,12 +59,12 @@ impl<const W: usize> Worklist<W> {
         requires fits { FitsSets W grammar.now }
         requires kernel { IsItemList (plain_of grammar.now) kernel }
         requires ready { IsWellFormed (plain_of grammar.now) (merge_state_of self.old) }
-        requires few { length self.old.kernels.items ≤ MAX_STATES }
+        requires few { length self.old.kernels.items ≤ max_states }
         requires kept { IsConsistentWorklist self.old }
         ensures ok { IfOk result (λ n. PlacesMove (plain_of grammar.now) kernel.entry (merge_state_of self.old) (merge_state_of self.new) n) }
-        ensures few { OnOk result (length self.new.kernels.items ≤ MAX_STATES) }
+        ensures few { OnOk result (length self.new.kernels.items ≤ max_states) }
         ensures kept { OnOk result (IsConsistentWorklist self.new) }
-        ensures over { result ≡ Err StatesFault.TooManyStates → (n : ℕ) × (new : MergeState) × PlacesMove (plain_of grammar.now) kernel.entry (merge_state_of self.old) new n × (MAX_STATES < length new.kernels) }
+        ensures exceeds { result ≡ Err StatesFault.TooManyStates → (n : ℕ) × (new : MergeState) × PlacesMove (plain_of grammar.now) kernel.entry (merge_state_of self.old) new n × (max_states < length new.kernels) }
     {
         let core = self.index.place(alloc, &kernel)?;
         match self.fitting(grammar, core, &kernel, StateTest::Covering) {
@@ -83,14 +84,14 @@ impl<const W: usize> Worklist<W> {
         requires fits { FitsSets W grammar.now }
         requires kernel { IsItemList (plain_of grammar.now) kernel }
         requires ready { IsWellFormed (plain_of grammar.now) (merge_state_of self.old) }
-        requires few { length self.old.kernels.items ≤ MAX_STATES }
+        requires few { length self.old.kernels.items ≤ max_states }
         requires kept { IsConsistentWorklist self.old }
         requires group { HasGroupNumberIn self.old kernel core }
         requires unkept { HasNoneWith (ContainsMove kernel) self.old.kernels.items }
         ensures ok { IfOk result (λ n. PlacesMove (plain_of grammar.now) kernel.entry (merge_state_of self.old) (merge_state_of self.new) n) }
-        ensures few { OnOk result (length self.new.kernels.items ≤ MAX_STATES) }
+        ensures few { OnOk result (length self.new.kernels.items ≤ max_states) }
         ensures kept { OnOk result (IsConsistentWorklist self.new) }
-        ensures over { result ≡ Err StatesFault.TooManyStates → (n : ℕ) × (new : MergeState) × PlacesMove (plain_of grammar.now) kernel.entry (merge_state_of self.old) new n × (MAX_STATES < length new.kernels) }
+        ensures exceeds { result ≡ Err StatesFault.TooManyStates → (n : ℕ) × (new : MergeState) × PlacesMove (plain_of grammar.now) kernel.entry (merge_state_of self.old) new n × (max_states < length new.kernels) }
     {
         match self.fitting(grammar, core, &kernel, StateTest::Compatible) {
             Some(n) => {
@@ -151,13 +152,13 @@ impl<const W: usize> Worklist<W> {
     /// Appends a move as a new state, and queues it.
     fn append(&mut self, alloc: Global, core: usize, kernel: Kernel<W>) -> Result<u32, StatesFault>
         requires small { W ≤ 8 }
-        requires few { length self.old.kernels.items ≤ MAX_STATES }
+        requires few { length self.old.kernels.items ≤ max_states }
         requires kept { IsConsistentWorklist self.old }
         requires group { HasGroupNumberIn self.old kernel core }
         ensures ok { IfOk result (λ n. AppendsMove kernel.entry (merge_state_of self.old) (merge_state_of self.new) n) }
-        ensures few { OnOk result (length self.new.kernels.items ≤ MAX_STATES) }
+        ensures few { OnOk result (length self.new.kernels.items ≤ max_states) }
         ensures kept { OnOk result (IsConsistentWorklist self.new) }
-        ensures over { result ≡ Err StatesFault.TooManyStates → length self.old.kernels.items ≡ MAX_STATES }
+        ensures exceeds { result ≡ Err StatesFault.TooManyStates → length self.old.kernels.items ≡ max_states }
     {
         match number(self.kernels.len()) {
             Ok(n) => {

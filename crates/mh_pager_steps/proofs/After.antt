@@ -23,7 +23,7 @@ after_move g I X (Y ∷ path) = ap (λ (J : ItemSet). Moved g (Close g J) Y) (af
 
 module _ (g : PlainGrammar) (I J : ItemSet) (covers : Covers I J) where
   more_shifts : (z : ℕ) → ShiftsOn g J z → ShiftsOn g I z
-  more_shifts z s = record { production = s.production; dot = s.dot; look = s.look; rest = s.rest; item = Close-monotone g J I covers s.production s.dot s.look s.item; behind = s.behind }
+  more_shifts z s = record { production = s.production; dot = s.dot; look = s.look; rest = s.rest; item = Close-monotone g J I covers s.production s.dot s.look s.item; token_next = s.token_next }
 
   -- A larger item set has each conflict of a smaller one.
   pub more_conflicts : HasConflict g J → HasConflict g I

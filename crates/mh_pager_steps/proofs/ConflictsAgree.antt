@@ -1,4 +1,4 @@
--- Proves that the merged automaton has a conflict exactly if the canonical automaton has one.
+-- Proves that the merged automaton, and the canonical one, has a conflict exactly if a path reaches one.
 use Rattle.std.proofs.Common.{◌↔◌, ◌^◌, ◌<◌, ℕ, List, [], length, sym, subst, inl, inr}
 use Rattle.mh_grammar.specs.declared.types.Symbol.{Symbol}
 use Rattle.mh_grammar.specs.Plain.{PlainGrammar}
@@ -10,6 +10,7 @@ use Rattle.mh_canon_states.specs.Canonical.{IsCanonical}
 use Rattle.mh_canon_states.proofs.ItemSets.{HasItem-close}
 use Rattle.mh_items_kernels.specs.Conflicts.{HasConflict, shift_reduce, reduce_reduce, shift, reduce, HasAnyConflict, AutomatonHasConflict, AutomatonHasAnyConflict}
 use Rattle.mh_pager_steps.specs.MergeSteps.{IsMerged}
+use Rattle.mh_pager_steps.specs.ReachedConflicts.{ReachesConflict, ReachesAnyConflict}
 use Rattle.mh_pager_steps.specs.CoversPaths.{CoversPaths}
 use Rattle.mh_pager_steps.proofs.CoversPaths.{covers_paths}
 use Rattle.mh_pager_steps.proofs.MergedIsAutomaton.{old_number, IsAutomaton-merged}
@@ -54,14 +55,33 @@ module _ (g : PlainGrammar) (Bad : ItemSet → Type 0) (t : IsConflictKind g Bad
   merged_reached : (a : Automaton) → IsMerged g a → IsBad a → IsReached
   merged_reached a m b =
       let n = old_number g a m b.0 b.1 in
-      start_reached (bad_from_start_only g Bad t m.first m.last m.begun m.steps n.0 (kernel_at a b.0) n.1.kernel ([], b.2))
+      start_reached (bad_from_start_only g Bad t m.first m.last m.is_initial m.steps n.0 (kernel_at a b.0) n.1.kernel ([], b.2))
 
-  pub agree : (a c : Automaton) → IsMerged g a → CoversPaths g a → IsCanonical g c → IsBad a ↔ IsBad c
-  agree a c m covers is = ((λ b. reached_canonical c is (merged_reached a m b)), (λ b. reached_bad a covers (canonical_reached c is b)))
+  pub merged_agrees : (a : Automaton) → IsMerged g a → CoversPaths g a → IsBad a ↔ IsReached
+  merged_agrees a m covers = (merged_reached a m, reached_bad a covers)
+
+  pub canonical_agrees : (c : Automaton) → IsCanonical g c → IsBad c ↔ IsReached
+  canonical_agrees c is = (canonical_reached c is, reached_canonical c is)
+
+-- The merged automaton has a conflict exactly if paths reach an item set with a conflict.
+module _ (g : PlainGrammar) (a : Automaton) (m : IsMerged g a) (few : length a.kernels < 2 ^ 32) where
+  pub merged_reaches : AutomatonHasConflict g a ↔ ReachesConflict g
+  merged_reaches = merged_agrees g (HasConflict g) (conflict_is_kind g) (clash_has g) a m (covers_paths g a (IsAutomaton-merged g a m few))
+
+  pub merged_reaches_any : AutomatonHasAnyConflict g a ↔ ReachesAnyConflict g
+  merged_reaches_any = merged_agrees g (HasAnyConflict g) (any_conflict_is_kind g) (fault_has g) a m (covers_paths g a (IsAutomaton-merged g a m few))
+
+-- The same of the canonical automaton.
+module _ (g : PlainGrammar) (c : Automaton) (is : IsCanonical g c) where
+  pub canonical_reaches : AutomatonHasConflict g c ↔ ReachesConflict g
+  canonical_reaches = canonical_agrees g (HasConflict g) (conflict_is_kind g) (clash_has g) c is
+
+  pub canonical_reaches_any : AutomatonHasAnyConflict g c ↔ ReachesAnyConflict g
+  canonical_reaches_any = canonical_agrees g (HasAnyConflict g) (any_conflict_is_kind g) (fault_has g) c is
 
 module _ (g : PlainGrammar) (a c : Automaton) (m : IsMerged g a) (few : length a.kernels < 2 ^ 32) (is : IsCanonical g c) where
   pub conflicts_agree : AutomatonHasConflict g a ↔ AutomatonHasConflict g c
-  conflicts_agree = agree g (HasConflict g) (conflict_is_kind g) (clash_has g) a c m (covers_paths g a (IsAutomaton-merged g a m few)) is
+  conflicts_agree = ((λ h. (canonical_reaches g c is).1 ((merged_reaches g a m few).0 h)), λ h. (merged_reaches g a m few).1 ((canonical_reaches g c is).0 h))
 
   pub any_conflicts_agree : AutomatonHasAnyConflict g a ↔ AutomatonHasAnyConflict g c
-  any_conflicts_agree = agree g (HasAnyConflict g) (any_conflict_is_kind g) (fault_has g) a c m (covers_paths g a (IsAutomaton-merged g a m few)) is
+  any_conflicts_agree = ((λ h. (canonical_reaches_any g c is).1 ((merged_reaches_any g a m few).0 h)), λ h. (merged_reaches_any g a m few).1 ((canonical_reaches_any g c is).0 h))

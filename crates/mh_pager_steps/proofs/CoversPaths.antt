@@ -11,7 +11,7 @@ use Rattle.mh_pager_steps.specs.CoversPaths.{CoversPaths}
 
 module _ (g : PlainGrammar) (a : Automaton) (is : IsAutomaton g a) where
   pub covers_paths : CoversPaths g a
-  covers_paths i [] l h = (i, omega (arith, is.enough), refl, rw (is.starts i l) (λ p d look s. (Holds-start i p d look).1 s))
+  covers_paths i [] l h = (i, omega (arith, is.enough_states), refl, rw (is.starts i l) (λ p d look s. (Holds-start i p d look).1 s))
   covers_paths i (X ∷ path) l h =
       let before = covers_paths i path l (HasItem-path g i X path h) in
       let within : Covers (move_of g a before.0 X) (PathItems g i (X ∷ path)) = moved_within g (Close g (PathItems g i path)) (Close g (kernel_of a before.0)) X (Close-monotone g (PathItems g i path) (kernel_of a before.0) before.3) in

@@ -27,7 +27,7 @@ IsTargetOf g kernels k X n = (m : Kernel) × (slice_get kernels n ≡ Some m) ×
 pub record IsRowFor (g : PlainGrammar) (kernels : List Kernel) (k : Kernel) (row : List Edge) : Type 0 where
   pub rising : IsRising IsSymbolBefore (edge_symbols row)
   pub moves : (X : Symbol) → Contains (edge_symbols row) X ↔ HasItem (Moved g (Close g (Holds k)) X)
-  pub leads : AllZip (IsTargetOf g kernels k) (edge_symbols row) (targets_of row)
+  pub targets_are : AllZip (IsTargetOf g kernels k) (edge_symbols row) (targets_of row)
 
 target_grows : (g : PlainGrammar) (k : Kernel) (old new : List Kernel) → Grows old new → (X : Symbol) (n : ℕ) → IsTargetOf g old k X n → IsTargetOf g new k X n
 target_grows g k old new grows X n t =
@@ -41,7 +41,7 @@ targets_grow g k old new grows (X ∷ symbols) [] z = absurd z
 targets_grow g k old new grows (X ∷ symbols) (n ∷ targets) z = (target_grows g k old new grows X n z.0, targets_grow g k old new grows symbols targets z.1)
 
 row_grows : (g : PlainGrammar) (k : Kernel) (old new : List Kernel) → Grows old new → (row : List Edge) → IsRowFor g old k row → IsRowFor g new k row
-row_grows g k old new grows row r = record { rising = r.rising; moves = r.moves; leads = targets_grow g k old new grows (edge_symbols row) (targets_of row) r.leads }
+row_grows g k old new grows row r = record { rising = r.rising; moves = r.moves; targets_are = targets_grow g k old new grows (edge_symbols row) (targets_of row) r.targets_are }
 
 -- An edge that is found leads to a state that extends the move.
 pub found_target : (g : PlainGrammar) (kernels : List Kernel) (k : Kernel) (row : List Edge) → AllZip (IsTargetOf g kernels k) (edge_symbols row) (targets_of row) → (X : Symbol) (u : ℕ) → find_edge row X ≡ Some u → IsTargetOf g kernels k X u × Contains (edge_symbols row) X
@@ -141,13 +141,13 @@ module _ (g : PlainGrammar) where
     after = record { kernels = s.placed.kernels; rows = set s.placed.rows s.state s.row; queue = s.placed.queue }
 
     placed_length : length s.placed.rows ≡ length s.placed.kernels
-    placed_length = all_put_length s.kernel (edge_symbols s.row) (targets_of s.row) begin s.placed s.put len
+    placed_length = all_put_length s.kernel (edge_symbols s.row) (targets_of s.row) begin s.placed s.moves_placed len
 
     pub step_length : length new.rows ≡ length new.kernels
     step_length = rw (s.after, length-set s.placed.rows s.state s.row) placed_length
 
     new_row : IsRowFor g s.placed.kernels s.kernel s.row
-    new_row = record { rising = s.moving.rising; moves = s.moving.exact; leads = all_put_targets s.kernel (edge_symbols s.row) (targets_of s.row) begin s.placed s.put }
+    new_row = record { rising = s.moving.rising; moves = s.moving.exact; targets_are = all_put_targets s.kernel (edge_symbols s.row) (targets_of s.row) begin s.placed s.moves_placed }
 
     but : HaveEdgesOrAreQueued g old → AllHaveEdgesBut g s.state begin
     but before n k at = elim (before n k at) [
@@ -171,8 +171,8 @@ module _ (g : PlainGrammar) where
 
     step_after : HaveEdgesOrAreQueued g old → HaveEdgesOrAreQueued g after
     step_after before n k at = elim (cases_eq n s.state) [
-      | inl e ↦ rw e (here k (rw e at at) (all_put_source s.kernel s.state (edge_symbols s.row) (targets_of s.row) begin s.placed s.put (inl s.at)))
-      | inr other ↦ elsewhere n k other (all_put_settled s.kernel s.state (edge_symbols s.row) (targets_of s.row) begin s.placed s.put (but before) n k at)
+      | inl e ↦ rw e (here k (rw e at at) (all_put_source s.kernel s.state (edge_symbols s.row) (targets_of s.row) begin s.placed s.moves_placed (inl s.at)))
+      | inr other ↦ elsewhere n k other (all_put_settled s.kernel s.state (edge_symbols s.row) (targets_of s.row) begin s.placed s.moves_placed (but before) n k at)
     ]
 
     pub step_settled : HaveEdgesOrAreQueued g old → HaveEdgesOrAreQueued g new

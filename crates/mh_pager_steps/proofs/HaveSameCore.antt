@@ -31,7 +31,7 @@ module _ (g : PlainGrammar) (kernels : List Kernel) (move : Kernel) (candidates 
   -- The first candidate with the property is the first state with it.
   pub first_of : (i n : ℕ) (k : Kernel) → slice_get candidates i ≡ Some n → slice_get kernels n ≡ Some k → P k
       → ((j m : ℕ) (h : Kernel) → j < i → slice_get candidates j ≡ Some m → slice_get kernels m ≡ Some h → P h → ⊥) → IsFirst P kernels n k
-  first_of i n k at here p earlier = record { at = here; has = p; earlier = before }
+  first_of i n k at here p earlier = record { at = here; holds = p; earlier = before }
     where
       before : (m : ℕ) (h : Kernel) → m < n → slice_get kernels m ≡ Some h → P h → ⊥
       before m h l e q =

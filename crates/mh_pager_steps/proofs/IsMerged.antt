@@ -11,7 +11,7 @@ use Rattle.mh_items_kernels.specs.KernelTypes.{Kernel, Automaton}
 use Rattle.mh_items_kernels.specs.Automaton.{start_kernel, IsAutomaton}
 use Rattle.mh_items_kernels.specs.Collection.{targets_of, edge_symbols}
 use Rattle.mh_canon_states.specs.Canonical.{IsCanonical}
-use Rattle.mh_canon_states.specs.declared.limits.TheConstants.{MAX_STATES}
+use Rattle.mh_canon_states.specs.Limits.{max_states}
 use Rattle.mh_items_kernels.specs.Conflicts.{AutomatonHasConflict, AutomatonHasAnyConflict}
 use Rattle.mh_pager_steps.specs.CoversPaths.{CoversPaths}
 use Rattle.mh_pager_steps.specs.code.Renumbering.{AreDistinctBelow, AreReachedStates, AreTargetsInRange}
@@ -33,7 +33,7 @@ targets_within g kernels k (X ∷ symbols) (n ∷ targets) z = (slice_get_within
 
 module _ (g : PlainGrammar) (w : MergeState) (l : IsReachedByMerging g w) (done : w.queue ≡ []) where
   run : StepsInvariant g w
-  run = steps_invariant g l.first w l.begun l.steps
+  run = steps_invariant g l.first w l.is_initial l.steps
 
   pub starts_within : length g.starts ≤ length w.rows
   starts_within = elim (cases_lt (length w.kernels) (length g.starts)) [
@@ -51,7 +51,7 @@ module _ (g : PlainGrammar) (w : MergeState) (l : IsReachedByMerging g w) (done 
           | inr s ↦ (
               let one : Some s.0 ≡ Some row = sym s.1 ∙ at in
               let same : s.0 ≡ row = cc in
-              let all = targets_within g w.kernels k.0 (edge_symbols s.0) (targets_of s.0) s.2.leads in
+              let all = targets_within g w.kernels k.0 (edge_symbols s.0) (targets_of s.0) s.2.targets_are in
               rw (run.len, ← same) (All-from_recursion (λ t. t < length w.kernels) (targets_of s.0) all))
         ];
   }
@@ -60,7 +60,7 @@ module _ (g : PlainGrammar) (w : MergeState) (l : IsReachedByMerging g w) (done 
   IsMerged-list a states r kernels = record {
     first = l.first;
     last = w;
-    begun = l.begun;
+    is_initial = l.is_initial;
     steps = l.steps;
     done = done;
     states = states;
@@ -75,10 +75,10 @@ module _ (g : PlainGrammar) (w : MergeState) (l : IsReachedByMerging g w) (done 
       omega (arith, below_few (length w.rows) states b, run.len, zip_length (λ n k. slice_get w.kernels n ≡ Some k) states a.kernels kernels, few)
 
   pub not_exceeded : (limit : ℕ) → length w.kernels ≤ limit → MergingExceeds g limit → ⊥
-  not_exceeded limit few x = not_exceeding g l.first w l.begun l.steps done limit few x
+  not_exceeded limit few x = not_exceeding g l.first w l.is_initial l.steps done limit few x
 
 -- A merged automaton within the limit is an automaton of the grammar, covers all paths, and has no new conflict.
-module _ (g : PlainGrammar) (a : Automaton) (m : IsMerged g a) (few : length a.kernels ≤ MAX_STATES) where
+module _ (g : PlainGrammar) (a : Automaton) (m : IsMerged g a) (few : length a.kernels ≤ max_states) where
   small : length a.kernels < 2 ^ 32
   small = omega arith
 

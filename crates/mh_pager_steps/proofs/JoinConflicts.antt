@@ -43,8 +43,8 @@ module _ (g : PlainGrammar) (A B J : ItemSet) (core : HaveSameCore A B) (weak : 
   shifts : (z : ℕ) → ShiftsOn g (at J) z → ShiftsOn g (at A) z × ShiftsOn g (at B) z
   shifts z s =
       let c = both s.production s.dot s.look s.item in (
-        record { production = s.production; dot = s.dot; look = c.0.0; rest = s.rest; item = c.0.1; behind = s.behind },
-        record { production = s.production; dot = s.dot; look = c.1.0; rest = s.rest; item = c.1.1; behind = s.behind },
+        record { production = s.production; dot = s.dot; look = c.0.0; rest = s.rest; item = c.0.1; token_next = s.token_next },
+        record { production = s.production; dot = s.dot; look = c.1.0; rest = s.rest; item = c.1.1; token_next = s.token_next },
       )
 
   -- One of the two sets has the reduction.

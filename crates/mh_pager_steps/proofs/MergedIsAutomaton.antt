@@ -25,7 +25,7 @@ use Rattle.mh_pager_steps.proofs.StepsInvariant.{IsSound, StepsInvariant, steps_
 
 module _ (g : PlainGrammar) (a : Automaton) (m : IsMerged g a) where
   run : StepsInvariant g m.last
-  run = steps_invariant g m.first m.last m.begun m.steps
+  run = steps_invariant g m.first m.last m.is_initial m.steps
 
   settled : (n : ℕ) (k : Kernel) → slice_get m.last.kernels n ≡ Some k → HasItsEdges g m.last n k
   settled n k at = elim (run.settled n k at) [ inl c ↦ absurd (contains_none n (rw m.done at c)) | inr s ↦ s ]
@@ -76,7 +76,7 @@ module _ (g : PlainGrammar) (a : Automaton) (m : IsMerged g a) where
         row = set.0;
         for = set.2;
         symbols = ap edge_symbols (sym edges) ∙ on.same ∙ ap edge_symbols same;
-        names = rw (sym next.are ∙ ap targets_of other) at to.names;
+        names = rw (sym next.targets_are ∙ ap targets_of other) at to.numbers;
       }
 
   start_at : (i : ℕ) → i < length g.starts → slice_get m.states i ≡ Some i
@@ -124,7 +124,7 @@ module _ (g : PlainGrammar) (a : Automaton) (m : IsMerged g a) where
       let l : s < length a.kernels = omega (arith, edges_within a s u X e, rows_len) in
       let r = has_row s l in
       let n = renamed_from m.states X (edges_at a s) r.row r.symbols r.names u e in
-      let t = found_target g m.last.kernels (kernel_at a s) r.row r.for.leads X n.0 n.1 in
+      let t = found_target g m.last.kernels (kernel_at a s) r.row r.for.targets_are X n.0 n.1 in
       let here = new_number u n.0 n.2 in
       let same : t.0.0 ≡ kernel_at a u = (let one : Some t.0.0 ≡ Some (kernel_at a u) = sym t.0.1 ∙ here.1.kernel in cc) in
       let extends = rw same at t.0.2 in
@@ -139,7 +139,7 @@ module _ (g : PlainGrammar) (a : Automaton) (m : IsMerged g a) where
 
   pub IsAutomaton-merged : length a.kernels < 2 ^ 32 → IsAutomaton g a
   IsAutomaton-merged few = record {
-    enough = enough;
+    enough_states = enough;
     few = few;
     rows = rows_len;
     each = λ s l. (each s l).valid;

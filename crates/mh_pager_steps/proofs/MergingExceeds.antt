@@ -9,7 +9,7 @@ use Rattle.mh_grammar.proofs.Lists.{zip_length}
 use Rattle.mh_grammar.specs.Plain.{PlainGrammar, IsInRange}
 use Rattle.mh_items_kernels.specs.KernelTypes.{Kernel, Automaton}
 use Rattle.mh_items_kernels.specs.Collection.{targets_of, edge_symbols}
-use Rattle.mh_canon_states.specs.declared.limits.TheConstants.{MAX_STATES}
+use Rattle.mh_canon_states.specs.Limits.{max_states}
 use Rattle.mh_pager_steps.specs.code.Renumbering.{AreDistinctBelow}
 use Rattle.mh_pager_steps.specs.MergeSteps.{MergeState, MergeSteps, none, more, IsInitial, IsMerged, MergingExceeds}
 use Rattle.mh_pager_steps.proofs.RenumberingInvariant.{below_few}
@@ -21,10 +21,10 @@ steps_few g limit first last b few (more {old} s step) over = elim (cases_lt lim
   | inl l ↦ steps_few g limit first old b few s l
   | inr m ↦ record {
     first = first;
-    old = old;
-    begun = b;
+    last = old;
+    is_initial = b;
     steps = s;
-    overruns = record {
+    step_exceeds = record {
       state = step.state;
       waiting = step.waiting;
       oldest = step.oldest;
@@ -35,8 +35,8 @@ steps_few g limit first last b few (more {old} s step) over = elim (cases_lt lim
       moving = rw (append-nil (edge_symbols step.row)) step.moving;
       targets = targets_of step.row;
       placed = step.placed;
-      put = step.put;
-      over = (let same : length last.kernels ≡ length step.placed.kernels = ap (λ (w : MergeState). length w.kernels) step.after in omega (arith, over, same));
+      moves_placed = step.moves_placed;
+      exceeds = (let same : length last.kernels ≡ length step.placed.kernels = ap (λ (w : MergeState). length w.kernels) step.after in omega (arith, over, same));
     };
   }
 ]
@@ -47,11 +47,11 @@ below_zip kernels [] (k ∷ ks) z = absurd z
 below_zip kernels (n ∷ states) [] z = absurd z
 below_zip kernels (n ∷ states) (k ∷ ks) z = (slice_get_within kernels n k z.0, below_zip kernels states ks z.1)
 
-pub merged_few : (g : PlainGrammar) (a : Automaton) → IsInRange g → IsMerged g a → (MergingExceeds g MAX_STATES → ⊥) → length a.kernels ≤ MAX_STATES
+pub merged_few : (g : PlainGrammar) (a : Automaton) → IsInRange g → IsMerged g a → (MergingExceeds g max_states → ⊥) → length a.kernels ≤ max_states
 merged_few g a range m never =
-    let starts : length m.first.kernels ≤ MAX_STATES = (let few = range.few_starts in let len = m.begun.kernels.len in omega arith) in
+    let starts : length m.first.kernels ≤ max_states = (let few = range.few_starts in let len = m.is_initial.kernels.len in omega arith) in
     let b : AreDistinctBelow (length m.last.kernels) m.states = record { distinct = m.numbering.distinct; below = All-from_recursion (λ n. n < length m.last.kernels) m.states (below_zip m.last.kernels m.states a.kernels m.kernels) } in
-    elim (cases_lt MAX_STATES (length m.last.kernels)) [
-      | inl over ↦ absurd (never (steps_few g MAX_STATES m.first m.last m.begun starts m.steps over))
+    elim (cases_lt max_states (length m.last.kernels)) [
+      | inl over ↦ absurd (never (steps_few g max_states m.first m.last m.is_initial starts m.steps over))
       | inr few ↦ omega (arith, few, below_few (length m.last.kernels) m.states b, zip_length (λ n k. slice_get m.last.kernels n ≡ Some k) m.states a.kernels m.kernels)
     ]

@@ -64,7 +64,7 @@ module _ (g : PlainGrammar) (Bad : ItemSet → Type 0) (t : IsConflictKind g Bad
 
   step_quiet : (old new : MergeState) → IsMergeStep g old new → LeadToBadFromStartOnly old.kernels → LeadToBadFromStartOnly new.kernels
   step_quiet old new s before =
-      let after : LeadToBadFromStartOnly s.placed.kernels = all_put_quiet s.kernel (before s.state s.kernel s.at) (edge_symbols s.row) (targets_of s.row) (record { kernels = old.kernels; rows = old.rows; queue = s.waiting }) s.placed s.put before in
+      let after : LeadToBadFromStartOnly s.placed.kernels = all_put_quiet s.kernel (before s.state s.kernel s.at) (edge_symbols s.row) (targets_of s.row) (record { kernels = old.kernels; rows = old.rows; queue = s.waiting }) s.placed s.moves_placed before in
       rw s.after after
 
   steps_quiet : (first last : MergeState) → MergeSteps g first last → LeadToBadFromStartOnly first.kernels → LeadToBadFromStartOnly last.kernels

@@ -16,7 +16,7 @@ leads_one : (rows : List (List Edge)) (n : ℕ) (a b : List ℕ) → HasTargets 
 leads_one rows n a b p q =
     let one : Some p.row ≡ Some q.row = sym p.at ∙ q.at in
     let same : p.row ≡ q.row = cc in
-    sym p.are ∙ ap targets_of same ∙ q.are
+    sym p.targets_are ∙ ap targets_of same ∙ q.targets_are
 
 rows_one : (rows : List (List Edge)) (states : List ℕ) (xs ys : List (List Edge)) → AllZip (HasSymbolsOfRow rows) states xs → AllZip (HasSymbolsOfRow rows) states ys → map targets_of xs ≡ map targets_of ys → xs ≡ ys
 rows_one rows [] [] [] a b t = refl
@@ -35,7 +35,7 @@ rows_one rows (n ∷ states) (x ∷ xs) (y ∷ ys) a b t =
 
 pub merged_one : (g : PlainGrammar) (a b : Automaton) → IsMerged g a → IsMerged g b → a ≡ b
 merged_one g a b m n =
-    let steps : MergeSteps g m.first n.last = rw (initial_unique g m.first n.first m.begun n.begun) n.steps in
+    let steps : MergeSteps g m.first n.last = rw (initial_unique g m.first n.first m.is_initial n.is_initial) n.steps in
     let last : n.last ≡ m.last = sym (end_unique g m.first m.last n.last m.steps m.done steps n.done) in
     let numbering : IsNumbering (HasTargets m.last.rows) (start_numbers g) n.states (map targets_of b.edges) = subst (λ (w : MergeState). IsNumbering (HasTargets w.rows) (start_numbers g) n.states (map targets_of b.edges)) last n.numbering in
     let both = numbering_unique (HasTargets m.last.rows) (leads_one m.last.rows) (start_numbers g) m.states n.states (map targets_of a.edges) (map targets_of b.edges) m.numbering numbering in

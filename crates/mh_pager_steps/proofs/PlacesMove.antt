@@ -70,7 +70,7 @@ queue_kept old new n m (inr q) c = rw q.1 (Contains-append_left old (n ∷ []) m
 module _ (g : PlainGrammar) (move : Kernel) (old new : MergeState) (n : ℕ) where
   came_joined : (j : JoinsState g move old new n) (m : ℕ) (k : Kernel) → slice_get new.kernels m ≡ Some k → KernelOrigin g move old new m k
   came_joined j m k at = elim (set_cases old.kernels n j.joined m k (rw j.kernels at at)) [
-    | inl h ↦ joins j.kernel (rw h.0 j.first.at) j.first.has (rw h.1 at j.valid) (rw h.1 at j.join) (rw h.0 (queued old.queue new.queue n j.queue))
+    | inl h ↦ joins j.kernel (rw h.0 j.first.at) j.first.holds (rw h.1 at j.valid) (rw h.1 at j.join) (rw h.0 (queued old.queue new.queue n j.queue))
     | inr h ↦ stays h.1
   ]
 
@@ -90,7 +90,7 @@ module _ (g : PlainGrammar) (move : Kernel) (old new : MergeState) (n : ℕ) whe
     | inl e ↦ (
         let one : Some k ≡ Some j.kernel = sym at ∙ ap (slice_get old.kernels) e ∙ j.first.at in
         let same : j.kernel ≡ k = cc in
-        let x : Extends (Holds j.kernel) (Holds j.joined) = (join_extends (Holds j.kernel) (Holds move) (Holds j.joined) j.first.has.0 j.join).0 in
+        let x : Extends (Holds j.kernel) (Holds j.joined) = (join_extends (Holds j.kernel) (Holds move) (Holds j.joined) j.first.holds.0 j.join).0 in
         (j.joined, rw (j.kernels, e) (set_here old.kernels n j.joined (slice_get_within old.kernels n j.kernel j.first.at)), rw same at x))
     | inr e ↦ (k, rw j.kernels (set_elsewhere old.kernels n j.joined m e ∙ at), extends_self (Holds k))
   ]
@@ -102,8 +102,8 @@ module _ (g : PlainGrammar) (move : Kernel) (old new : MergeState) (n : ℕ) whe
 
   -- The state that the edge leads to extends the move.
   pub put_target : PlacesMove g move old new n → (k : Kernel) × (slice_get new.kernels n ≡ Some k) × Extends (Holds move) (Holds k)
-  put_target (inl f) = (f.kernel, rw f.same f.first.at, ((λ p d. ((f.first.has.0 p d).1, (f.first.has.0 p d).0)), f.first.has.1))
-  put_target (inr (inl j)) = (j.joined, rw j.kernels (set_here old.kernels n j.joined (slice_get_within old.kernels n j.kernel j.first.at)), (join_extends (Holds j.kernel) (Holds move) (Holds j.joined) j.first.has.0 j.join).1)
+  put_target (inl f) = (f.kernel, rw f.same f.first.at, ((λ p d. ((f.first.holds.0 p d).1, (f.first.holds.0 p d).0)), f.first.holds.1))
+  put_target (inr (inl j)) = (j.joined, rw j.kernels (set_here old.kernels n j.joined (slice_get_within old.kernels n j.kernel j.first.at)), (join_extends (Holds j.kernel) (Holds move) (Holds j.joined) j.first.holds.0 j.join).1)
   put_target (inr (inr a)) = (move, rw a.kernels (get_last old.kernels move n a.last), extends_self (Holds move))
 
   pub put_queue : PlacesMove g move old new n → (m : ℕ) → Contains old.queue m → Contains new.queue m

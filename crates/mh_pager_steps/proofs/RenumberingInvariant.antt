@@ -48,11 +48,11 @@ starts_below starts count l = record {
 }
 
 pub IsRenumbered-none : (old : List ℕ) → IsRenumbered [] [] old old
-IsRenumbered-none old = record { on = refl; placed = refl }
+IsRenumbered-none old = record { symbols_are = refl; placed = refl }
 
 pub IsRenumbered-push : (row new : List Edge) (old mid states : List ℕ) (e : Edge) (n : ℕ) → IsRenumbered row new old mid → Placed mid states e.target n → IsRenumbered (row ++ e ∷ []) (new ++ record { symbol = e.symbol; target = n } ∷ []) old states
 IsRenumbered-push row new old mid states e n r p = record {
-  on = map-append (λ (x : Edge). x.symbol) new (record { symbol = e.symbol; target = n } ∷ []) ∙ ap (λ xs. xs ++ e.symbol ∷ []) r.on ∙ sym (map-append (λ (x : Edge). x.symbol) row (e ∷ []));
+  symbols_are = map-append (λ (x : Edge). x.symbol) new (record { symbol = e.symbol; target = n } ∷ []) ∙ ap (λ xs. xs ++ e.symbol ∷ []) r.symbols_are ∙ sym (map-append (λ (x : Edge). x.symbol) row (e ∷ []));
   placed = rw (map-append (λ (x : Edge). x.target) new (record { symbol = e.symbol; target = n } ∷ []), map-append (λ (x : Edge). x.target) row (e ∷ [])) (AllPlaced-push old mid states (targets_of row) (targets_of new) e.target n r.placed p);
 }
 
@@ -72,7 +72,7 @@ module _ (starts : ℕ) (rows : List (List Edge)) (states : List ℕ) (edges : L
   RenumberingInvariant-step new n row made at here targets is =
       let count : length (map targets_of edges) ≡ length edges = length-map edges targets_of in
       record {
-        walking = rw (map-append targets_of edges (made ∷ [])) (NumberingSoFar-step (HasTargets rows) (range_with_len 0 starts) states (map targets_of edges) r.walking new n (targets_of row) (targets_of made) (rw count at) (record { row = row; at = here; are = refl }) is.placed);
+        walking = rw (map-append targets_of edges (made ∷ [])) (NumberingSoFar-step (HasTargets rows) (range_with_len 0 starts) states (map targets_of edges) r.walking new n (targets_of row) (targets_of made) (rw count at) (record { row = row; at = here; targets_are = refl }) is.placed);
         below = placed_below (length rows) states new (targets_of row) (targets_of made) is.placed r.below targets;
         symbols = λ i m e a f. elim (get_cases edges made i e f) [
           | inl before ↦ (
@@ -85,7 +85,7 @@ module _ (starts : ℕ) (rows : List (List Edge)) (states : List ℕ) (edges : L
               let kept = AllPlaced-kept states new (targets_of row) (targets_of made) is.placed (length edges) n at in
               let one : Some n ≡ Some m = sym kept ∙ ap (slice_get new) (sym last.0) ∙ a in
               let same : n ≡ m = cc in
-              record { row = row; at = rw (← same) here; same = ap edge_symbols last.1 ∙ is.on })
+              record { row = row; at = rw (← same) here; same = ap edge_symbols last.1 ∙ is.symbols_are })
         ];
       }
 
@@ -109,7 +109,7 @@ module _ (starts : ℕ) (rows : List (List Edge)) (states : List ℕ) (edges : L
       leads_one x y ys zs a b c =
           let one : Some a.row ≡ Some b.row = sym a.at ∙ b.at in
           let same : a.row ≡ b.row = cc in
-          let all : ys ≡ zs = sym a.are ∙ ap targets_of same ∙ b.are in
+          let all : ys ≡ zs = sym a.targets_are ∙ ap targets_of same ∙ b.targets_are in
           rw all at c
 
 -- The join of a kernel with itself is the kernel.

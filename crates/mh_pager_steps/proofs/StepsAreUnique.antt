@@ -29,8 +29,8 @@ first_one P kernels m n j k a b = (place, same)
   where
     place : m ≡ n
     place = elim (cases_lt m n) [
-      | inl l ↦ absurd (b.earlier m j l a.at a.has)
-      | inr l ↦ elim (cases_lt n m) [ inl s ↦ absurd (a.earlier n k s b.at b.has) | inr s ↦ omega arith ]
+      | inl l ↦ absurd (b.earlier m j l a.at a.holds)
+      | inr l ↦ elim (cases_lt n m) [ inl s ↦ absurd (a.earlier n k s b.at b.holds) | inr s ↦ omega arith ]
     ]
 
     same : j ≡ k
@@ -49,18 +49,18 @@ module _ (g : PlainGrammar) where
   -- The target of a move and the next moment are unique.
   put_one : (move : Kernel) (old v w : MergeState) (m n : ℕ) → PlacesMove g move old v m → PlacesMove g move old w n → (v ≡ w) × (m ≡ n)
   put_one move old v w m n (inl a) (inl b) = (a.same ∙ sym b.same, (first_one (ContainsMove move) old.kernels m n a.kernel b.kernel a.first b.first).0)
-  put_one move old v w m n (inl a) (inr (inl b)) = absurd (b.unkept m a.kernel a.first.at a.first.has)
-  put_one move old v w m n (inl a) (inr (inr b)) = absurd (b.unkept m a.kernel a.first.at a.first.has)
-  put_one move old v w m n (inr (inl a)) (inl b) = absurd (a.unkept n b.kernel b.first.at b.first.has)
-  put_one move old v w m n (inr (inr a)) (inl b) = absurd (a.unkept n b.kernel b.first.at b.first.has)
+  put_one move old v w m n (inl a) (inr (inl b)) = absurd (b.none_contains m a.kernel a.first.at a.first.holds)
+  put_one move old v w m n (inl a) (inr (inr b)) = absurd (b.none_contains m a.kernel a.first.at a.first.holds)
+  put_one move old v w m n (inr (inl a)) (inl b) = absurd (a.none_contains n b.kernel b.first.at b.first.holds)
+  put_one move old v w m n (inr (inr a)) (inl b) = absurd (a.none_contains n b.kernel b.first.at b.first.holds)
   put_one move old v w m n (inr (inl a)) (inr (inl b)) =
       let f = first_one (IsCompatibleWithMove move) old.kernels m n a.kernel b.kernel a.first b.first in
       let join : IsJoin (Holds a.kernel) (Holds move) (Holds b.joined) = rw (← f.1) at b.join in
       let joined : a.joined ≡ b.joined = join_one g (Holds a.kernel) (Holds move) a.joined b.joined a.valid b.valid a.join join in
       let queue : Enqueues old.queue m w.queue = rw (← f.0) at b.queue in
       (one_work v w (a.kernels ∙ (λ i. set old.kernels (f.0 i) (joined i)) ∙ sym b.kernels) (a.rows ∙ sym b.rows) (queues_one old.queue v.queue w.queue m a.queue queue), f.0)
-  put_one move old v w m n (inr (inl a)) (inr (inr b)) = absurd (b.untaken m a.kernel a.first.at a.first.has)
-  put_one move old v w m n (inr (inr a)) (inr (inl b)) = absurd (a.untaken n b.kernel b.first.at b.first.has)
+  put_one move old v w m n (inr (inl a)) (inr (inr b)) = absurd (b.none_compatible m a.kernel a.first.at a.first.holds)
+  put_one move old v w m n (inr (inr a)) (inr (inl b)) = absurd (a.none_compatible n b.kernel b.first.at b.first.holds)
   put_one move old v w m n (inr (inr a)) (inr (inr b)) =
       let e : m ≡ n = a.last ∙ sym b.last in
       (one_work v w (a.kernels ∙ sym b.kernels) (a.rows ∙ sym b.rows) (a.queue ∙ ap (λ k. old.queue ++ k ∷ []) e ∙ sym b.queue), e)
@@ -104,7 +104,7 @@ module _ (g : PlainGrammar) where
   all_put_longer k (X ∷ symbols) (n ∷ targets) old new p = omega (arith, put_longer p.0 old p.1 n p.3, all_put_longer k symbols targets p.1 new p.4)
 
   pub step_longer : (old new : MergeState) → IsMergeStep g old new → length old.kernels ≤ length new.kernels
-  step_longer old new s = rw s.after (all_put_longer s.kernel (edge_symbols s.row) (targets_of s.row) (record { kernels = old.kernels; rows = old.rows; queue = s.waiting }) s.placed s.put)
+  step_longer old new s = rw s.after (all_put_longer s.kernel (edge_symbols s.row) (targets_of s.row) (record { kernels = old.kernels; rows = old.rows; queue = s.waiting }) s.placed s.moves_placed)
 
   pub steps_longer : (first last : MergeState) → MergeSteps g first last → length first.kernels ≤ length last.kernels
   steps_longer first last none = omega arith
@@ -133,8 +133,8 @@ module _ (g : PlainGrammar) where
       let t = turn_one g old a.state b.state a.waiting b.waiting a.kernel b.kernel a.oldest a.at b.oldest b.at in
       let moving : AreMoveSymbols g a.kernel (edge_symbols b.row) = rw (← t.2) at b.moving in
       let symbols : edge_symbols a.row ≡ edge_symbols b.row = symbols_one g a.kernel (edge_symbols a.row) (edge_symbols b.row) a.moving moving in
-      let put : PlacesMoves g a.kernel (edge_symbols a.row) (targets_of b.row) (with_queue old a.waiting) b.placed = rw (t.2, t.1, symbols) b.put in
-      let one = all_put_unique g a.kernel (edge_symbols a.row) (targets_of a.row) (targets_of b.row) (with_queue old a.waiting) a.placed b.placed a.put put in
+      let put : PlacesMoves g a.kernel (edge_symbols a.row) (targets_of b.row) (with_queue old a.waiting) b.placed = rw (t.2, t.1, symbols) b.moves_placed in
+      let one = all_put_unique g a.kernel (edge_symbols a.row) (targets_of a.row) (targets_of b.row) (with_queue old a.waiting) a.placed b.placed a.moves_placed put in
       let row = edges_unique a.row b.row symbols one.1 in
       a.after ∙ (λ i. record { kernels = (one.0 i).kernels; rows = set (one.0 i).rows (t.0 i) (row i); queue = (one.0 i).queue }) ∙ sym b.after
 
@@ -172,7 +172,7 @@ module _ (g : PlainGrammar) where
 
   -- If the construction ends within the limit, it never exceeded the limit.
   pub not_exceeding : (first last : MergeState) → IsInitial g first → MergeSteps g first last → last.queue ≡ [] → (limit : ℕ) → length last.kernels ≤ limit → MergingExceeds g limit → ⊥
-  not_exceeding first last begun s done limit few swollen = go swollen.old swollen.overruns (steps_from_middle swollen.first last (rw (initial_unique swollen.first first swollen.begun begun) s) done swollen.old swollen.steps)
+  not_exceeding first last begun s done limit few swollen = go swollen.last swollen.step_exceeds (steps_from_middle swollen.first last (rw (initial_unique swollen.first first swollen.is_initial begun) s) done swollen.last swollen.steps)
     where
       last_not : (old : MergeState) → StepExceeds g limit old → old ≡ last → ⊥
       last_not old x e = let both : x.state ∷ x.waiting ≡ [] = sym x.oldest ∙ ap (λ (w : MergeState). w.queue) e ∙ done in cc
@@ -182,13 +182,13 @@ module _ (g : PlainGrammar) where
           let t = turn_one g old x.state step.state x.waiting step.waiting x.kernel step.kernel x.oldest x.at step.oldest step.at in
           let moving : AreMoveSymbols g x.kernel (edge_symbols step.row) = rw (← t.2) at step.moving in
           let symbols : x.symbols ++ x.rest ≡ edge_symbols step.row = symbols_one g x.kernel (x.symbols ++ x.rest) (edge_symbols step.row) x.moving moving in
-          let put : PlacesMoves g x.kernel (x.symbols ++ x.rest) (targets_of step.row) (with_queue old x.waiting) step.placed = rw (t.2, t.1, symbols) step.put in
+          let put : PlacesMoves g x.kernel (x.symbols ++ x.rest) (targets_of step.row) (with_queue old x.waiting) step.placed = rw (t.2, t.1, symbols) step.moves_placed in
           let parts = all_put_split g x.kernel x.symbols x.rest (targets_of step.row) (with_queue old x.waiting) step.placed put in
-          let one = all_put_unique g x.kernel x.symbols x.targets parts.1 (with_queue old x.waiting) x.placed parts.0 x.put parts.3 in
+          let one = all_put_unique g x.kernel x.symbols x.targets parts.1 (with_queue old x.waiting) x.placed parts.0 x.moves_placed parts.3 in
           let same = ap (λ (w : MergeState). length w.kernels) one.0 in
           let more_later = all_put_longer g x.kernel x.rest parts.2 parts.0 step.placed parts.4 in
           let kept : length next.kernels ≡ length step.placed.kernels = ap (λ (w : MergeState). length w.kernels) step.after in
-          omega (arith, x.over, same, more_later, kept, within)
+          omega (arith, x.exceeds, same, more_later, kept, within)
 
       go : (old : MergeState) → StepExceeds g limit old → MergeSteps g old last → ⊥
       go old x t = elim (first_of_steps old last t) [

@@ -54,7 +54,7 @@ pub move_sound : (g : PlainGrammar) (k move : Kernel) (X : Symbol) → IsMoveOf 
 move_sound g k move X m s = (
   record {
     valid = m.valid;
-    some = m.some;
+    some = m.has_item;
     at_end = λ p d a h l. moved_at_end g (Close g (Holds k)) X (close_at_end g (Holds k) s.at_end) p d a ((m.same p d a).0 h) l;
   },
   λ p d h. Moved-positive_dot g (Close g (Holds k)) X p d h.0 ((m.same p d h.0).0 h.1),
@@ -114,7 +114,7 @@ module _ (g : PlainGrammar) where
 
   step_sound : (old new : MergeState) → IsMergeStep g old new → AreSound g old.kernels → AreSound g new.kernels
   step_sound old new s before =
-      let after : AreSound g s.placed.kernels = all_put_sound s.kernel (before.each s.state s.kernel s.at) (edge_symbols s.row) (targets_of s.row) (record { kernels = old.kernels; rows = old.rows; queue = s.waiting }) s.placed s.put before in
+      let after : AreSound g s.placed.kernels = all_put_sound s.kernel (before.each s.state s.kernel s.at) (edge_symbols s.row) (targets_of s.row) (record { kernels = old.kernels; rows = old.rows; queue = s.waiting }) s.placed s.moves_placed before in
       rw s.after after
 
 -- The invariant of the steps.

@@ -1,4 +1,4 @@
--- Paths of automata.
+-- The definition of an automaton that has all paths of the canonical collection.
 use Rattle.std.specs.Prelude.{◌<◌, ℕ, List, length}
 use Rattle.mh_grammar.specs.declared.types.Symbol.{Symbol}
 use Rattle.mh_grammar.specs.Plain.{PlainGrammar}

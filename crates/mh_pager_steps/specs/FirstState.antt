@@ -5,7 +5,7 @@ use Rattle.mh_items_kernels.specs.KernelTypes.{Kernel}
 -- State n, with the kernel k, is the first state of the list with the property P.
 pub record IsFirst (P : Kernel → Type 0) (kernels : List Kernel) (n : ℕ) (k : Kernel) : Type 0 where
   pub at : slice_get kernels n ≡ Some k
-  pub has : P k
+  pub holds : P k
   pub earlier : (m : ℕ) (j : Kernel) → m < n → slice_get kernels m ≡ Some j → P j → ⊥
 
 -- No state of the list has the property P.

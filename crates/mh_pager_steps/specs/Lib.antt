@@ -3,3 +3,4 @@ pub mod CoversPaths
 pub mod MergeSteps
 pub mod WeakCompatibility
 pub mod code
+pub mod ReachedConflicts

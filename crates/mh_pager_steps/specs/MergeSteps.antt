@@ -44,7 +44,7 @@ pub record ReusesState (move : Kernel) (old new : MergeState) (n : ℕ) : Type 0
 pub record JoinsState (g : PlainGrammar) (move : Kernel) (old new : MergeState) (n : ℕ) : Type 0 where
   pub kernel : Kernel
   pub joined : Kernel
-  pub unkept : HasNoneWith (ContainsMove move) old.kernels
+  pub none_contains : HasNoneWith (ContainsMove move) old.kernels
   pub first : IsFirst (IsCompatibleWithMove move) old.kernels n kernel
   pub valid : IsItemList g joined
   pub join : IsJoin (Holds kernel) (Holds move) (Holds joined)
@@ -55,8 +55,8 @@ pub record JoinsState (g : PlainGrammar) (move : Kernel) (old new : MergeState) 
 -- Case 3: no state contains the move or is weakly compatible with it. The move is appended as a new state, and is
 -- queued.
 pub record AppendsState (move : Kernel) (old new : MergeState) (n : ℕ) : Type 0 where
-  pub unkept : HasNoneWith (ContainsMove move) old.kernels
-  pub untaken : HasNoneWith (IsCompatibleWithMove move) old.kernels
+  pub none_contains : HasNoneWith (ContainsMove move) old.kernels
+  pub none_compatible : HasNoneWith (IsCompatibleWithMove move) old.kernels
   pub last : n ≡ length old.kernels
   pub kernels : new.kernels ≡ old.kernels ++ move ∷ []
   pub rows : new.rows ≡ old.rows ++ [] ∷ []
@@ -69,7 +69,7 @@ PlacesMove g move old new n = ReusesState move old new n ⊎ (JoinsState g move 
 -- The kernel is the move of the closure of k on X, and is not empty.
 pub record IsMoveOf (g : PlainGrammar) (k : Kernel) (X : Symbol) (move : Kernel) : Type 0 where
   pub valid : IsItemList g move
-  pub some : HasItem (Holds move)
+  pub has_item : HasItem (Holds move)
   pub same : AreSameItems (Holds move) (Moved g (Close g (Holds k)) X)
 
 -- The moves on the symbols get their targets one after another.
@@ -94,10 +94,10 @@ pub record IsMergeStep (g : PlainGrammar) (old new : MergeState) : Type 0 where
   pub row : List Edge
   pub moving : AreMoveSymbols g kernel (edge_symbols row)
   pub placed : MergeState
-  pub put : PlacesMoves g kernel (edge_symbols row) (targets_of row) (record { kernels = old.kernels; rows = old.rows; queue = waiting }) placed
+  pub moves_placed : PlacesMoves g kernel (edge_symbols row) (targets_of row) (record { kernels = old.kernels; rows = old.rows; queue = waiting }) placed
   pub after : new ≡ record { kernels = placed.kernels; rows = set placed.rows state row; queue = placed.queue }
 
--- Any number of steps.
+-- A state of the merge that the first one reaches by any number of steps.
 pub data MergeSteps (g : PlainGrammar) (first : MergeState) : MergeState → Type 0 where
   none : MergeSteps g first first
   more : {old new : MergeState} → MergeSteps g first old → IsMergeStep g old new → MergeSteps g first new
@@ -116,7 +116,7 @@ pub record IsInitial (g : PlainGrammar) (w : MergeState) : Type 0 where
 pub record HasTargets (rows : List (List Edge)) (n : ℕ) (targets : List ℕ) : Type 0 where
   pub row : List Edge
   pub at : slice_get rows n ≡ Some row
-  pub are : targets_of row ≡ targets
+  pub targets_are : targets_of row ≡ targets
 
 -- The edges have the same symbols as the row of state n.
 pub record HasSymbolsOfRow (rows : List (List Edge)) (n : ℕ) (edges : List Edge) : Type 0 where
@@ -128,7 +128,7 @@ pub record HasSymbolsOfRow (rows : List (List Edge)) (n : ℕ) (edges : List Edg
 pub record IsMerged (g : PlainGrammar) (a : Automaton) : Type 0 where
   pub first : MergeState
   pub last : MergeState
-  pub begun : IsInitial g first
+  pub is_initial : IsInitial g first
   pub steps : MergeSteps g first last
   pub done : last.queue ≡ []
   pub states : List ℕ
@@ -148,13 +148,13 @@ pub record StepExceeds (g : PlainGrammar) (limit : ℕ) (old : MergeState) : Typ
   pub moving : AreMoveSymbols g kernel (symbols ++ rest)
   pub targets : List ℕ
   pub placed : MergeState
-  pub put : PlacesMoves g kernel symbols targets (record { kernels = old.kernels; rows = old.rows; queue = waiting }) placed
-  pub over : limit < length placed.kernels
+  pub moves_placed : PlacesMoves g kernel symbols targets (record { kernels = old.kernels; rows = old.rows; queue = waiting }) placed
+  pub exceeds : limit < length placed.kernels
 
 -- At some time during the construction the list holds more states than the limit.
 pub record MergingExceeds (g : PlainGrammar) (limit : ℕ) : Type 0 where
   pub first : MergeState
-  pub old : MergeState
-  pub begun : IsInitial g first
-  pub steps : MergeSteps g first old
-  pub overruns : StepExceeds g limit old
+  pub last : MergeState
+  pub is_initial : IsInitial g first
+  pub steps : MergeSteps g first last
+  pub step_exceeds : StepExceeds g limit last

@@ -1,6 +1,10 @@
 //! Laws of every automaton of a grammar, and of every merged automaton.
-ghost use Rattle.std.specs.Prelude.{◌≡◌};
-ghost use Rattle.mh_grammar.specs.Plain.{plain_of};
+ghost use Rattle.mh_pager_steps.specs.ReachedConflicts.{ReachesConflict, ReachesAnyConflict};
+ghost use Rattle.mh_items_kernels.specs.KernelTypes.{Automaton as AutomatonOf};
+ghost use Rattle.mh_items_kernels.specs.Conflicts.{AutomatonHasConflict, AutomatonHasAnyConflict};
+ghost use Rattle.mh_canon_states.specs.Canonical.{IsCanonical};
+ghost use Rattle.std.specs.Prelude.{◌≡◌, ◌<◌, ◌^◌, ◌↔◌, length};
+ghost use Rattle.mh_grammar.specs.Plain.{plain_of, PlainGrammar};
 ghost use Rattle.mh_items_kernels.specs.Automaton.{IsAutomaton};
 ghost use Rattle.mh_pager_steps.specs.CoversPaths.{CoversPaths};
 ghost use Rattle.mh_pager_steps.specs.MergeSteps.{IsMerged};
@@ -33,3 +37,12 @@ pub fn is_one_merged<const V: usize, const W: usize>(
     let _left = left;
     let _right = right;
 }
+
+/// Law: merging adds no conflict. A merged automaton has a conflict exactly if a path from a start reaches an item set
+/// with a conflict, and so does the canonical automaton.
+pub fn merging_adds_no_conflict()
+    ensures merged { (g : PlainGrammar) (a : AutomatonOf) → IsMerged g a → length a.kernels < 2 ^ 32 →
+        (AutomatonHasConflict g a ↔ ReachesConflict g) × (AutomatonHasAnyConflict g a ↔ ReachesAnyConflict g) }
+    ensures canonical { (g : PlainGrammar) (c : AutomatonOf) → IsCanonical g c →
+        (AutomatonHasConflict g c ↔ ReachesConflict g) × (AutomatonHasAnyConflict g c ↔ ReachesAnyConflict g) }
+{}

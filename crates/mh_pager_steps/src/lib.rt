@@ -8,5 +8,5 @@ mod laws;
 mod queue;
 
 pub use finding::{StateTest, first_fitting, weakly_compatible};
-pub use laws::{covers_canonical_paths, is_one_merged};
+pub use laws::{covers_canonical_paths, is_one_merged, merging_adds_no_conflict};
 pub use queue::Queue;

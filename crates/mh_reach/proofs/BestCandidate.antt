@@ -41,7 +41,7 @@ best_begins t c facts spots s z r lt refuses e = absurd (omega arith)
 
 module _ (t : TableData) (facts : Stored) (spots : ArrivalList) where
   leads_same : (a : FailureCandidate) → IsNoWorse t facts spots a a
-  leads_same a = inr (refl, λ tale journey k l by by'. (let one = label_unique tale.words journey.labels (step_of a) k l by by' in rw one (lex_refl (numbers_of l))))
+  leads_same a = inr (refl, λ word_assignment label_assignment k l by by'. (let one = label_unique word_assignment.words label_assignment.labels (step_of a) k l by by' in rw one (lex_refl (numbers_of l))))
 
   leads_after : (a b d : FailureCandidate) → HasArrival spots b.spot → IsNoWorse t facts spots a b → IsNoWorse t facts spots b d → IsNoWorse t facts spots a d
   leads_after a b d known (inl h) (inl k) = inl (omega arith)
@@ -108,26 +108,26 @@ module _ (t : TableData) (f : Facts t) (c : TokenClasses) (found : SearchResult)
   rep = rep_of c
 
   abbrev labels : StateAndNext → Option Label
-  labels = h.arrived.journey.labels
+  labels = h.arrived.label_assignment.labels
 
   abbrev words : FactKey → Option (List ℕ)
-  words = h.found_is.tale.words
+  words = h.found_is.word_assignment.words
 
   closed : LabelsClosedBy t rep words (labels_at labels) (HasNoLaterLabel (LabelNoLater t) (labels_at labels))
   closed = closes_all_at t rep (WordNoLater t) (LabelNoLater t) (order_laws t) (label_laws t) words (GotoFactsIn c words found.work) (labels_at labels) (HasNoLater (WordNoLater t) words) h.found_is.closed h.arrived.closed
 
   pub costs_are_capped : CostsAreCapped spots
-  costs_are_capped k r e = let told = h.arrived.journey.some k r e in let m = min_cap (cost_by (weigh t) told.label.word) in let is = told.cost_is in omega (arith, is, m)
+  costs_are_capped k r e = let told = h.arrived.label_assignment.some k r e in let m = min_cap (cost_by (weigh t) told.label.word) in let is = told.cost_is in omega (arith, is, m)
 
   pub has_assignments : HasAssignments t found spots
-  has_assignments = record { tale = h.found_is.tale; journey = h.arrived.journey; numbered = all_numbered t found.store found.numbering h.found_is.tale h.found_is.numbered }
+  has_assignments = record { word_assignment = h.found_is.word_assignment; label_assignment = h.arrived.label_assignment; numbered = all_numbered t found.store found.numbering h.found_is.word_assignment h.found_is.numbered }
 
   -- The state s is reached with the token z next, and refuses z.
   pub record RefusedArrival (s z : ℕ) : Type 0 where
     known : z < t.grammar.tokens
     refuses : run_move_of t s (z ∷ []) ≡ Refuses
     arrival : Arrival
-    there : arrival_at spots (spot_of c s z) ≡ Some arrival
+    arrival_is : arrival_at spots (spot_of c s z) ≡ Some arrival
     label : Label
     is : labels (spot_of c s z) ≡ Some label
     cost_is : arrival.cost ≡ cost_up_to_cap t label.word
@@ -139,27 +139,27 @@ module _ (t : TableData) (f : Facts t) (c : TokenClasses) (found : SearchResult)
       (closed_reached t f rep (WordNoLater t) (LabelNoLater t) (order_laws t) (label_laws t) words h.found_is.complete (labels_at labels) closed) i s w fails in
       let z = got.0 in
       let l = got.1 in
-      let there = arrived_at t words spots h.arrived.journey (spot_of c s z) l got.2.reached_at in
-      let told = h.arrived.journey.some (spot_of c s z) there.0 there.1 in
+      let there = arrived_at t words spots h.arrived.label_assignment (spot_of c s z) l got.2.reached_at in
+      let told = h.arrived.label_assignment.some (spot_of c s z) there.0 there.1 in
       let one : told.label ≡ l = option_unique _ told.label l told.is got.2.reached_at in
-      (z, record { known = got.2.known; refuses = got.2.refuses; arrival = there.0; there = there.1; label = l; is = got.2.reached_at; cost_is = rw one at told.cost_is }, got.3)
+      (z, record { known = got.2.known; refuses = got.2.refuses; arrival = there.0; arrival_is = there.1; label = l; is = got.2.reached_at; cost_is = rw one at told.cost_is }, got.3)
 
   -- A candidate that is no worse than another, by cost and sentence, has a label that comes no later.
   leads_label : (a b : FailureCandidate) (k l : Label) → a.cost ≡ cost_up_to_cap t k.word → b.cost ≡ cost_up_to_cap t l.word → LabelBy words labels (step_of a) k → LabelBy words labels (step_of b) l → IsNoWorse t found.store spots a b → LabelNoLater t k l
   leads_label a b k l e g by by' (inl lt) = cheaper_at t k l a.cost b.cost e g lt
   leads_label a b k l e g by by' (inr (same, first)) = elim (cases_lt a.cost cap) [
-    | inl lt ↦ by_numbers t k l a.cost lt e (same ∙ g) (first h.found_is.tale h.arrived.journey k l by by')
+    | inl lt ↦ by_numbers t k l a.cost lt e (same ∙ g) (first h.found_is.word_assignment h.arrived.label_assignment k l by by')
     | inr ge ↦ both_over t k l a.cost ge e (same ∙ g)
   ]
 
   pub best_at : (s : ℕ) (b : Option FailureCandidate) → IsBestBelow t c found.store spots s t.grammar.tokens b → IsBestAt t words labels s b
-  best_at s None none = λ fails. (let x = candidate s fails.0 fails.1 fails.2 in none x.0 x.1.arrival x.1.known x.1.refuses x.1.there)
+  best_at s None none = λ fails. (let x = candidate s fails.0 fails.1 fails.2 in none x.0 x.1.arrival x.1.known x.1.refuses x.1.arrival_is)
   best_at s (Some b) best =
       let o = best.1 in
       let z = o.0 in
       let on = o.2 in
       let r = on.0 in
-      let told = h.arrived.journey.some (spot_of c s z) r on.2 in
+      let told = h.arrived.label_assignment.some (spot_of c s z) r on.2 in
       let l = told.label in
       let at_spot : b.spot ≡ spot_of c s z = ap (λ (x : FailureCandidate). x.spot) on.3 in
       let token : b.token ≡ z = ap (λ (x : FailureCandidate). x.token) on.3 in
@@ -175,15 +175,15 @@ module _ (t : TableData) (f : Facts t) (c : TokenClasses) (found : SearchResult)
         first = λ i w other. (
             let x = candidate s i w other in
             let k = x.1 in
-            let lead = best.0 x.0 k.arrival k.known k.refuses k.there in
+            let lead = best.0 x.0 k.arrival k.known k.refuses k.arrival_is in
             let one : LabelNoLater t (extended_label l (z ∷ [])) (extended_label k.label (x.0 ∷ [])) =
             leads_label b (best_for t c s x.0 k.arrival) (extended_label l (z ∷ [])) (extended_label k.label (x.0 ∷ [])) weighs (capped_one t f k.label.word x.0 k.arrival.cost k.known k.cost_is) (l, label_is, rw token refl) (k.label, k.is, refl) lead in
-            let all : LabelNoLater t (extended_label l (z ∷ [])) (record { start = i; word = w }) = (label_laws t).after (extended_label l (z ∷ [])) (extended_label k.label (x.0 ∷ [])) (record { start = i; word = w }) one x.2 in
+            let all : LabelNoLater t (extended_label l (z ∷ [])) (record { start = i; word = w }) = (label_laws t).transitive (extended_label l (z ∷ [])) (extended_label k.label (x.0 ∷ [])) (record { start = i; word = w }) one x.2 in
             rw token (in_order t f (extended_label l (z ∷ [])) (record { start = i; word = w }) fails.sentence.tokens other.sentence.tokens all));
       }
 
   pub is_reach : (best : List (Option FailureCandidate)) → AreBest t c found.store spots (length t.states) best → IsReachResult t found.store spots best
-  is_reach best a = record { tale = h.found_is.tale; journey = h.arrived.journey; long = a.long; each = λ s b e. best_at s b (a.each s b e) }
+  is_reach best a = record { word_assignment = h.found_is.word_assignment; label_assignment = h.arrived.label_assignment; len = a.len; each = λ s b e. best_at s b (a.each s b e) }
 
 no_dearer : (t : TableData) (i : ℕ) (u : List ℕ) (i' : ℕ) (v : List ℕ) → InOrderOr t i u i' v → min (cost_of_word t u) cap ≤ min (cost_of_word t v) cap
 no_dearer t i u i' v (inl (inl lt)) = grind (arith, common_steps, lt)
@@ -197,10 +197,10 @@ least_cost t words labels s b h = (
 )
 
 pub all_begin : (t : TableData) (c : TokenClasses) (facts : Stored) (spots : ArrivalList) → AreBest t c facts spots 0 []
-all_begin t c facts spots = record { long = refl; each = λ s b e. absurd (let y : None ≡ Some b = e in cc) }
+all_begin t c facts spots = record { len = refl; each = λ s b e. absurd (let y : None ≡ Some b = e in cc) }
 
 pub all_step : (t : TableData) (c : TokenClasses) (facts : Stored) (spots : ArrivalList) (n : ℕ) (best : List (Option FailureCandidate)) (b : Option FailureCandidate) → AreBest t c facts spots n best → IsBestBelow t c facts spots n t.grammar.tokens b → AreBest t c facts spots (n + 1) (best ++ b ∷ [])
 all_step t c facts spots n best b h k = record {
-  long = (let l = length-append best (b ∷ []) in let m = h.long in omega arith);
-  each = λ s o e. elim (get_cases best b s o e) [ inl was ↦ h.each s o was | inr is ↦ (let at : s ≡ n = is.0 ∙ h.long in rw (at, is.1) k) ];
+  len = (let l = length-append best (b ∷ []) in let m = h.len in omega arith);
+  each = λ s o e. elim (get_cases best b s o e) [ inl was ↦ h.each s o was | inr is ↦ (let at : s ≡ n = is.0 ∙ h.len in rw (at, is.1) k) ];
 }

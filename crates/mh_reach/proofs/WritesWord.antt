@@ -42,27 +42,27 @@ size_push : (sizes : FactKey → ℕ) (ks : List FactKey) (k : FactKey) → size
 size_push sizes [] k = omega arith
 size_push sizes (x ∷ ks) k = let l = size_push sizes ks k in omega arith
 
-module _ (t : TableData) (facts : Facts) (tale : WordAssignment t facts) (k : FactKey) (old new : List FactKey) (spelled more whole : List ℕ) where
+module _ (t : TableData) (facts : Facts) (word_assignment : WordAssignment t facts) (k : FactKey) (old new : List FactKey) (spelled more whole : List ℕ) where
   -- One step keeps the whole word, by the facts that the top fact was derived from.
-  one_on : (back : Back) (a v : List ℕ) → WordBy t tale.words k back v → WordsOf tale.words old a → a ++ (v ++ reverse spelled) ≡ whole → WritesFact t k back old new spelled more → StackSpells tale.words new more whole
+  one_on : (back : Back) (a v : List ℕ) → WordBy t word_assignment.words k back v → WordsOf word_assignment.words old a → a ++ (v ++ reverse spelled) ≡ whole → WritesFact t k back old new spelled more → StackSpells word_assignment.words new more whole
   one_on backs.Empty a v by h is s = rw (s.0, s.1) (a, h, rw by at is)
   one_on (backs.Shifted path) a v by h is s =
       let e : (a ++ by.0) ++ (before_dot t k ++ reverse spelled) ≡ whole = append_assoc a by.0 _ ∙ ap (λ (l : List ℕ). a ++ l) (sym (append_assoc by.0 (before_dot t k) (reverse spelled)) ∙ ap (λ (l : List ℕ). l ++ reverse spelled) (sym by.2)) ∙ is in
-      rw (s.0, s.1) (a ++ by.0, words_push tale.words old path a by.0 h by.1, ap (λ (l : List ℕ). (a ++ by.0) ++ l) (reverse_token (slice_get (rhs_of t.grammar k.production) (k.dot - 1)) spelled) ∙ e)
+      rw (s.0, s.1) (a ++ by.0, words_push word_assignment.words old path a by.0 h by.1, ap (λ (l : List ℕ). (a ++ by.0) ++ l) (reverse_token (slice_get (rhs_of t.grammar k.production) (k.dot - 1)) spelled) ∙ e)
   one_on (backs.Reduced path inner) a v by h is s =
       let e : ((a ++ by.0) ++ by.1) ++ reverse spelled ≡ whole = append_assoc (a ++ by.0) by.1 (reverse spelled) ∙ append_assoc a by.0 (by.1 ++ reverse spelled) ∙ ap (λ (l : List ℕ). a ++ l) (sym (append_assoc by.0 by.1 (reverse spelled)) ∙ ap (λ (l : List ℕ). l ++ reverse spelled) (sym by.4)) ∙ is in
-      rw (s.0, s.1) ((a ++ by.0) ++ by.1, words_push tale.words (old ++ path ∷ []) inner (a ++ by.0) by.1 (words_push tale.words old path a by.0 h by.2) by.3, e)
+      rw (s.0, s.1) ((a ++ by.0) ++ by.1, words_push word_assignment.words (old ++ path ∷ []) inner (a ++ by.0) by.1 (words_push word_assignment.words old path a by.0 h by.2) by.3, e)
 
-  pub next_spells : StackSpells tale.words (old ++ k ∷ []) spelled whole → WritesNextFact t facts k old new spelled more → StackSpells tale.words new more whole
+  pub next_spells : StackSpells word_assignment.words (old ++ k ∷ []) spelled whole → WritesNextFact t facts k old new spelled more → StackSpells word_assignment.words new more whole
   next_spells h s =
-      let p = words_pop tale.words old k h.0 h.1 in
-      let f = fact_of_word t facts tale k p.1 p.3 in
-      let told = tale.some k f.0 f.1 in
-      let v : told.word ≡ p.1 = option_unique (tale.words k) told.word p.1 told.is p.3 in
+      let p = words_pop word_assignment.words old k h.0 h.1 in
+      let f = fact_of_word t facts word_assignment k p.1 p.3 in
+      let told = word_assignment.some k f.0 f.1 in
+      let v : told.word ≡ p.1 = option_unique (word_assignment.words k) told.word p.1 told.is p.3 in
       let is : p.0 ++ (p.1 ++ reverse spelled) ≡ whole = sym (append_assoc p.0 p.1 (reverse spelled)) ∙ ap (λ (l : List ℕ). l ++ reverse spelled) (sym p.4) ∙ h.2 in
       elim (s f.0 f.1) [
         | inl free ↦ (let none : p.1 ≡ [] = sym v ∙ told.short free.0 in rw (free.1, free.2) (p.0, p.2, rw none at is))
-        | inr one ↦ one_on f.0.back p.0 p.1 (rw v at told.by) p.2 is one
+        | inr one ↦ one_on f.0.back p.0 p.1 (rw v at told.word_by) p.2 is one
       ]
 
   one_less : (back : Back) → size_by (sizes_of facts) back ≤ sizes_of facts k → WritesFact t k back old new spelled more → size_of_all (sizes_of facts) new < size_of_all (sizes_of facts) old + sizes_of facts k
@@ -70,10 +70,10 @@ module _ (t : TableData) (facts : Facts) (tale : WordAssignment t facts) (k : Fa
   one_less (backs.Shifted path) le s = rw s.0 (let l = size_push (sizes_of facts) old path in omega arith)
   one_less (backs.Reduced path inner) le s = rw s.0 (let l = size_push (sizes_of facts) old path in let m = size_push (sizes_of facts) (old ++ path ∷ []) inner in omega arith)
 
-  pub next_less : (v : List ℕ) → tale.words k ≡ Some v → WritesNextFact t facts k old new spelled more → size_of_all (sizes_of facts) new < size_of_all (sizes_of facts) (old ++ k ∷ [])
+  pub next_less : (v : List ℕ) → word_assignment.words k ≡ Some v → WritesNextFact t facts k old new spelled more → size_of_all (sizes_of facts) new < size_of_all (sizes_of facts) (old ++ k ∷ [])
   next_less v e s =
-      let f = fact_of_word t facts tale k v e in
-      let told = tale.some k f.0 f.1 in
+      let f = fact_of_word t facts word_assignment k v e in
+      let told = word_assignment.some k f.0 f.1 in
       let l = size_push (sizes_of facts) old k in
       let some = size_positive (sizes_of facts) f.0.back in
       let size = told.size in

@@ -65,7 +65,7 @@ fn is_later(
     left: FailureCandidate,
     right: FailureCandidate,
 ) -> Result<bool, Memory>
-    requires told { HasAssignments table.now found.now arrivals.now.spots }
+    requires assignments { HasAssignments table.now found.now arrivals.now.spots }
     requires left { HasArrival arrivals.now.spots left.spot }
     requires right { HasArrival arrivals.now.spots right.spot }
     ensures { IfOk result (ComesLater table.now found.now.store arrivals.now.spots (step_of left) (step_of right)) }
@@ -84,7 +84,7 @@ fn sooner_of(
     left: FailureCandidate,
     right: FailureCandidate,
 ) -> Result<FailureCandidate, Memory>
-    requires told { HasAssignments table.now found.now arrivals.now.spots }
+    requires assignments { HasAssignments table.now found.now arrivals.now.spots }
     requires left { HasArrival arrivals.now.spots left.spot }
     requires right { HasArrival arrivals.now.spots right.spot }
     ensures { IfOk result (IsBetterOf table.now found.now.store arrivals.now.spots left right) }
@@ -111,7 +111,7 @@ fn first_of(
     best: Option<FailureCandidate>,
     more: Option<FailureCandidate>,
 ) -> Result<Option<FailureCandidate>, Memory>
-    requires told { HasAssignments table.now found.now arrivals.now.spots }
+    requires assignments { HasAssignments table.now found.now arrivals.now.spots }
     requires best { IfSome best (λ b. HasArrival arrivals.now.spots b.spot) }
     requires more { IfSome more (λ b. HasArrival arrivals.now.spots b.spot) }
     ensures { IfOk result (IsBetterOfOptions table.now found.now.store arrivals.now.spots best more) }
@@ -136,7 +136,7 @@ fn best_of(
     state: u32,
 ) -> Result<Option<FailureCandidate>, Memory>
     requires classes { AreTokenClasses table.now classes.now }
-    requires told { HasAssignments table.now found.now arrivals.now.spots }
+    requires assignments { HasAssignments table.now found.now arrivals.now.spots }
     requires arrivals { CostsAreCapped arrivals.now.spots }
     requires state { state < length table.now.states }
     ensures { IfOk result (IsBestBelow table.now classes.now found.now.store arrivals.now.spots state table.now.grammar.tokens) }
@@ -158,7 +158,7 @@ fn all_best(
     arrivals: &Arrivals,
 ) -> Result<Vec<Option<FailureCandidate>>, Memory>
     requires classes { AreTokenClasses table.now classes.now }
-    requires told { HasAssignments table.now found.now arrivals.now.spots }
+    requires assignments { HasAssignments table.now found.now arrivals.now.spots }
     requires arrivals { CostsAreCapped arrivals.now.spots }
     ensures { IfOk result (λ best. AreBest table.now classes.now found.now.store arrivals.now.spots (length table.now.states) best.items) }
 {

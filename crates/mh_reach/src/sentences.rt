@@ -90,7 +90,7 @@ impl<'t> Reach<'t> {
     /// lexicographic order. A sentence that costs at most 1,000,000 must fail there. Fails for want of memory alone.
     pub fn sentence_of(&self, alloc: Global, state: u32) -> Result<Sentence, Memory>
         requires state { state < length self.now.states }
-        requires cheap { FailsWithinMaxCost self.now state }
+        requires within_max_cost { FailsWithinMaxCost self.now state }
         ensures { IfOk result (λ sentence. FailsFirst self.now sentence.start sentence.tokens state) }
     {
         match self.best[state as usize] {

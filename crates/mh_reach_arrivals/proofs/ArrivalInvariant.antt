@@ -67,7 +67,7 @@ module _ (t : TableData) (f : Facts t) (c : TokenClasses) (cls : AreTokenClasses
         token = listed.0;
         few = omega arith;
         label = record { start = start; word = [] };
-        by = refl;
+        label_by = refl;
         cost_is = refl;
         sound = reach_begins t f rep start z start_lt;
       })
@@ -75,20 +75,20 @@ module _ (t : TableData) (f : Facts t) (c : TokenClasses) (cls : AreTokenClasses
   pub arrivals_begin : (q : ArrivalQueue) → QueueGains (IsStartArrival t c) [] q → ArrivalInvariant t c words work [] q 0 []
   arrivals_begin q g =
       record {
-        journey = record { labels = λ k. None; none = λ k e. refl; some = λ k r e. absurd (let y : None ≡ Some r = e in cc) };
+        label_assignment = record { labels = λ k. None; none = λ k e. refl; some = λ k r e. absurd (let y : None ≡ Some r = e in cc) };
         closed = record {
           begins = λ start z start_lt lt.
               let x = rep start z in
               let o : WaitingArrival = record { spot = spot start x; step = steps.Begin start } in
               let l : Label = record { start = start; word = [] } in
-              inr (0, o, l, inl (g.all 0 o (start, start_lt, (x, cls.list_all start z (let e = f.enough_states in omega arith) lt, (refl, refl)))), refl, refl, laws.same l);
+              inr (0, o, l, inl (g.all 0 o (start, start_lt, (x, cls.list_all start z (let e = f.enough_states in omega arith) lt, (refl, refl)))), refl, refl, laws.reflexive l);
           shifts = λ s x z j l e move lt. absurd (let y : None ≡ Some l = e in cc);
-          goes = λ s n y x j l v e way edge. absurd (let y : None ≡ Some l = e in cc);
+          gotos = λ s n y x j l v e way edge. absurd (let y : None ≡ Some l = e in cc);
         };
         sound = λ s z l e. absurd (let y : None ≡ Some l = e in cc);
         items = λ cost o h. start_ok cost o (begun cost o h);
-        low = λ cost o h. omega arith;
-        high = λ k r e. absurd (let y : None ≡ Some r = e in cc);
+        at_least_level = λ cost o h. omega arith;
+        at_most_level = λ k r e. absurd (let y : None ≡ Some r = e in cc);
         before = λ k l m cost o e h by. absurd (let y : None ≡ Some l = e in cc);
       }
     where
@@ -98,28 +98,28 @@ module _ (t : TableData) (f : Facts t) (c : TokenClasses) (cls : AreTokenClasses
 
   module _ (spots : ArrivalList) (old : ArrivalQueue) (level : ℕ) (beside : List WaitingArrival) (good : ArrivalInvariant t c words work spots old level beside) where
     abbrev labels : StateAndNext → Option Label
-    labels = good.journey.labels
+    labels = good.label_assignment.labels
 
     -- If the spot of an arrival that waits is reached, its label comes no later than the sentence of the arrival.
     pub stored_no_later : (s z cost : ℕ) (o : WaitingArrival) (k l : Label) → HasArrival spots o.spot → Waiting old level beside cost o → o.spot ≡ spot s z → LabelBy words labels o.step k → LabelNoLater t k l → HasNoLaterLabel (LabelNoLater t) (labels_at labels) s z l
     stored_no_later s z cost o k l there waits is by le =
-        let told = good.journey.some o.spot there.0 there.1 in
-        (told.label, rw (← is) told.is, laws.after told.label k l (good.before o.spot told.label k cost o told.is waits by) le)
+        let told = good.label_assignment.some o.spot there.0 there.1 in
+        (told.label, rw (← is) told.is, laws.transitive told.label k l (good.before o.spot told.label k cost o told.is waits by) le)
 
     -- Arrivals that wait are moved or dropped; the spot of each arrival that is dropped is reached.
     unfoldable pub invariant_moves : (mid : ArrivalQueue) (level' : ℕ) (other : List WaitingArrival) → ((cost : ℕ) (o : WaitingArrival) → Waiting old level beside cost o → Waiting mid level' other cost o ⊎ HasArrival spots o.spot) →
         ((cost : ℕ) (o : WaitingArrival) → Waiting mid level' other cost o → Waiting old level beside cost o) → ((cost : ℕ) (o : WaitingArrival) → Waiting mid level' other cost o → level' ≤ cost) → level ≤ level' → ArrivalInvariant t c words work spots mid level' other
     invariant_moves mid level' other on back low le = record {
-      journey = good.journey;
+      label_assignment = good.label_assignment;
       closed = record {
         begins = λ j z lt zt. held j (rep j z) (record { start = j; word = [] }) (good.closed.begins j z lt zt);
         shifts = λ s x z j l e move lt. held j (rep j z) (extended_label l (x ∷ [])) (good.closed.shifts s x z j l e move lt);
-        goes = λ s n y x g l v r way edge. held g x (extended_label l v) (good.closed.goes s n y x g l v r way edge);
+        gotos = λ s n y x g l v r way edge. held g x (extended_label l v) (good.closed.gotos s n y x g l v r way edge);
       };
       sound = good.sound;
       items = λ cost o h. good.items cost o (back cost o h);
-      low = low;
-      high = λ k r e. (let h = good.high k r e in omega arith);
+      at_least_level = low;
+      at_most_level = λ k r e. (let h = good.at_most_level k r e in omega arith);
       before = λ k l m cost o e h by. good.before k l m cost o e (back cost o h) by;
     }
       where
@@ -132,27 +132,27 @@ module _ (t : TableData) (f : Facts t) (c : TokenClasses) (cls : AreTokenClasses
 
     -- An arrival that waits has only one sentence.
     pub waiting_label : (later : StateAndNext → Option Label) → ((o : StateAndNext) (u : Label) → labels o ≡ Some u → later o ≡ Some u) → (cost : ℕ) (o : WaitingArrival) (h : Waiting old level beside cost o) (m : Label) → LabelBy words later o.step m → m ≡ (good.items cost o h).label
-    waiting_label later kept cost o h m by = let ok = good.items cost o h in label_unique words later o.step m ok.label by (label_kept words labels later o.step ok.label kept ok.by)
+    waiting_label later kept cost o h m by = let ok = good.items cost o h in label_unique words later o.step m ok.label by (label_kept words labels later o.step ok.label kept ok.label_by)
 
     module _ (flat : (x y : WaitingArrival) (cost : ℕ) → Waits old level x → Waiting old level beside cost y → NoLaterBy t words labels x y) (rising : IsSorted (NoLaterBy t words labels) beside)
         (mid new : ArrivalQueue) (i : WaitingArrival) (next : TakesUnreached spots old mid level i) (more : QueueGains (FollowsArrival t c work i.spot level) mid new) (le_cap : level ≤ cap) where
       abbrev ok : IsSoundArrival t c words labels level i
-      ok = good.items level i (inl next.was)
+      ok = good.items level i (inl next.waited)
 
       abbrev r : Arrival
       r = arrival_for level i
 
       abbrev later : StateAndNext → Option Label
-      later = new_labels t words spots good.journey i.spot r ok.label next.fresh ok.by ok.cost_is
+      later = new_labels t words spots good.label_assignment i.spot r ok.label next.fresh ok.label_by ok.cost_is
 
       kept : (o : StateAndNext) (u : Label) → labels o ≡ Some u → later o ≡ Some u
-      kept = labels_kept t words spots good.journey i.spot r ok.label next.fresh ok.by ok.cost_is
+      kept = labels_kept t words spots good.label_assignment i.spot r ok.label next.fresh ok.label_by ok.cost_is
 
       here : later i.spot ≡ Some ok.label
-      here = labels_here t words spots good.journey i.spot r ok.label next.fresh ok.by ok.cost_is
+      here = labels_here t words spots good.label_assignment i.spot r ok.label next.fresh ok.label_by ok.cost_is
 
       only : (o : StateAndNext) (u : Label) → later o ≡ Some u → (labels o ≡ Some u) ⊎ ((o ≡ i.spot) × (u ≡ ok.label))
-      only = labels_only t words spots good.journey i.spot r ok.label next.fresh ok.by ok.cost_is
+      only = labels_only t words spots good.label_assignment i.spot r ok.label next.fresh ok.label_by ok.cost_is
 
       -- Each arrival that waits waited before, or follows from the arrival that was settled.
       came : (cost : ℕ) (o : WaitingArrival) → Waiting new level beside cost o → Waiting old level beside cost o ⊎ FollowsArrival t c work i.spot level cost o
@@ -169,7 +169,7 @@ module _ (t : TableData) (f : Facts t) (c : TokenClasses) (cls : AreTokenClasses
         ])
         | inr one ↦ (
             let at : i.spot ≡ spot s z = sym (ap (λ (x : WaitingArrival). x.spot) one.1) ∙ is in
-            let same : k ≡ ok.label = label_unique words labels i.step k ok.label (rw one.1 at by) ok.by in
+            let same : k ≡ ok.label = label_unique words labels i.step k ok.label (rw one.1 at by) ok.label_by in
             inl (ok.label, subst (λ (x : StateAndNext). later x ≡ Some ok.label) at here, rw same at le))
       ]
 
@@ -177,8 +177,8 @@ module _ (t : TableData) (f : Facts t) (c : TokenClasses) (cls : AreTokenClasses
       shift_on x z j token move lt =
           let o : WaitingArrival = record { spot = spot j (rep j z); step = steps.Shift i.spot x } in
           let edge : edge_of t i.spot.state (T x) ≡ Some j = f.shifts i.spot.state x j (shifts_from_move t i.spot.state x [] j move) in
-          let s : StepsAlong t c i.spot level x (min (level + cost_of_token t x) cap) o = record { end = j; z = rep j z; token = token; move = move; listed = cls.list_all j z (f.each_target i.spot.state (T x) j edge) lt; cost_is = refl; is = refl } in
-          inr (min (level + cost_of_token t x) cap, o, extended_label ok.label (x ∷ []), inl (more.all (min (level + cost_of_token t x) cap) o (inl (x, s))), refl, (ok.label, here, refl), laws.same (extended_label ok.label (x ∷ [])))
+          let s : StepsAlong t c i.spot level x (min (level + cost_of_token t x) cap) o = record { end = j; following = rep j z; token = token; move = move; listed = cls.list_all j z (f.each_target i.spot.state (T x) j edge) lt; cost_is = refl; is = refl } in
+          inr (min (level + cost_of_token t x) cap, o, extended_label ok.label (x ∷ []), inl (more.all (min (level + cost_of_token t x) cap) o (inl (x, s))), refl, (ok.label, here, refl), laws.reflexive (extended_label ok.label (x ∷ [])))
 
       way_on : (n x g : ℕ) (v : List ℕ) → GotoFactsIn c words work i.spot.state n i.spot.next x v → edge_of t i.spot.state (N n) ≡ Some g → IsPendingLabel t words later (Waiting new level beside) g x (extended_label ok.label v)
       way_on n x g v way edge =
@@ -191,37 +191,37 @@ module _ (t : TableData) (f : Facts t) (c : TokenClasses) (cls : AreTokenClasses
           let there : edge_of t i.spot.state (N n) ≡ Some w.target = rw (from, nonterminal) at known.edge in
           let target : w.target ≡ g = option_unique _ w.target g there edge in
           let o : WaitingArrival = record { spot = spot w.target w.next; step = steps.Goto i.spot w.inner } in
-          let s : StepsOverGoto i.spot level w (min (level + w.cost) cap) o = record { meets = from; begins = first; cost_is = refl; is = refl } in
+          let s : StepsOverGoto i.spot level w (min (level + w.cost) cap) o = record { at_state = from; begins = first; cost_is = refl; is = refl } in
           let at : o.spot ≡ spot g x = rw (target, after) refl in
-          inr (min (level + w.cost) cap, o, extended_label ok.label v, inl (more.all (min (level + w.cost) cap) o (inr (w, way.1, s))), at, (ok.label, v, here, way.3, refl), laws.same (extended_label ok.label v))
+          inr (min (level + w.cost) cap, o, extended_label ok.label v, inl (more.all (min (level + w.cost) cap) o (inr (w, way.1, s))), at, (ok.label, v, here, way.3, refl), laws.reflexive (extended_label ok.label v))
 
       shift_ok : (cost : ℕ) (o : WaitingArrival) → StepsShift t c i.spot level cost o → IsSoundArrival t c words later cost o
       shift_ok cost o (x, s) =
           let edge : edge_of t i.spot.state (T x) ≡ Some s.end = f.shifts i.spot.state x s.end (shifts_from_move t i.spot.state x [] s.end s.move) in
-          let listed = cls.list_only s.end s.z s.listed in
+          let listed = cls.list_only s.end s.following s.listed in
           let before : SoundLabel t rep i.spot.state (rep i.spot.state x) ok.label = rw s.token ok.sound in
           rw (s.cost_is, s.is) (record {
             state = f.each_target i.spot.state (T x) s.end edge;
             token = listed.0;
             few = min_cap (level + cost_of_token t x);
             label = extended_label ok.label (x ∷ []);
-            by = (ok.label, here, refl);
+            label_by = (ok.label, here, refl);
             cost_is = capped_one t f ok.label.word x level (shift_known t f i.spot.state x s.end ok.state s.move) ok.cost_is;
-            sound = reach_shifts t f rep i.spot.state x s.z s.end ok.label ok.state before s.move;
+            sound = reach_shifts t f rep i.spot.state x s.following s.end ok.label ok.state before s.move;
           })
 
       way_ok : (cost : ℕ) (o : WaitingArrival) → Among (StepsOverGoto i.spot level) (complete_paths_at work (place_of c i.spot.state i.spot.next)) cost o → IsSoundArrival t c words later cost o
       way_ok cost o (w, there, s) =
           let known = ways_ok _ w there in
-          let edge : edge_of t i.spot.state (N w.nonterminal) ≡ Some w.target = rw s.meets at known.edge in
-          let half : SoundGoto t rep i.spot.state w.nonterminal w.inner.first w.next w.target known.word = subst (λ (n : ℕ). SoundGoto t rep n w.nonterminal w.inner.first w.next w.target known.word) s.meets known.sound in
+          let edge : edge_of t i.spot.state (N w.nonterminal) ≡ Some w.target = rw s.at_state at known.edge in
+          let half : SoundGoto t rep i.spot.state w.nonterminal w.inner.first w.next w.target known.word = subst (λ (n : ℕ). SoundGoto t rep n w.nonterminal w.inner.first w.next w.target known.word) s.at_state known.sound in
           let way : SoundGoto t rep i.spot.state w.nonterminal i.spot.next w.next w.target known.word = subst (λ (n : ℕ). SoundGoto t rep i.spot.state w.nonterminal n w.next w.target known.word) s.begins half in
           rw (s.cost_is, s.is) (record {
             state = f.each_target i.spot.state (N w.nonterminal) w.target edge;
             token = known.next;
             few = min_cap (level + w.cost);
             label = extended_label ok.label known.word;
-            by = (ok.label, known.word, here, known.stored, refl);
+            label_by = (ok.label, known.word, here, known.stored, refl);
             cost_is = capped_both t ok.label.word known.word level w.cost ok.cost_is known.cost_is;
             sound = reached_by_goto t f rep i.spot.state w.nonterminal i.spot.next w.next w.target ok.label known.word ok.state ok.sound way edge;
           })
@@ -232,7 +232,7 @@ module _ (t : TableData) (f : Facts t) (c : TokenClasses) (cls : AreTokenClasses
 
       each : (cost : ℕ) (o : WaitingArrival) → Waiting new level beside cost o → IsSoundArrival t c words later cost o
       each cost o h = elim (came cost o h) [
-        | inl was ↦ (let k = good.items cost o was in record { state = k.state; token = k.token; few = k.few; label = k.label; by = label_kept words labels later o.step k.label kept k.by; cost_is = k.cost_is; sound = k.sound })
+        | inl was ↦ (let k = good.items cost o was in record { state = k.state; token = k.token; few = k.few; label = k.label; label_by = label_kept words labels later o.step k.label kept k.label_by; cost_is = k.cost_is; sound = k.sound })
         | inr add ↦ follow_ok cost o add
       ]
 
@@ -241,7 +241,7 @@ module _ (t : TableData) (f : Facts t) (c : TokenClasses) (cls : AreTokenClasses
       low_follow cost o (inr s) = rw s.2.cost_is (no_lower level s.0.cost le_cap)
 
       low_all : (cost : ℕ) (o : WaitingArrival) → Waiting new level beside cost o → level ≤ cost
-      low_all cost o h = elim (came cost o h) [ inl was ↦ good.low cost o was | inr add ↦ low_follow cost o add ]
+      low_all cost o h = elim (came cost o h) [ inl was ↦ good.at_least_level cost o was | inr add ↦ low_follow cost o add ]
 
       -- The sentence of an arrival that follows extends the sentence of the settled arrival.
       goes_longer : (cost : ℕ) (o : WaitingArrival) → FollowsArrival t c work i.spot level cost o → (m : Label) → LabelBy words later o.step m → (v : List ℕ) × (m ≡ extended_label ok.label v)
@@ -260,13 +260,13 @@ module _ (t : TableData) (f : Facts t) (c : TokenClasses) (cls : AreTokenClasses
         | inl was ↦ (
             let one = waiting_label later kept cost o was m by in
             let k = good.items cost o was in
-            rw one (flat i o cost next.was was ok.label k.label ok.by k.by))
-        | inr add ↦ (let k = goes_longer cost o add m by in rw k.1 (laws.front ok.label k.0))
+            rw one (flat i o cost next.waited was ok.label k.label ok.label_by k.label_by))
+        | inr add ↦ (let k = goes_longer cost o add m by in rw k.1 (laws.prefix ok.label k.0))
       ]
 
       before_all : (k : StateAndNext) (l m : Label) (cost : ℕ) (o : WaitingArrival) → later k ≡ Some l → Waiting new level beside cost o → LabelBy words later o.step m → LabelNoLater t l m
       before_all k l m cost o e h by = elim (only k l e) [
-        | inl was ↦ laws.after l ok.label m (good.before k l ok.label level i was (inl next.was) ok.by) (no_sooner cost o h m by)
+        | inl was ↦ laws.transitive l ok.label m (good.before k l ok.label level i was (inl next.waited) ok.label_by) (no_sooner cost o h m by)
         | inr is ↦ rw is.1 (no_sooner cost o h m by)
       ]
 
@@ -275,7 +275,7 @@ module _ (t : TableData) (f : Facts t) (c : TokenClasses) (cls : AreTokenClasses
       level_label : (o : WaitingArrival) → FollowsArrival t c work i.spot level level o → (k : Label) → LabelBy words later o.step k → (l : Label) → LabelNoLater t ok.label l → LabelNoLater t k l
       level_label o add k by l le =
           let now = follow_ok level o add in
-          let one : now.label ≡ k = label_unique words later o.step now.label k now.by by in
+          let one : now.label ≡ k = label_unique words later o.step now.label k now.label_by by in
           let more = goes_longer level o add k by in
           let cost_is : level ≡ cost_up_to_cap t (extended_label ok.label more.0).word = rw (one ∙ more.1) at now.cost_is in
           elim (cases_lt level cap) [
@@ -289,7 +289,7 @@ module _ (t : TableData) (f : Facts t) (c : TokenClasses) (cls : AreTokenClasses
             let before = next.only level x was in
             let one = waiting_label later kept level x (inl before) k by in
             let o = good.items level x (inl before) in
-            laws.after k ok.label l (rw one (flat x i level before (inl next.was) o.label ok.label o.by ok.by)) (no_sooner cost y waits l by'))
+            laws.transitive k ok.label l (rw one (flat x i level before (inl next.waited) o.label ok.label o.label_by ok.label_by)) (no_sooner cost y waits l by'))
         | inr add ↦ level_label x add k by l (no_sooner cost y waits l by')
       ]
 
@@ -299,14 +299,14 @@ module _ (t : TableData) (f : Facts t) (c : TokenClasses) (cls : AreTokenClasses
           let two = waiting_label later kept level y (inr (refl, in_y)) l by' in
           let a = good.items level x (inr (refl, in_x)) in
           let b = good.items level y (inr (refl, in_y)) in
-          rw (one, two) (h a.label b.label a.by b.by))) rising
+          rw (one, two) (h a.label b.label a.label_by b.label_by))) rising
 
-      abbrev journey : LabelAssignment t words (spots ++ (i.spot, r) ∷ [])
-      journey = assignment_more t words spots good.journey i.spot r ok.label next.fresh ok.by ok.cost_is
+      abbrev label_assignment : LabelAssignment t words (spots ++ (i.spot, r) ∷ [])
+      label_assignment = assignment_more t words spots good.label_assignment i.spot r ok.label next.fresh ok.label_by ok.cost_is
 
       pub settling_keeps_invariant : ArrivalInvariant t c words work (spots ++ (i.spot, r) ∷ []) new level beside
       settling_keeps_invariant = record {
-        journey = journey;
+        label_assignment = label_assignment;
         closed = record {
           begins = λ j z lt zt. held j (rep j z) (record { start = j; word = [] }) (good.closed.begins j z lt zt);
           shifts = λ s x z j l e move lt. elim (only (spot s (rep s x)) l e) [
@@ -316,8 +316,8 @@ module _ (t : TableData) (f : Facts t) (c : TokenClasses) (cls : AreTokenClasses
                 let token : rep s x ≡ i.spot.next = ap (λ (k : StateAndNext). k.next) is.0 in
                 rw is.1 (shift_on x z j (rw state at token) (rw state at move) lt))
           ];
-          goes = λ s n y x g l v e way edge. elim (only (spot s y) l e) [
-            | inl was ↦ held g x (extended_label l v) (good.closed.goes s n y x g l v was way edge)
+          gotos = λ s n y x g l v e way edge. elim (only (spot s y) l e) [
+            | inl was ↦ held g x (extended_label l v) (good.closed.gotos s n y x g l v was way edge)
             | inr is ↦ (
                 let state : s ≡ i.spot.state = ap (λ (k : StateAndNext). k.state) is.0 in
                 let token : y ≡ i.spot.next = ap (λ (k : StateAndNext). k.next) is.0 in
@@ -332,23 +332,23 @@ module _ (t : TableData) (f : Facts t) (c : TokenClasses) (cls : AreTokenClasses
               rw (state, token, is.1) ok.sound)
         ];
         items = each;
-        low = low_all;
-        high = λ k g e. elim (at_cases spot_keys spots i.spot k r g next.fresh e) [ inl was ↦ good.high k g was | inr is ↦ rw is.1 (omega arith) ];
+        at_least_level = low_all;
+        at_most_level = λ k g e. elim (at_cases spot_keys spots i.spot k r g next.fresh e) [ inl was ↦ good.at_most_level k g was | inr is ↦ rw is.1 (omega arith) ];
         before = before_all;
       }
 
       pub settling_in_order : ArrivalsInOrder t c words work (spots ++ (i.spot, r) ∷ []) new level beside
       unfolding settling_keeps_invariant
-      settling_in_order = record { good = settling_keeps_invariant; flat = flat_all; rising = rising_all }
+      settling_in_order = record { invariant = settling_keeps_invariant; none_earlier = flat_all; rising = rising_all }
 
     pub are_least_arrivals : ((cost : ℕ) (o : WaitingArrival) → Waiting old level beside cost o → ⊥) → AreLeastArrivals t c words work spots
     are_least_arrivals none =
         record {
-          journey = good.journey;
+          label_assignment = good.label_assignment;
           closed = record {
             begins = λ j z lt zt. held j (rep j z) (record { start = j; word = [] }) (good.closed.begins j z lt zt);
             shifts = λ s x z j l e move lt. held j (rep j z) (extended_label l (x ∷ [])) (good.closed.shifts s x z j l e move lt);
-            goes = λ s n y x g l v r way edge. held g x (extended_label l v) (good.closed.goes s n y x g l v r way edge);
+            gotos = λ s n y x g l v r way edge. held g x (extended_label l v) (good.closed.gotos s n y x g l v r way edge);
           };
           sound = good.sound;
         }

@@ -42,22 +42,22 @@ module _ (t : TableData) (f : Facts t) (c : TokenClasses) (cls : AreTokenClasses
   pub level_taken : (mid : ArrivalQueue) (all : List WaitingArrival) → ArrivalInvariant t c words work spots old level [] → TakesAllUnreached spots old mid level all → ArrivalInvariant t c words work spots mid level all
   level_taken mid all good takes =
       let m = moves_taken (IsReachedAlready spots) old mid level all takes in
-      invariant_moves t f c cls words work ways_ok spots old level [] good mid level all m.on m.back (λ cost o h. good.low cost o (m.back cost o h)) (omega arith)
+      invariant_moves t f c cls words work ways_ok spots old level [] good mid level all m.kept_or_done m.back (λ cost o h. good.at_least_level cost o (m.back cost o h)) (omega arith)
 
   -- The separate list is reordered.
   pub level_sorted : (xs ys : List WaitingArrival) → ArrivalInvariant t c words work spots old level xs → HaveSameElements xs ys → ArrivalInvariant t c words work spots old level ys
   level_sorted xs ys good same =
       let m = moves_sorted (IsReachedAlready spots) old level xs ys same in
-      invariant_moves t f c cls words work ways_ok spots old level xs good old level ys m.on m.back (λ cost o h. good.low cost o (m.back cost o h)) (omega arith)
+      invariant_moves t f c cls words work ways_ok spots old level xs good old level ys m.kept_or_done m.back (λ cost o h. good.at_least_level cost o (m.back cost o h)) (omega arith)
 
   module _ (ys : List WaitingArrival) (good : ArrivalInvariant t c words work spots old level ys) where
     abbrev labels : StateAndNext → Option Label
-    labels = good.journey.labels
+    labels = good.label_assignment.labels
 
     level_cost : (x : WaitingArrival) (k : Label) → Contains ys x → LabelBy words labels x.step k → level ≡ cost_up_to_cap t k.word
     level_cost x k there by =
         let ok = good.items level x (inr (refl, there)) in
-        let one : ok.label ≡ k = label_unique words labels x.step ok.label k ok.by by in
+        let one : ok.label ≡ k = label_unique words labels x.step ok.label k ok.label_by by in
         rw one at ok.cost_is
 
     -- Arrivals of one cost, below the highest, that are sorted by start and lexicographically are sorted by their
@@ -73,8 +73,8 @@ module _ (t : TableData) (f : Facts t) (c : TokenClasses) (cls : AreTokenClasses
   pub level_pushed : (mid : ArrivalQueue) (x : WaitingArrival) (xs : List WaitingArrival) → ArrivalsReady t c words work spots old level (x ∷ xs) → QueueGains (IsOne level x) old mid → ArrivalsInOrder t c words work spots mid level xs
   unfolding invariant_moves
   level_pushed mid x xs ready gains = record {
-    good = let m = moves_pushed (IsReachedAlready spots) old mid level x xs gains in invariant_moves t f c cls words work ways_ok spots old level (x ∷ xs) ready.good mid level xs m.on m.back (λ cost o h. ready.good.low cost o (m.back cost o h)) (omega arith);
-    flat = λ o y cost there waits. elim (gains.only level o there) [
+    invariant = let m = moves_pushed (IsReachedAlready spots) old mid level x xs gains in invariant_moves t f c cls words work ways_ok spots old level (x ∷ xs) ready.invariant mid level xs m.kept_or_done m.back (λ cost o h. ready.invariant.at_least_level cost o (m.back cost o h)) (omega arith);
+    none_earlier = λ o y cost there waits. elim (gains.only level o there) [
       | inl was ↦ absurd (ready.none o was)
       | inr is ↦ rw is.1 (first y cost waits)
     ];
@@ -82,29 +82,29 @@ module _ (t : TableData) (f : Facts t) (c : TokenClasses) (cls : AreTokenClasses
   }
     where
       -- The arrival x comes no later than all arrivals that wait.
-      first : (y : WaitingArrival) (cost : ℕ) → Waiting mid level xs cost y → NoLaterBy t words ready.good.journey.labels x y
+      first : (y : WaitingArrival) (cost : ℕ) → Waiting mid level xs cost y → NoLaterBy t words ready.invariant.label_assignment.labels x y
       first y cost (inr beside) k l by by' = ready.rising.0 y beside.1 k l by by'
       first y cost (inl there) k l by by' = elim (gains.only cost y there) [
         | inl was ↦ (
-            let a = ready.good.items level x (inr (refl, contains_here x xs)) in
-            let b = ready.good.items cost y (inl was) in
-            let low = ready.good.low cost y (inl was) in
-            let one : a.label ≡ k = label_unique words ready.good.journey.labels x.step a.label k a.by by in
-            let two : b.label ≡ l = label_unique words ready.good.journey.labels y.step b.label l b.by by' in
+            let a = ready.invariant.items level x (inr (refl, contains_here x xs)) in
+            let b = ready.invariant.items cost y (inl was) in
+            let low = ready.invariant.at_least_level cost y (inl was) in
+            let one : a.label ≡ k = label_unique words ready.invariant.label_assignment.labels x.step a.label k a.label_by by in
+            let two : b.label ≡ l = label_unique words ready.invariant.label_assignment.labels y.step b.label l b.label_by by' in
             elim (cases_lt level cost) [
               | inl lt ↦ cheaper_at t k l level cost (rw one at a.cost_is) (rw two at b.cost_is) lt
               | inr ge ↦ absurd (ready.none y (let same : cost ≡ level = omega arith in rw same at was))
             ])
         | inr is ↦ (
-            let one : k ≡ l = label_unique words ready.good.journey.labels y.step k l (rw (← is.1) at by) by' in
-            rw one ((label_laws t).same l))
+            let one : k ≡ l = label_unique words ready.invariant.label_assignment.labels y.step k l (rw (← is.1) at by) by' in
+            rw one ((label_laws t).reflexive l))
       ]
 
   -- The queue has no arrival of the level left.
   pub level_drained : (mid : ArrivalQueue) (xs : List WaitingArrival) → ArrivalsInOrder t c words work spots old level xs → NoUnreachedLeft spots old mid level → ArrivalsReady t c words work spots mid level xs
   unfolding invariant_moves
   level_drained mid xs order next = record {
-    good = let m = moves_drained (IsReachedAlready spots) old mid level xs next in invariant_moves t f c cls words work ways_ok spots old level xs order.good mid level xs m.on m.back (λ cost o h. order.good.low cost o (m.back cost o h)) (omega arith);
+    invariant = let m = moves_drained (IsReachedAlready spots) old mid level xs next in invariant_moves t f c cls words work ways_ok spots old level xs order.invariant mid level xs m.kept_or_done m.back (λ cost o h. order.invariant.at_least_level cost o (m.back cost o h)) (omega arith);
     none = next.none;
     rising = order.rising;
   }
@@ -113,38 +113,38 @@ module _ (t : TableData) (f : Facts t) (c : TokenClasses) (cls : AreTokenClasses
   pub level_done : ArrivalsReady t c words work spots old level [] → ArrivalInvariant t c words work spots old (level + 1) []
   level_done ready =
       let m = moves_higher (IsReachedAlready spots) old level in
-      invariant_moves t f c cls words work ways_ok spots old level [] ready.good old (level + 1) [] m.on m.back (above old level ready.good.low ready.none) (omega arith)
+      invariant_moves t f c cls words work ways_ok spots old level [] ready.invariant old (level + 1) [] m.kept_or_done m.back (above old level ready.invariant.at_least_level ready.none) (omega arith)
 
 -- The facts and arrivals that sentences are made of.
 
 -- If a step has a sentence, the fact and the arrival that the step refers to are stored.
-pub step_known : (t : TableData) (facts : Stored) (spots : ArrivalList) (tale : WordAssignment t facts) (journey : LabelAssignment t tale.words spots) (step : ArrivalStep) (l : Label) → LabelBy tale.words journey.labels step l → IsKnownStep facts spots step
-step_known t facts spots tale journey (steps.Begin start) l by = tt
-step_known t facts spots tale journey (steps.Shift from token) l by = arrived_at t tale.words spots journey from by.0 by.1
-step_known t facts spots tale journey (steps.Goto from inner) l by = (arrived_at t tale.words spots journey from by.0 by.2, fact_of_word t facts tale inner by.1 by.3)
+pub step_known : (t : TableData) (facts : Stored) (spots : ArrivalList) (word_assignment : WordAssignment t facts) (label_assignment : LabelAssignment t word_assignment.words spots) (step : ArrivalStep) (l : Label) → LabelBy word_assignment.words label_assignment.labels step l → IsKnownStep facts spots step
+step_known t facts spots word_assignment label_assignment (steps.Begin start) l by = tt
+step_known t facts spots word_assignment label_assignment (steps.Shift from token) l by = arrived_at t word_assignment.words spots label_assignment from by.0 by.1
+step_known t facts spots word_assignment label_assignment (steps.Goto from inner) l by = (arrived_at t word_assignment.words spots label_assignment from by.0 by.2, fact_of_word t facts word_assignment inner by.1 by.3)
 
 module _ (t : TableData) (f : Facts t) (c : TokenClasses) (cls : AreTokenClasses t c) (found : SearchResult) (spots : ArrivalList) (old mid : ArrivalQueue) (level : ℕ) (all : List WaitingArrival) (good : ArrivalInvariantFor t c found spots old level []) (takes : TakesAllUnreached spots old mid level all) where
   abbrev words : FactKey → Option (List ℕ)
-  words = good.found_is.tale.words
+  words = good.found_is.word_assignment.words
 
   abbrev pub taken_invariant : ArrivalInvariant t c words found.work spots mid level all
-  taken_invariant = level_taken t f c cls words found.work good.found_is.wholes spots old level mid all good.good takes
+  taken_invariant = level_taken t f c cls words found.work good.found_is.complete_paths spots old level mid all good.invariant takes
 
   pub taken_assignments : HasAssignments t found spots
-  taken_assignments = record { tale = good.found_is.tale; journey = taken_invariant.journey; numbered = all_numbered t found.store found.numbering good.found_is.tale good.found_is.numbered }
+  taken_assignments = record { word_assignment = good.found_is.word_assignment; label_assignment = taken_invariant.label_assignment; numbered = all_numbered t found.store found.numbering good.found_is.word_assignment good.found_is.numbered }
 
   pub taken_known : AreKnownSteps found.store spots all
-  taken_known o there = let ok = taken_invariant.items level o (inr (refl, there)) in step_known t found.store spots good.found_is.tale taken_invariant.journey o.step ok.label ok.by
+  taken_known o there = let ok = taken_invariant.items level o (inr (refl, there)) in step_known t found.store spots good.found_is.word_assignment taken_invariant.label_assignment o.step ok.label ok.label_by
 
   pub taken_ready : (ys : List WaitingArrival) → HaveSameElements all ys → (level < cap → IsSorted (SentenceNoLater t found.store spots) ys) → ArrivalsReady t c words found.work spots mid level ys
   taken_ready ys same rises =
-      let sorted = level_sorted t f c cls words found.work good.found_is.wholes spots mid level all ys taken_invariant same in
-      let journey = sorted.journey in
+      let sorted = level_sorted t f c cls words found.work good.found_is.complete_paths spots mid level all ys taken_invariant same in
+      let label_assignment = sorted.label_assignment in
       record {
-        good = sorted;
+        invariant = sorted;
         none = takes.none;
         rising = elim (cases_lt level cap) [
-          | inl lt ↦ level_rises t f c cls words found.work good.found_is.wholes spots mid level ys sorted lt (rises_by (SentenceNoLater t found.store spots) (λ (x y : WaitingArrival). PrecedesBy words journey.labels x.step y.step) ys (λ x y in_x in_y h. h good.found_is.tale journey) (rises lt))
-          | inr ge ↦ level_over t f c cls words found.work good.found_is.wholes spots mid level ys sorted ge
+          | inl lt ↦ level_rises t f c cls words found.work good.found_is.complete_paths spots mid level ys sorted lt (rises_by (SentenceNoLater t found.store spots) (λ (x y : WaitingArrival). PrecedesBy words label_assignment.labels x.step y.step) ys (λ x y in_x in_y h. h good.found_is.word_assignment label_assignment) (rises lt))
+          | inr ge ↦ level_over t f c cls words found.work good.found_is.complete_paths spots mid level ys sorted ge
         ];
       }

@@ -23,10 +23,10 @@ use Rattle.mh_facts.proofs.Edges.{edge_there}
 module _ (t : TableData) (c : TokenClasses) (k : StateAndNext) (cost token end at : ℕ) (like : rep_of c k.state token ≡ k.next) (move : run_move_of t k.state (token ∷ []) ≡ Shifts end) (at_is : at ≡ min (cost + cost_of_token t token) cap) where
   pub along_gains : (old new : List (Vec WaitingArrival)) → QueueGains (Among (StepsOn at end (steps.Shift k token)) (representatives_at c end)) old new → QueueGains (StepsAlong t c k cost token) old new
   along_gains old new g = gains_by (Among (StepsOn at end (steps.Shift k token)) (representatives_at c end)) (StepsAlong t c k cost token) old new
-      (λ p o h. record { end = end; z = h.0; token = like; move = move; listed = h.1; cost_is = h.2.0 ∙ at_is; is = h.2.1 })
+      (λ p o h. record { end = end; following = h.0; token = like; move = move; listed = h.1; cost_is = h.2.0 ∙ at_is; is = h.2.1 })
       (λ p o s.
       let ends : s.end ≡ end = one_shift s.end end (sym s.move ∙ move) in
-      (s.z, rw ends at s.listed, (s.cost_is ∙ sym at_is, s.is ∙ rw ends refl)))
+      (s.following, rw ends at s.listed, (s.cost_is ∙ sym at_is, s.is ∙ rw ends refl)))
       g
 
 module _ (t : TableData) (f : Facts t) (c : TokenClasses) (k : StateAndNext) (cost : ℕ) where

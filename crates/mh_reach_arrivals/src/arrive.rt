@@ -137,79 +137,85 @@ fn step_shifts(
 }
 
 /// The arrival that follows by a complete path and its goto, if the path begins at the spot.
-fn stepped(from: SettledArrival, whole: CompletePath) -> Option<WaitingArrival>
-    ensures { IsUniqueItem (StepsOverGoto from.spot from.cost whole) (min (from.cost + whole.cost) cap) result }
+fn stepped(from: SettledArrival, complete_path: CompletePath) -> Option<WaitingArrival>
+    ensures { IsUniqueItem (StepsOverGoto from.spot from.cost complete_path) (min (from.cost + complete_path.cost) cap) result }
 {
-    let fits = whole.inner.from == from.spot.state && whole.inner.first == from.spot.next;
+    let fits = complete_path.inner.from == from.spot.state
+        && complete_path.inner.first == from.spot.next;
     if !fits {
         return None;
     }
     Some(WaitingArrival {
         spot: StateAndNext {
-            state: whole.target,
-            next: whole.next,
+            state: complete_path.target,
+            next: complete_path.next,
         },
         step: ArrivalStep::Goto {
             from: from.spot,
-            inner: whole.inner,
+            inner: complete_path.inner,
         },
     })
 }
 
 /// Queues the arrival that follows by a complete path and its goto, if the path begins at the spot.
-fn step_way(
+fn step_goto(
     alloc: Global,
     queue: &mut Queue<WaitingArrival>,
     from: SettledArrival,
-    whole: CompletePath,
+    complete_path: CompletePath,
 ) -> Result<(), Memory>
     requires cost { from.cost ≤ cap }
-    requires whole { whole.cost ≤ cap }
-    ensures { OnOk result (QueueGains (StepsOverGoto from.spot from.cost whole) queue.old.buckets.items queue.new.buckets.items) }
+    requires complete_path { complete_path.cost ≤ cap }
+    ensures { OnOk result (QueueGains (StepsOverGoto from.spot from.cost complete_path) queue.old.buckets.items queue.new.buckets.items) }
 {
-    match stepped(from, whole) {
+    match stepped(from, complete_path) {
         None => Ok(()),
-        Some(coming) => push(alloc, queue, add_costs(from.cost, whole.cost), coming),
+        Some(coming) => push(
+            alloc,
+            queue,
+            add_costs(from.cost, complete_path.cost),
+            coming,
+        ),
     }
 }
 
 /// Queues the arrivals that follow by each of the complete paths that begin at the spot.
-fn step_ways(
+fn step_gotos(
     alloc: Global,
     queue: &mut Queue<WaitingArrival>,
     from: SettledArrival,
-    wholes: &[CompletePath],
+    complete_paths: &[CompletePath],
 ) -> Result<(), Memory>
     requires cost { from.cost ≤ cap }
-    requires wholes { (w : CompletePath) → Contains wholes.now w → w.cost ≤ cap }
-    ensures { OnOk result (QueueGains (Among (StepsOverGoto from.spot from.cost) wholes.now) queue.old.buckets.items queue.new.buckets.items) }
+    requires complete_paths { (w : CompletePath) → Contains complete_paths.now w → w.cost ≤ cap }
+    ensures { OnOk result (QueueGains (Among (StepsOverGoto from.spot from.cost) complete_paths.now) queue.old.buckets.items queue.new.buckets.items) }
 {
-    for whole in wholes {
-        step_way(alloc, queue, from, *whole)?;
+    for complete_path in complete_paths {
+        step_goto(alloc, queue, from, *complete_path)?;
     }
     Ok(())
 }
 
 /// Queues all arrivals that follow from a settled arrival.
-fn go_on(
+fn queue_next(
     alloc: Global,
     table: &Table,
     classes: &TokenClasses,
     queue: &mut Queue<WaitingArrival>,
-    wholes: &[Vec<CompletePath>],
+    complete_paths: &[Vec<CompletePath>],
     from: SettledArrival,
 ) -> Result<(), Memory>
     requires classes { AreTokenClasses table.now classes.now }
-    requires rows { length wholes.now ≡ classes.now.places }
-    requires few { (n : ℕ) (w : CompletePath) → Contains (row_of wholes.now n) w → w.cost ≤ cap }
+    requires rows { length complete_paths.now ≡ classes.now.places }
+    requires few { (n : ℕ) (w : CompletePath) → Contains (row_of complete_paths.now n) w → w.cost ≤ cap }
     requires state { from.spot.state < length table.now.states }
     requires next { from.spot.next < table.now.grammar.tokens }
     requires cost { from.cost ≤ cap }
-    ensures { OnOk result (QueueGains (λ at o. StepsShift table.now classes.now from.spot from.cost at o ⊎ Among (StepsOverGoto from.spot from.cost) (row_of wholes.now (place_of classes.now from.spot.state from.spot.next)) at o) queue.old.buckets.items queue.new.buckets.items) }
+    ensures { OnOk result (QueueGains (λ at o. StepsShift table.now classes.now from.spot from.cost at o ⊎ Among (StepsOverGoto from.spot from.cost) (row_of complete_paths.now (place_of classes.now from.spot.state from.spot.next)) at o) queue.old.buckets.items queue.new.buckets.items) }
 {
     step_shifts(alloc, table, classes, queue, from)?;
     let place = class_of(table, classes, from.spot.state, from.spot.next).place as usize;
-    step_ways(alloc, queue, from, wholes[place].as_slice())
+    step_gotos(alloc, queue, from, complete_paths[place].as_slice())
 }
 
 /// Returns a queue of the arrivals at the beginning of each start, one for each next token.
@@ -298,7 +304,7 @@ fn ordered(
     all: Vec<WaitingArrival>,
     cost: u32,
 ) -> Result<Vec<WaitingArrival>, Memory>
-    requires told { HasAssignments table.now found.now arrivals.now.spots }
+    requires assignments { HasAssignments table.now found.now arrivals.now.spots }
     requires known { AreKnownSteps found.now.store arrivals.now.spots all.items }
     ensures same { IfOk result (λ new. HaveSameElements all.items new.items) }
     ensures rises { cost < cap → IfOk result (λ new. IsSorted (SentenceNoLater table.now found.now.store arrivals.now.spots) new.items) }
@@ -360,8 +366,15 @@ fn arrive_one(
                     spot: coming.spot,
                     cost: level.cost,
                 };
-                let wholes = found.work.wholes.as_slice();
-                go_on(alloc, table, classes, &mut second.queue, wholes, from)?;
+                let complete_paths = found.work.complete_paths.as_slice();
+                queue_next(
+                    alloc,
+                    table,
+                    classes,
+                    &mut second.queue,
+                    complete_paths,
+                    from,
+                )?;
             }
         }
     }
@@ -402,7 +415,7 @@ fn arrive_level(
     cost: u32,
 ) -> Result<(), Memory>
     requires classes { AreTokenClasses table.now classes.now }
-    requires good { ArrivalInvariantFor table.now classes.now found.now second.old.arrivals.spots second.old.queue.buckets.items cost [] }
+    requires invariant { ArrivalInvariantFor table.now classes.now found.now second.old.arrivals.spots second.old.queue.buckets.items cost [] }
     requires cost { cost ≤ cap }
     ensures { OnOk result (ArrivalInvariantFor table.now classes.now found.now second.new.arrivals.spots second.new.queue.buckets.items (cost + 1) []) }
 {
@@ -432,7 +445,7 @@ fn arrive_all(
     second: &mut SecondSearch,
 ) -> Result<(), Memory>
     requires classes { AreTokenClasses table.now classes.now }
-    requires good { ArrivalInvariantFor table.now classes.now found.now second.old.arrivals.spots second.old.queue.buckets.items 0 [] }
+    requires invariant { ArrivalInvariantFor table.now classes.now found.now second.old.arrivals.spots second.old.queue.buckets.items 0 [] }
     ensures { OnOk result (AreLeastArrivalsFor table.now classes.now found.now second.new.arrivals.spots) }
 {
     table.facts();

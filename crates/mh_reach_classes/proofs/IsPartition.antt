@@ -33,7 +33,7 @@ module _ (t : TableData) (none : Type 0) (c : TokenClasses) (h : AreRowsBelow t 
   rep_past s z e = rw e refl
 
   class_there : (s z : ℕ) → s < length t.states → z < t.grammar.tokens → (k : TokenClass) × (class_in c s z ≡ Some k)
-  class_there s z s_lt z_lt = let r = h.each s s_lt in let l = r.2.long in get_within (row_of c.rows.items s) z (omega arith)
+  class_there s z s_lt z_lt = let r = h.each s s_lt in let l = r.2.len in get_within (row_of c.rows.items s) z (omega arith)
 
   class_past : (s z : ℕ) → length t.states ≤ s → class_in c s z ≡ None
   class_past s z le =
@@ -53,7 +53,7 @@ module _ (t : TableData) (none : Type 0) (c : TokenClasses) (h : AreRowsBelow t 
   partition = record {
     sized = record {
       rows = h.rows_long;
-      each_row = λ s lt. (h.each s lt).2.long;
+      each_row = λ s lt. (h.each s lt).2.len;
       lists = h.lists_long;
       placed = λ s z known lt. (let k = class_there s z known lt in let r = h.each s known in let a = r.2.each z k.0 k.1 in rw (place_is s z k.0 k.1) a.1);
     };
@@ -77,12 +77,12 @@ module _ (t : TableData) (none : Type 0) (c : TokenClasses) (h : AreRowsBelow t 
   ]
 
 pub classes_from : (t : TableData) (c : TokenClasses) → IsPartition t c → RepresentativesAgree t (rep_of c) → AreTokenClasses t c
-classes_from t c p like = record { sized = p.sized; in_range = p.in_range; list_all = p.list_all; list_only = p.list_only; like = like }
+classes_from t c p like = record { sized = p.sized; in_range = p.in_range; list_all = p.list_all; list_only = p.list_only; agree = like }
 
 pub tokens_alike : (t : TableData) (c : TokenClasses) → RepresentThemselves t c → RepresentativesAgree t (rep_of c)
 tokens_alike t c same = record {
-  there = λ s q e g z end edge lt move. (let x = same g z lt in (rw x move, rw x refl));
-  back = λ s q e g z end edge lt move. (let x = same g z lt in rw x at move);
+  to_representative = λ s q e g z end edge lt move. (let x = same g z lt in (rw x move, rw x refl));
+  from_representative = λ s q e g z end edge lt move. (let x = same g z lt in rw x at move);
 }
 
 pub token_classes_of_result : {E : Type 0} (t : TableData) (r : Result TokenClasses E) → IfOk r (IsPartition t) → IfOk r (λ c. RepresentThemselves t c) → IfOk r (AreTokenClasses t)

@@ -8,7 +8,7 @@ use Rattle.mh_reach_classes.specs.code.ClassRows.{IsClassOf, IsAtRepresentative,
 
 pub row_begins : (given : List ℕ) (count : ℕ) → IsClassRow 0 given [] [] count
 row_begins given count = record {
-  long = refl;
+  len = refl;
   each = λ z k e. absurd (let y : None ≡ Some k = e in cc);
   nothing = λ n z k e. absurd (let y : None ≡ Some k = e in cc);
   list_all = λ z k e. absurd (let y : None ≡ Some k = e in cc);
@@ -18,7 +18,7 @@ row_begins given count = record {
 -- The class numbers of a row are also below a higher bound.
 pub row_higher : (n : ℕ) (given : List ℕ) (row : List TokenClass) (list : List ℕ) (old new : ℕ) → old ≤ new → IsClassRow n given row list old → IsClassRow n given row list new
 row_higher n given row list old new le h = record {
-  long = h.long;
+  len = h.len;
   each = λ z k e. (let a = h.each z k e in (a.0, (let p = a.1 in omega arith), a.2));
   nothing = h.nothing;
   list_all = h.list_all;
@@ -30,11 +30,11 @@ module _ (z : ℕ) (given : List ℕ) (row : List TokenClass) (list : List ℕ) 
   one = ok.1 (λ n o e. (h.each n o e).1)
 
   long_more : length (row ++ k ∷ []) ≡ z + 1
-  long_more = let l = length-append row (k ∷ []) in let m = h.long in omega arith
+  long_more = let l = length-append row (k ∷ []) in let m = h.len in omega arith
 
   itself : (o : TokenClass) × (slice_get (row ++ k ∷ []) k.representative ≡ Some o) × (o.representative ≡ k.representative)
   itself = elim one.itself [
-    | inl is ↦ (k, get_last row k k.representative (is ∙ sym h.long), refl)
+    | inl is ↦ (k, get_last row k k.representative (is ∙ sym h.len), refl)
     | inr there ↦ (there.0, get_left row (k ∷ []) k.representative there.0 there.1, there.2)
   ]
 
@@ -47,26 +47,26 @@ module _ (z : ℕ) (given : List ℕ) (row : List TokenClass) (list : List ℕ) 
   nothing_more : given ≡ [] → (n : ℕ) (o : TokenClass) → slice_get (row ++ k ∷ []) n ≡ Some o → o.representative ≡ n
   nothing_more none n o e = elim (get_cases row k n o e) [
     | inl was ↦ h.nothing none n o was
-    | inr is ↦ rw is.1 (one.nothing none ∙ sym h.long ∙ sym is.0)
+    | inr is ↦ rw is.1 (one.nothing none ∙ sym h.len ∙ sym is.0)
   ]
 
   -- The row with one more token, which represents its own class.
   pub row_lists : k.representative ≡ z → IsClassRow (z + 1) given (row ++ k ∷ []) (list ++ z ∷ []) new
   row_lists own = record {
-    long = long_more;
+    len = long_more;
     each = each_more;
     nothing = nothing_more;
     list_all = λ n o e. elim (get_cases row k n o e) [ inl was ↦ Contains-append_left list (z ∷ []) o.representative (h.list_all n o was) | inr is ↦ rw (is.1, own) (contains_last list z) ];
     list_only = λ x there. elim (contains_push list z x there) [
       | inl was ↦ (let a = h.list_only x was in (a.0, get_left row (k ∷ []) x a.0 a.1, a.2))
-      | inr is ↦ (k, get_last row k x (is ∙ sym h.long), own ∙ sym is)
+      | inr is ↦ (k, get_last row k x (is ∙ sym h.len), own ∙ sym is)
     ];
   }
 
   -- The row with one more token, which joins the class of an earlier token.
   pub row_follows : (k.representative ≡ z → ⊥) → IsClassRow (z + 1) given (row ++ k ∷ []) list new
   row_follows other = record {
-    long = long_more;
+    len = long_more;
     each = each_more;
     nothing = nothing_more;
     list_all = λ n o e. elim (get_cases row k n o e) [

@@ -39,14 +39,14 @@ alike_next t c past n r e a h i q lt is = elim (cases_lt i n) [
 
 pub alike_all : (t : TableData) (f : Facts t) (c : TokenClasses) (past : List Reduction) → IsPartition t c → AreAllReductions t past → FirstTreatAlike t c past (length past) → RepresentativesAgree t (rep_of c)
 alike_all t f c past part is h = record {
-  there = λ s q e g z end edge lt move. (
+  to_representative = λ s q e g z end edge lt move. (
       let o = f.ordinary e q (reduces_from_move t e (z ∷ []) q move) in
       let i = get_of past (record { end = e; production = q; target = g }) (is.all s q e g (edge_source t s g (N (lhs_of t.grammar q)) edge) o.0 o.1 end edge) in
-      (h i.0 (record { end = e; production = q; target = g }) i.1 i.2 z lt).there move);
-  back = λ s q e g z end edge lt move. (
+      (h i.0 (record { end = e; production = q; target = g }) i.1 i.2 z lt).to_representative move);
+  from_representative = λ s q e g z end edge lt move. (
       let o = f.ordinary e q (reduces_from_move t e (rep_of c g z ∷ []) q move) in
       let i = get_of past (record { end = e; production = q; target = g }) (is.all s q e g (edge_source t s g (N (lhs_of t.grammar q)) edge) o.0 o.1 end edge) in
-      (h i.0 (record { end = e; production = q; target = g }) i.1 i.2 z lt).back move);
+      (h i.0 (record { end = e; production = q; target = g }) i.1 i.2 z lt).from_representative move);
 }
 
 row_front : {X : Type 0} (rows : List (Vec X)) (v : Vec X) (n : ℕ) → n < length rows → row_of (rows ++ v ∷ []) n ≡ row_of rows n
@@ -80,10 +80,10 @@ rows_step t none rows lists n old new g row list le given ok h = record {
 }
 
 pub alike_both : (t : TableData) (c : TokenClasses) (r : Reduction) (z : ℕ) → run_move_of t r.end (z ∷ []) ≡ Reduces r.production → run_move_of t r.end (rep_of c r.target z ∷ []) ≡ Reduces r.production → rep_of c r.end z ≡ rep_of c r.end (rep_of c r.target z) → TreatsAlike t c r z
-alike_both t c r z there back same = record { there = λ m. (back, same); back = λ m. there }
+alike_both t c r z there back same = record { to_representative = λ m. (back, same); from_representative = λ m. there }
 
 pub alike_none : (t : TableData) (c : TokenClasses) (r : Reduction) (z : ℕ) → (run_move_of t r.end (z ∷ []) ≡ Reduces r.production → ⊥) → (run_move_of t r.end (rep_of c r.target z ∷ []) ≡ Reduces r.production → ⊥) → TreatsAlike t c r z
-alike_none t c r z there back = record { there = λ m. absurd (there m); back = λ m. absurd (back m) }
+alike_none t c r z there back = record { to_representative = λ m. absurd (there m); from_representative = λ m. absurd (back m) }
 
 pub alike_by : (t : TableData) (c : TokenClasses) (r : Reduction) (z other here same : ℕ) (there back : Bool) → other ≡ rep_of c r.target z → IsTrue there ↔ (run_move_of t r.end (z ∷ []) ≡ Reduces r.production) → IsTrue back ↔ (run_move_of t r.end (other ∷ []) ≡ Reduces r.production)
     → here ≡ rep_of c r.end z → same ≡ rep_of c r.end other → IsTrue (are_treated_alike there back (nat_eq here same)) → TreatsAlike t c r z

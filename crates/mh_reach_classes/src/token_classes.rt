@@ -95,11 +95,10 @@ fn next_place(count: &mut u32) -> u32
     *count - 1
 }
 
-/// The class that `given` chooses for a token: the class of a lower token that represents itself; none if it chooses no
-/// such token.
+/// The class of the earlier token that `given` has for this token, if that token represents itself; else none.
 fn followed(row: &[TokenClass], given: &[Token], token: Token) -> Option<TokenClass>
     requires { length row.now ≡ token }
-    ensures stands { IfSome result (IsAtRepresentative row.now) }
+    ensures at_representative { IfSome result (IsAtRepresentative row.now) }
     ensures nothing { given.now ≡ [] → result ≡ None }
 {
     match given.get(token as usize) {
@@ -117,7 +116,7 @@ fn followed(row: &[TokenClass], given: &[Token], token: Token) -> Option<TokenCl
     }
 }
 
-/// The class of the next token of a row: the class that `given` chooses, or else a new class.
+/// The class of the next token of a row: that of its representative by `given` (see `followed`), or else a new class.
 fn class_for(row: &[TokenClass], given: &[Token], token: Token, count: &mut u32) -> TokenClass
     requires { length row.now ≡ token }
     ensures { IsClassFor row.now given.now token count.old count.new result }

@@ -8,9 +8,9 @@ use Rattle.mh_facts.proofs.WordAssignment.{one_word_assignment}
 use Rattle.mh_reach_found.specs.declared.numbers.WordNumbering.{WordNumbering}
 use Rattle.mh_reach_found.specs.code.WordNumbers.{FactsAreNumbered, AllNumbered}
 
-pub all_numbered : (t : TableData) (facts : Facts) (numbering : WordNumbering) (tale : WordAssignment t facts) → FactsAreNumbered facts tale.words (cap + 1) numbering → AllNumbered t facts numbering
-all_numbered t facts numbering tale h other = record {
-  long = h.long;
-  each = λ n m k f w at num is lt. h.each n m k f w at num (one_word_assignment t facts other tale k w is) lt;
+pub all_numbered : (t : TableData) (facts : Facts) (numbering : WordNumbering) (word_assignment : WordAssignment t facts) → FactsAreNumbered facts word_assignment.words (cap + 1) numbering → AllNumbered t facts numbering
+all_numbered t facts numbering word_assignment h other = record {
+  len = h.len;
+  each = λ n m k f w at num is lt. h.each n m k f w at num (one_word_assignment t facts other word_assignment k w is) lt;
   below = h.below;
 }

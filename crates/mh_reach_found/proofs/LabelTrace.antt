@@ -25,7 +25,7 @@ module _ (t : TableData) (words : FactKey → Option (List ℕ)) (spots : Arriva
       by (Some r) s = (r, s)
 
   label_by : (k : StateAndNext) (l : Label) (r : Arrival) → j.labels k ≡ Some l → arrival_at spots k ≡ Some r → LabelBy words j.labels r.step l
-  label_by k l r e a = let told = j.some k r a in let one : told.label ≡ l = option_unique (j.labels k) told.label l told.is e in rw one at told.by
+  label_by k l r e a = let told = j.some k r a in let one : told.label ≡ l = option_unique (j.labels k) told.label l told.is e in rw one at told.label_by
 
   pub begin_walk : (k : StateAndNext) (spelled : List ℕ) (start begun : ℕ) (whole : List ℕ) (r : Arrival) → arrival_at spots k ≡ Some r → r.step ≡ steps.Begin begun → LeadsTo j.labels k spelled start whole → (begun ≡ start) × (reverse spelled ≡ whole)
   begin_walk k spelled start begun whole r a is h =

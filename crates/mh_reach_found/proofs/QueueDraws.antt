@@ -35,7 +35,7 @@ module _ {X : Type 0} (Done : X → Type 0) where
 
   pub draws_one : (Fresh : X → Type 0) (old mid new : List (Vec X)) (cost : ℕ) (i : X) → Thinned old mid → TakesItem mid new cost i → Fresh i → DrawsOne Done Fresh old new cost i
   draws_one Fresh old mid new cost i h t fresh = record {
-    was = h.only cost i t.was;
+    waited = h.only cost i t.waited;
     fresh = fresh;
     kept = λ c o w. elim (h.kept c o w) [
       | inl there ↦ (elim (t.kept c o there) [ inl still ↦ inl (inl still) | inr is ↦ inr is ])
@@ -60,7 +60,7 @@ module _ {X : Type 0} (Done : X → Type 0) where
       | inr beside ↦ inr (beside.0, rw is (Contains-append_left before (i ∷ []) o beside.1))
     ];
     only = λ c o w. h.only c o (t.only c o w);
-    each = λ o there. elim (contains_push before i o (rw is at there)) [ inl was ↦ h.each o was | inr one ↦ rw one (h.only cost i t.was) ];
+    each = λ o there. elim (contains_push before i o (rw is at there)) [ inl was ↦ h.each o was | inr one ↦ rw one (h.only cost i t.waited) ];
   }
   drawn_more old mid new cost i before after h t (inr is) = record {
     kept = λ c o w. elim (h.kept c o w) [
@@ -88,12 +88,12 @@ module _ {X : Type 0} (Done : X → Type 0) where
 
   -- Each item that waited still waits or is done, and no other item waits.
   pub record Moves (old new : ℕ → X → Type 0) : Type 0 where
-    pub on : (cost : ℕ) (o : X) → old cost o → new cost o ⊎ Done o
+    pub kept_or_done : (cost : ℕ) (o : X) → old cost o → new cost o ⊎ Done o
     pub back : (cost : ℕ) (o : X) → new cost o → old cost o
 
   -- The items of the level's cost are moved from the queue to the separate list.
   pub moves_taken : (old mid : List (Vec X)) (level : ℕ) (all : List X) → DrawsAll Done old mid level all → Moves (WaitsOrIsListed old level []) (WaitsOrIsListed mid level all)
-  moves_taken old mid level all takes = record { on = on; back = back }
+  moves_taken old mid level all takes = record { kept_or_done = on; back = back }
     where
       on : (cost : ℕ) (o : X) → WaitsOrIsListed old level [] cost o → WaitsOrIsListed mid level all cost o ⊎ Done o
       on cost o (inl there) = elim (takes.taken.kept cost o there) [ inl left ↦ (elim left [ inl still ↦ inl (inl still) | inr done ↦ inr done ]) | inr beside ↦ inl (inr beside) ]
@@ -105,7 +105,7 @@ module _ {X : Type 0} (Done : X → Type 0) where
 
   -- The separate list is reordered.
   pub moves_sorted : (q : List (Vec X)) (level : ℕ) (xs ys : List X) → HaveSameElements xs ys → Moves (WaitsOrIsListed q level xs) (WaitsOrIsListed q level ys)
-  moves_sorted q level xs ys same = record { on = on; back = back }
+  moves_sorted q level xs ys same = record { kept_or_done = on; back = back }
     where
       on : (cost : ℕ) (o : X) → WaitsOrIsListed q level xs cost o → WaitsOrIsListed q level ys cost o ⊎ Done o
       on cost o (inl there) = inl (inl there)
@@ -117,7 +117,7 @@ module _ {X : Type 0} (Done : X → Type 0) where
 
   -- The first item of the separate list is moved to the queue.
   pub moves_pushed : (old mid : List (Vec X)) (level : ℕ) (x : X) (xs : List X) → QueueGains (IsOne level x) old mid → Moves (WaitsOrIsListed old level (x ∷ xs)) (WaitsOrIsListed mid level xs)
-  moves_pushed old mid level x xs gains = record { on = on; back = back }
+  moves_pushed old mid level x xs gains = record { kept_or_done = on; back = back }
     where
       on : (cost : ℕ) (o : X) → WaitsOrIsListed old level (x ∷ xs) cost o → WaitsOrIsListed mid level xs cost o ⊎ Done o
       on cost o (inl there) = inl (inl (gains.kept cost o there))
@@ -129,7 +129,7 @@ module _ {X : Type 0} (Done : X → Type 0) where
 
   -- The queue has no item of the level left.
   pub moves_drained : (old mid : List (Vec X)) (level : ℕ) (xs : List X) → DrawsNone Done old mid level → Moves (WaitsOrIsListed old level xs) (WaitsOrIsListed mid level xs)
-  moves_drained old mid level xs next = record { on = on; back = back }
+  moves_drained old mid level xs next = record { kept_or_done = on; back = back }
     where
       on : (cost : ℕ) (o : X) → WaitsOrIsListed old level xs cost o → WaitsOrIsListed mid level xs cost o ⊎ Done o
       on cost o (inl there) = elim (next.kept cost o there) [ inl still ↦ inl (inl still) | inr done ↦ inr done ]
@@ -141,7 +141,7 @@ module _ {X : Type 0} (Done : X → Type 0) where
 
   -- The level is finished, and the next one begins.
   pub moves_higher : (q : List (Vec X)) (level : ℕ) → Moves (WaitsOrIsListed q level []) (WaitsOrIsListed q (level + 1) [])
-  moves_higher q level = record { on = on; back = back }
+  moves_higher q level = record { kept_or_done = on; back = back }
     where
       on : (cost : ℕ) (o : X) → WaitsOrIsListed q level [] cost o → WaitsOrIsListed q (level + 1) [] cost o ⊎ Done o
       on cost o (inl there) = inl (inl there)

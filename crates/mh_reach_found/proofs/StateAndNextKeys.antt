@@ -29,7 +29,7 @@ pub same_spot_refl : (k : StateAndNext) → same_spot k k ≡ true
 same_spot_refl k = rw (number_same k.state, number_same k.next) refl
 
 pub spot_keys : AreKeys same_spot
-spot_keys = record { one = equal_from_same_spot; agree = same_spot_refl }
+spot_keys = record { equal = equal_from_same_spot; agree = same_spot_refl }
 
 pub label_unique : (words : FactKey → Option (List ℕ)) (labels : StateAndNext → Option Label) (step : ArrivalStep) (k l : Label) → LabelBy words labels step k → LabelBy words labels step l → k ≡ l
 label_unique words labels (steps.Begin start) k l a b = a ∙ sym b

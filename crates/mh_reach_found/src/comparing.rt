@@ -65,7 +65,7 @@ pub fn comes_later(
     left: ArrivalStep,
     right: ArrivalStep,
 ) -> Result<bool, Memory>
-    requires assigned { HasAssignments table.now found.now arrivals.now.spots }
+    requires assignments { HasAssignments table.now found.now arrivals.now.spots }
     requires left { IsKnownStep found.now.store arrivals.now.spots left }
     requires right { IsKnownStep found.now.store arrivals.now.spots right }
     ensures { IfOk result (ComesLater table.now found.now.store arrivals.now.spots left right) }

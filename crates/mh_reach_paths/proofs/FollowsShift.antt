@@ -30,10 +30,10 @@ module _ (t : TableData) (f : Facts t) (c : TokenClasses) (cls : AreTokenClasses
       (λ at o h.
       let z = h.0 in
       let listed = cls.list_only end z h.1 in
-      record { x = token; end = end; z = z; symbol = symbol; token = like; move = move; known = listed.0; cost_is = h.2.0 ∙ cost_is; is = h.2.1 ∙ form z ∙ rw listed.1 refl })
+      record { shifted = token; end = end; following = z; symbol = symbol; token = like; move = move; known = listed.0; cost_is = h.2.0 ∙ cost_is; is = h.2.1 ∙ form z ∙ rw listed.1 refl })
       (λ at o s.
-      let same : s.x ≡ token = (let y : Some (T s.x) ≡ Some (T token) = sym s.symbol ∙ symbol in let z : T s.x ≡ T token = cc in cc) in
+      let same : s.shifted ≡ token = (let y : Some (T s.shifted) ≡ Some (T token) = sym s.symbol ∙ symbol in let z : T s.shifted ≡ T token = cc in cc) in
       let ends : s.end ≡ end = one_shift s.end end (sym (rw same at s.move) ∙ move) in
       let known = f.each_target p.end (T token) end (shift_target t f p.end token end move) in
-      (rep_of c end s.z, cls.list_all end s.z known s.known, (s.cost_is ∙ rw same refl ∙ sym cost_is, s.is ∙ rw ends refl ∙ sym (form (rep_of c end s.z)))))
+      (rep_of c end s.following, cls.list_all end s.following known s.known, (s.cost_is ∙ rw same refl ∙ sym cost_is, s.is ∙ rw ends refl ∙ sym (form (rep_of c end s.following)))))
       g

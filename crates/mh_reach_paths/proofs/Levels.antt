@@ -26,13 +26,13 @@ use Rattle.mh_reach_paths.proofs.SearchSteps.{EqualButQueue, invariant_moves}
 module _ (t : TableData) (f : Facts t) (c : TokenClasses) (cls : AreTokenClasses t c) (facts : Stored) (old : SearchData) (level : ℕ) where
   -- The items of the level's cost are moved from the queue to a separate list.
   unfoldable pub level_taken : (mid : SearchData) (all : List QueuedFact) → LevelInvariant t c facts old level [] → EqualButQueue old mid → TakesAllUnsettled facts (queue_of old) (queue_of mid) level all → LevelInvariant t c facts mid level all
-  level_taken mid all good same taken = let m = moves_taken (IsItemSettled facts) (queue_of old) (queue_of mid) level all taken in invariant_moves t f c cls facts old level [] good mid all same m.on m.back
+  level_taken mid all good same taken = let m = moves_taken (IsItemSettled facts) (queue_of old) (queue_of mid) level all taken in invariant_moves t f c cls facts old level [] good mid all same m.kept_or_done m.back
 
   -- The separate list is reordered.
   unfoldable pub level_sorted : (xs ys : List QueuedFact) → LevelInvariant t c facts old level xs → ((o : QueuedFact) → Contains xs o → Contains ys o) → ((o : QueuedFact) → Contains ys o → Contains xs o) → LevelInvariant t c facts old level ys
   level_sorted xs ys good kept only =
       let m = moves_sorted (IsItemSettled facts) (queue_of old) level xs ys (record { kept = kept; only = only }) in
-      invariant_moves t f c cls facts old level xs good old ys (record { paths = refl; wholes = refl; known = refl }) m.on m.back
+      invariant_moves t f c cls facts old level xs good old ys (record { paths = refl; complete_paths = refl; known = refl }) m.kept_or_done m.back
 
   -- Items of the highest cost are sorted in any order.
   pub rises_over : (words : FactKey → Option (List ℕ)) → level ≡ cap → (ys : List QueuedFact) → ((o : QueuedFact) → Contains ys o → IsSoundItem t (rep_of c) words level o) → AreSortedByWord t words ys
@@ -41,8 +41,8 @@ module _ (t : TableData) (f : Facts t) (c : TokenClasses) (cls : AreTokenClasses
     λ o u v there by by'.
         let a = each y (0, omega arith, refl) in
         let b = each o (contains_there y ys o there) in
-        let e : u ≡ a.word = word_one t words y.key y.back u a.word by a.by in
-        let g : v ≡ b.word = word_one t words o.key o.back v b.word by' b.by in
+        let e : u ≡ a.word = word_one t words y.key y.back u a.word by a.word_by in
+        let g : v ≡ b.word = word_one t words o.key o.back v b.word by' b.word_by in
         rw (e, g) (no_later_at_cap t a.word b.word (sym top ∙ a.cost_is) (sym top ∙ b.cost_is)),
     rises_over words top ys (λ o there. each o (contains_there y ys o there)),
   )
@@ -51,34 +51,34 @@ module _ (t : TableData) (f : Facts t) (c : TokenClasses) (cls : AreTokenClasses
   unfoldable pub level_pushed : (mid : SearchData) (x : QueuedFact) (xs : List QueuedFact) → LevelReady t c facts old level (x ∷ xs) → EqualButQueue old mid → QueueGains (IsOne level x) (queue_of old) (queue_of mid) → LevelInOrder t c facts mid level xs
   unfolding invariant_moves
   level_pushed mid x xs ready same gains = record {
-    good = let m = moves_pushed (IsItemSettled facts) (queue_of old) (queue_of mid) level x xs gains in invariant_moves t f c cls facts old level (x ∷ xs) ready.good mid xs same m.on m.back;
-    flat = flat;
+    invariant = let m = moves_pushed (IsItemSettled facts) (queue_of old) (queue_of mid) level x xs gains in invariant_moves t f c cls facts old level (x ∷ xs) ready.invariant mid xs same m.kept_or_done m.back;
+    none_earlier = flat;
     rising = ready.rising.1;
   }
     where
-      here : IsSoundItem t (rep_of c) ready.good.tale.words level x
-      here = ready.good.items level x (inr (refl, (0, omega arith, refl)))
+      here : IsSoundItem t (rep_of c) ready.invariant.word_assignment.words level x
+      here = ready.invariant.items level x (inr (refl, (0, omega arith, refl)))
 
       -- The item x comes no later than all items that wait.
-      first : (i : QueuedFact) (cost : ℕ) (u v : List ℕ) → Waiting mid level xs cost i → WordBy t ready.good.tale.words x.key x.back u → WordBy t ready.good.tale.words i.key i.back v → WordNoLater t u v
+      first : (i : QueuedFact) (cost : ℕ) (u v : List ℕ) → Waiting mid level xs cost i → WordBy t ready.invariant.word_assignment.words x.key x.back u → WordBy t ready.invariant.word_assignment.words i.key i.back v → WordNoLater t u v
       first i cost u v (inl there) by by' = elim (gains.only cost i there) [
         | inl was ↦ (
-            let ok = ready.good.items cost i (inl was) in
-            let low = ready.good.low cost i (inl was) in
-            let e : u ≡ here.word = word_one t ready.good.tale.words x.key x.back u here.word by here.by in
-            let g : v ≡ ok.word = word_one t ready.good.tale.words i.key i.back v ok.word by' ok.by in
+            let ok = ready.invariant.items cost i (inl was) in
+            let low = ready.invariant.at_least_level cost i (inl was) in
+            let e : u ≡ here.word = word_one t ready.invariant.word_assignment.words x.key x.back u here.word by here.word_by in
+            let g : v ≡ ok.word = word_one t ready.invariant.word_assignment.words i.key i.back v ok.word by' ok.word_by in
             elim (cases_lt level cost) [
               | inl lt ↦ rw (e, g) (no_later_if_cheaper t here.word ok.word level cost here.cost_is ok.cost_is lt)
               | inr ge ↦ absurd (ready.none i (let same : cost ≡ level = omega arith in rw same at was))
             ])
         | inr is ↦ (
-            let by'' : WordBy t ready.good.tale.words x.key x.back v = rw is.1 at by' in
-            let e : v ≡ u = word_one t ready.good.tale.words x.key x.back v u by'' by in
-            rw e ((order_laws t).same u))
+            let by'' : WordBy t ready.invariant.word_assignment.words x.key x.back v = rw is.1 at by' in
+            let e : v ≡ u = word_one t ready.invariant.word_assignment.words x.key x.back v u by'' by in
+            rw e ((order_laws t).reflexive u))
       ]
       first i cost u v (inr beside) by by' = ready.rising.0 i u v beside.1 by by'
 
-      flat : (o i : QueuedFact) (cost : ℕ) (u v : List ℕ) → Waits (queue_of mid) level o → Waiting mid level xs cost i → WordBy t ready.good.tale.words o.key o.back u → WordBy t ready.good.tale.words i.key i.back v → WordNoLater t u v
+      flat : (o i : QueuedFact) (cost : ℕ) (u v : List ℕ) → Waits (queue_of mid) level o → Waiting mid level xs cost i → WordBy t ready.invariant.word_assignment.words o.key o.back u → WordBy t ready.invariant.word_assignment.words i.key i.back v → WordNoLater t u v
       flat o i cost u v there waits by by' = elim (gains.only level o there) [
         | inl was ↦ absurd (ready.none o was)
         | inr is ↦ first i cost u v waits (rw is.1 at by) by'
@@ -88,7 +88,7 @@ module _ (t : TableData) (f : Facts t) (c : TokenClasses) (cls : AreTokenClasses
   unfoldable pub level_drained : (mid : SearchData) (xs : List QueuedFact) → LevelInOrder t c facts old level xs → EqualButQueue old mid → NoUnsettledLeft facts (queue_of old) (queue_of mid) level → LevelReady t c facts mid level xs
   unfolding invariant_moves
   level_drained mid xs order same next = record {
-    good = let m = moves_drained (IsItemSettled facts) (queue_of old) (queue_of mid) level xs next in invariant_moves t f c cls facts old level xs order.good mid xs same m.on m.back;
+    invariant = let m = moves_drained (IsItemSettled facts) (queue_of old) (queue_of mid) level xs next in invariant_moves t f c cls facts old level xs order.invariant mid xs same m.kept_or_done m.back;
     none = next.none;
     rising = order.rising;
   }
@@ -96,15 +96,15 @@ module _ (t : TableData) (f : Facts t) (c : TokenClasses) (cls : AreTokenClasses
   -- The level is finished.
   unfoldable pub level_done : LevelReady t c facts old level [] → LevelInvariant t c facts old (level + 1) []
   level_done ready =
-      let good = ready.good in
+      let good = ready.invariant in
       record {
-        tale = good.tale;
+        word_assignment = good.word_assignment;
         ready = good.ready;
         frontier = record {
           closed = record {
             begins = λ r p a known lt o pk goto. next (good.frontier.closed.begins r p a known lt o pk goto);
             shifts = λ r p d a x z s j v e end symbol move lt. next (good.frontier.closed.shifts r p d a x z s j v e end symbol move lt);
-            wholes = good.frontier.closed.wholes;
+            complete_paths = good.frontier.closed.complete_paths;
             joins = λ r p d a y s n x u v path end symbol way. next (good.frontier.closed.joins r p d a y s n x u v path end symbol way);
           };
           stored = good.frontier.stored;
@@ -112,11 +112,11 @@ module _ (t : TableData) (f : Facts t) (c : TokenClasses) (cls : AreTokenClasses
           before = λ k l u m e h. good.frontier.before k l u m e (h.0, h.1, was h.0 h.1 h.2, h.3, h.4);
         };
         items = λ cost i h. good.items cost i (was cost i h);
-        low = above (queue_of old) level good.low ready.none;
-        high = (let h = good.high in omega arith);
+        at_least_level = above (queue_of old) level good.at_least_level ready.none;
+        at_most_level = (let h = good.at_most_level in omega arith);
         paths = good.paths;
         all_paths = good.all_paths;
-        wholes = λ n w h. (let ok = good.wholes n w h in record { few = ok.few; low = (let l = ok.low in omega arith); from = ok.from; edge = ok.edge; next = ok.next; word = ok.word; stored = ok.stored; cost_is = ok.cost_is; short = ok.short; sound = ok.sound });
+        complete_paths = λ n w h. (let ok = good.complete_paths n w h in record { few = ok.few; at_most_level = (let l = ok.at_most_level in omega arith); from = ok.from; edge = ok.edge; next = ok.next; word = ok.word; stored = ok.stored; cost_is = ok.cost_is; short = ok.short; sound = ok.sound });
         filed = good.filed;
       }
     where
@@ -127,7 +127,7 @@ module _ (t : TableData) (f : Facts t) (c : TokenClasses) (cls : AreTokenClasses
       waits cost i (inl there) = inl there
       waits cost i (inr beside) = absurd (contains_none i beside.1)
 
-      next : {k : FactKey} {u : List ℕ} → IsPending (WordNoLater t) ready.good.tale.words (WaitsWithWord t ready.good.tale.words (Waiting old level [])) k u → IsPending (WordNoLater t) ready.good.tale.words (WaitsWithWord t ready.good.tale.words (Waiting old (level + 1) [])) k u
+      next : {k : FactKey} {u : List ℕ} → IsPending (WordNoLater t) ready.invariant.word_assignment.words (WaitsWithWord t ready.invariant.word_assignment.words (Waiting old level [])) k u → IsPending (WordNoLater t) ready.invariant.word_assignment.words (WaitsWithWord t ready.invariant.word_assignment.words (Waiting old (level + 1) [])) k u
       next (inl held) = inl held
       next (inr w) = inr (w.0, ((w.1).0, (w.1).1, waits (w.1).0 (w.1).1 (w.1).2, (w.1).3, (w.1).4), w.2)
 

@@ -47,7 +47,7 @@ number_of_word_more book added m cost w h =
 -- The facts keep their numbers in a longer book.
 pub numbered_more : (facts : Facts) (words : FactKey → Option (List ℕ)) (level : ℕ) (old new : WordNumbering) (added : Words) → new.numbers.items ≡ old.numbers.items → new.book ≡ old.book ++ added → AreBelowGroup new.book (level + 1) → FactsAreNumbered facts words (max 1 level) old → FactsAreNumbered facts words (level + 1) new
 numbered_more facts words level old new added same grown below h = record {
-  long = ap length same ∙ h.long;
+  len = ap length same ∙ h.len;
   each = λ n m k f w at num is lt. rw grown (number_of_word_more old.book added m f.cost w (h.each n m k f w at (rw same at num) is lt));
   below = below;
 }
@@ -75,7 +75,7 @@ module _ (facts : Facts) (words later : FactKey → Option (List ℕ)) (level : 
   number_was : (n m : ℕ) (l : FactKey) (g : Fact) (u : List ℕ) → slice_get facts n ≡ Some (l, g) → slice_get v.items n ≡ Some m → later l ≡ Some u → g.cost < cap → IsNumberOfWord old.book m g.cost u
   number_was n m l g u at num is lt =
       let within = slice_get_within facts n (l, g) at in
-      let long = h.long in
+      let long = h.len in
       elim (get_cases old.numbers.items word n m (rw pushed at num)) [
         | inl before ↦ (elim (only l u is) [
           | inl was ↦ h.each n m l g u at before was lt
@@ -86,7 +86,7 @@ module _ (facts : Facts) (words later : FactKey → Option (List ℕ)) (level : 
 
   number_new : (n m : ℕ) (l : FactKey) (g : Fact) (u : List ℕ) → n ≡ length facts → l ≡ k → g ≡ f → slice_get v.items n ≡ Some m → later l ≡ Some u → g.cost < cap → IsNumberOfWord old.book m g.cost u
   number_new n m l g u at key_is fact_is num is lt =
-      let long = h.long in
+      let long = h.len in
       elim (get_cases old.numbers.items word n m (rw pushed at num)) [
         | inl before ↦ absurd (let within = slice_get_within old.numbers.items n m before in omega arith)
         | inr last ↦ (
@@ -96,7 +96,7 @@ module _ (facts : Facts) (words later : FactKey → Option (List ℕ)) (level : 
 
   pub numbered_push : FactsAreNumbered (facts ++ (k, f) ∷ []) later level (record { numbers = v; book = old.book })
   numbered_push = record {
-    long = (let a = ap length pushed in let b = length_push old.numbers.items word in let c = length_push facts (k, f) in let d = h.long in omega arith);
+    len = (let a = ap length pushed in let b = length_push old.numbers.items word in let c = length_push facts (k, f) in let d = h.len in omega arith);
     each = λ n m l g u at num is lt. elim (get_cases facts (k, f) n (l, g) at) [
       | inl was ↦ number_was n m l g u was num is lt
       | inr new ↦ number_new n m l g u new.0 (ap (λ (e : FactKey × Fact). e.0) new.1) (ap (λ (e : FactKey × Fact). e.1) new.1) num is lt
@@ -113,7 +113,7 @@ no_later t book level m n u v is lt le a b e g = elim (cases_lt m n) [
   | inr ge ↦ (
       let same : m ≡ n = omega arith in
       let one : u ≡ v = sym a.letters ∙ ap (λ (i : ℕ). letters_of book i) same ∙ b.letters in
-      rw one ((order_laws t).same v))
+      rw one ((order_laws t).reflexive v))
 ]
 
 -- The parts of words.
@@ -129,43 +129,43 @@ cheap_back a b s e lt = grind (arith, common_steps, e, lt)
 
 module _ (t : TableData) (facts : Facts) (numbering : WordNumbering) where
   -- The number of a settled fact has the word of the fact.
-  part_stands : (tale : WordAssignment t facts) (level : ℕ) → FactsAreNumbered facts tale.words level numbering → (k : FactKey) (m : ℕ) (v : List ℕ) → IsNumberOfFact facts numbering k m → tale.words k ≡ Some v → cost_up_to_cap t v < cap → (m < length numbering.book) × (letters_of numbering.book m ≡ v)
-  part_stands tale level h k m v placed is lt =
-      let f = fact_of_word t facts tale k v is in
-      let told = tale.some k f.0 f.1 in
-      let place = placed f.0 f.1 h.long in
-      let one : told.word ≡ v = option_unique (tale.words k) told.word v told.is is in
+  part_stands : (word_assignment : WordAssignment t facts) (level : ℕ) → FactsAreNumbered facts word_assignment.words level numbering → (k : FactKey) (m : ℕ) (v : List ℕ) → IsNumberOfFact facts numbering k m → word_assignment.words k ≡ Some v → cost_up_to_cap t v < cap → (m < length numbering.book) × (letters_of numbering.book m ≡ v)
+  part_stands word_assignment level h k m v placed is lt =
+      let f = fact_of_word t facts word_assignment k v is in
+      let told = word_assignment.some k f.0 f.1 in
+      let place = placed f.0 f.1 h.len in
+      let one : told.word ≡ v = option_unique (word_assignment.words k) told.word v told.is is in
       let cost_is : f.0.cost ≡ cost_up_to_cap t v = told.cost_is ∙ ap (λ (u : List ℕ). cost_up_to_cap t u) one in
       let cheap : f.0.cost < cap = rw cost_is lt in
       let stands = h.each place.0 m k f.0 v place.1 place.2 is cheap in
       (stands.known, stands.letters)
 
   pub made_shifted : (i : QueuedFact) (path : FactKey) (front : ℕ) (last : LastPart) → i.back ≡ backs.Shifted path → IsNumberOfFact facts numbering path front → IsLastPart t i.key last → SpellsItem t facts numbering i (record { front = front; last = last })
-  made_shifted i path front last back placed ends tale level w book h by lt =
-      let b : WordBy t tale.words i.key (backs.Shifted path) w = rw back at by in
+  made_shifted i path front last back placed ends word_assignment level w book h by lt =
+      let b : WordBy t word_assignment.words i.key (backs.Shifted path) w = rw back at by in
       let end = ends numbering.book book in
       let less : cost_up_to_cap t (b.0 ++ before_dot t i.key) < cap = rw b.2 at lt in
-      let one = part_stands tale level h path front b.0 placed b.1 (cheap_front _ _ _ (cost_append (weigh t) b.0 (before_dot t i.key)) less) in
+      let one = part_stands word_assignment level h path front b.0 placed b.1 (cheap_front _ _ _ (cost_append (weigh t) b.0 (before_dot t i.key)) less) in
       record { known = (one.0, end.0); is = rw (one.1, end.1) (sym b.2) }
 
   pub made_reduced : (i : QueuedFact) (path inner : FactKey) (front last : ℕ) → i.back ≡ backs.Reduced path inner → IsNumberOfFact facts numbering path front → IsNumberOfFact facts numbering inner last → SpellsItem t facts numbering i (record { front = front; last = lasts.Word last })
-  made_reduced i path inner front last back placed other tale level w book h by lt =
-      let b : WordBy t tale.words i.key (backs.Reduced path inner) w = rw back at by in
+  made_reduced i path inner front last back placed other word_assignment level w book h by lt =
+      let b : WordBy t word_assignment.words i.key (backs.Reduced path inner) w = rw back at by in
       let less : cost_up_to_cap t (b.0 ++ b.1) < cap = rw b.4 at lt in
-      let one = part_stands tale level h path front b.0 placed b.2 (cheap_front _ _ _ (cost_append (weigh t) b.0 b.1) less) in
-      let two = part_stands tale level h inner last b.1 other b.3 (cheap_back _ _ _ (cost_append (weigh t) b.0 b.1) less) in
+      let one = part_stands word_assignment level h path front b.0 placed b.2 (cheap_front _ _ _ (cost_append (weigh t) b.0 b.1) less) in
+      let two = part_stands word_assignment level h inner last b.1 other b.3 (cheap_back _ _ _ (cost_append (weigh t) b.0 b.1) less) in
       record { known = (one.0, two.0); is = rw (one.1, two.1) (sym b.4) }
 
 pub none_made : (t : TableData) (facts : Facts) (numbering : WordNumbering) (items : List QueuedFact) → SpellItems t facts numbering items 0 []
-none_made t facts numbering items = record { long = refl; each = λ n i m at num. absurd (let y : None ≡ Some m = num in cc) }
+none_made t facts numbering items = record { len = refl; each = λ n i m at num. absurd (let y : None ≡ Some m = num in cc) }
 
 pub made_more : (t : TableData) (facts : Facts) (numbering : WordNumbering) (items : List QueuedFact) (count : ℕ) (made : List WordParts) (i : QueuedFact) (m : WordParts) → SpellItems t facts numbering items count made → slice_get items count ≡ Some i → SpellsItem t facts numbering i m → SpellItems t facts numbering items (count + 1) (made ++ m ∷ [])
 made_more t facts numbering items count made i m h at is = record {
-  long = (let a = h.long in let b = length_push made m in omega arith);
+  len = (let a = h.len in let b = length_push made m in omega arith);
   each = λ n j o there other. elim (get_cases made m n o other) [
     | inl was ↦ h.each n j o there was
     | inr new ↦ (
-        let place : n ≡ count = new.0 ∙ h.long in
+        let place : n ≡ count = new.0 ∙ h.len in
         let same : j ≡ i = get_unique items count j i (rw place at there) at in
         rw (same, new.1) is)
   ];
@@ -173,7 +173,7 @@ made_more t facts numbering items count made i m h at is = record {
 
 pub all_empty : (count : ℕ) (numbers : List ℕ) → numbers ≡ replicate count 0 → AreEmpty count numbers
 all_empty count numbers is = record {
-  long = ap length is ∙ length-replicate count 0;
+  len = ap length is ∙ length-replicate count 0;
   each = λ n m at.
       let lt : n < count = (let within = slice_get_within numbers n m at in let l = ap length is ∙ length-replicate count 0 in omega (arith, within, l)) in
       sym (get_or_from_slice_get numbers n m 0 at) ∙ ap (λ xs. get_or xs n 0) is ∙ get_or-replicate count n 0 0 lt;
@@ -196,10 +196,10 @@ module _ (t : TableData) (facts : Facts) (numbering : WordNumbering) (book : IsB
   spelled_by m there =
       let at = at_contains made m there in
       let within = slice_get_within made at.0 m at.1 in
-      let long = all.long in
+      let long = all.len in
       let i = get_within items at.0 (omega arith) in
       let word = h.each i.0 (contains_at items at.0 i.0 i.1) in
-      (word.0, all.each at.0 i.0 m i.1 at.1 h.tale (max 1 cost) word.0 book h.numbered word.1 (rw (← word.2) lt), word.2)
+      (word.0, all.each at.0 i.0 m i.1 at.1 h.word_assignment (max 1 cost) word.0 book h.numbered word.1 (rw (← word.2) lt), word.2)
 
   pub made_known : AreKnown numbering.book made
   made_known m there = let s = spelled_by m there in (s.1).known
@@ -212,16 +212,16 @@ module _ (t : TableData) (facts : Facts) (numbering : WordNumbering) (book : IsB
 
   pub made_numbered : (new : Words) (numbers : List ℕ) → 0 < cost → IsNumberingOf numbering.book new cost made numbers → ItemsAreNumbered t facts numbering (record { numbers = numbering.numbers; book = new }) cost items numbers
   made_numbered new numbers some n = record {
-    long = n.long ∙ all.long;
+    len = n.len ∙ all.len;
     same = refl;
     added = n.added;
     grown = n.grown;
     below = below;
-    each = λ tale k number i w is at num by cost_is less. (
+    each = λ word_assignment k number i w is at num by cost_is less. (
         let within = slice_get_within items k i at in
-        let long = all.long in
+        let long = all.len in
         let m = get_within made k (omega arith) in
-        let spells = all.each k i m.0 at m.1 tale (max 1 cost) w book is by (rw (← cost_is) less) in
+        let spells = all.each k i m.0 at m.1 word_assignment (max 1 cost) w book is by (rw (← cost_is) less) in
         let one = n.each k m.0 number m.1 num in
         record { known = one.known; group = n.groups number one.fresh one.known; letters = one.letters ∙ spells.is });
   }
@@ -248,12 +248,12 @@ between cost le apart = (
 -- Items of cost 0 have the number of the empty word, and for items of the highest cost numbers do not matter.
 pub plain_numbered : (t : TableData) (facts : Facts) (numbering : WordNumbering) (cost : ℕ) (items : List QueuedFact) (numbers : List ℕ) → IsBook numbering.book → (cost ≡ 0) ⊎ (cost ≡ cap) → AreEmpty (length items) numbers → ItemsAreNumbered t facts numbering numbering cost items numbers
 plain_numbered t facts numbering cost items numbers book plain empty = record {
-  long = empty.long;
+  len = empty.len;
   same = refl;
   added = [];
   grown = sym (append-nil numbering.book);
   below = λ low k k_lt. (let less = low k k_lt in let most : max 1 cost ≤ cost + 1 = one_more cost in omega arith);
-  each = λ tale k number i w is at num by cost_is lt. elim plain [
+  each = λ word_assignment k number i w is at num by cost_is lt. elim plain [
     | inl free ↦ (
         let none : w ≡ [] = word_of_cost_zero t w (free_cost (cost_by (weigh t) w) (sym free ∙ cost_is)) in
         rw (empty.each k number num, free, none) (record { known = book.some; group = book.free; letters = book.empty }))
@@ -264,7 +264,7 @@ plain_numbered t facts numbering cost items numbers book plain empty = record {
 -- An empty store has the book of the empty word alone.
 pub none_numbered : (numbering : WordNumbering) (words : FactKey → Option (List ℕ)) → numbering.numbers.items ≡ [] → numbering.book ≡ empty_word ∷ [] → FactsAreNumbered [] words 1 numbering
 none_numbered numbering words none only = record {
-  long = ap length none;
+  len = ap length none;
   each = λ n m k f w at num is lt. absurd (let y : None ≡ Some (k, f) = at in cc);
   below = rw only empty_below;
 }
@@ -275,7 +275,7 @@ none_numbered numbering words none only = record {
 
 -- A numbering below one level is a numbering below each higher level.
 pub numbered_higher : (facts : Facts) (words : FactKey → Option (List ℕ)) (low high : ℕ) (numbering : WordNumbering) → low ≤ high → FactsAreNumbered facts words low numbering → FactsAreNumbered facts words high numbering
-numbered_higher facts words low high numbering le h = record { long = h.long; each = h.each; below = λ n lt. (let less = h.below n lt in omega arith) }
+numbered_higher facts words low high numbering le h = record { len = h.len; each = h.each; below = λ n lt. (let less = h.below n lt in omega arith) }
 
 pub some_level : (level : ℕ) → 0 < level → max 1 level ≤ level
 some_level level lt = grind (arith, common_steps, lt)

@@ -157,11 +157,11 @@ pub fn begin(alloc: Global, table: &Table, classes: &TokenClasses) -> Result<Sea
 {
     let queue = begin_all(alloc, table, classes)?;
     let paths = empty_rows(alloc, classes.places)?;
-    let wholes = empty_rows(alloc, classes.places)?;
+    let complete_paths = empty_rows(alloc, classes.places)?;
     Ok(SearchData {
         queue,
         paths,
-        wholes,
+        complete_paths,
         known: HashSet::new(alloc),
     })
 }

@@ -10,7 +10,7 @@ ghost use Rattle.mh_facts.specs.declared.work.CompletePath.{CompletePath};
 ghost use Rattle.mh_facts.specs.declared.work.SettledFact.{SettledFact};
 ghost use Rattle.mh_facts.specs.code.Queues.{QueueGains, Among, AddsToRow};
 ghost use Rattle.mh_facts.specs.code.TokenClasses.{AreTokenClasses, rep_of, place_of};
-ghost use Rattle.mh_facts.specs.code.SearchRules.{InRange, FollowsShift, FollowsGoto, IsUniqueItem, HasRows, IsReady, ExpandsFact, complete_path, complete_paths_at};
+ghost use Rattle.mh_facts.specs.code.SearchRules.{InRange, FollowsShift, FollowsGoto, IsUniqueItem, HasRows, IsReady, ExpandsFact, complete_path_of, complete_paths_at};
 ghost use Rattle.mh_tables_core.specs.Run.{Reduces, run_move_of};
 ghost use Rattle.mh_reach_paths.specs.code.GotoFacts.{WithNext, AddsGoto, AddsGotos};
 ghost use Rattle.mh_facts.specs.code.Queues.{ListGains};
@@ -91,30 +91,31 @@ fn shift(
 }
 
 /// The extension of a path by a goto, if the goto begins where the path ends.
-fn joined(table: &Table, path: SettledFact, whole: CompletePath) -> Option<QueuedFact>
+fn joined(table: &Table, path: SettledFact, complete_path: CompletePath) -> Option<QueuedFact>
     requires { InRange table.now path }
-    ensures { IsUniqueItem (FollowsGoto table.now path whole) (min (path.cost + whole.cost) cap) result }
+    ensures { IsUniqueItem (FollowsGoto table.now path complete_path) (min (path.cost + complete_path.cost) cap) result }
 {
     table.facts();
     if path.key.dot >= table.length_of(path.key.production) {
         return None;
     }
-    let fits = whole.inner.from == path.end
-        && whole.inner.first == path.key.next
-        && table.symbol_of(path.key.production, path.key.dot) == Symbol::N(whole.nonterminal);
+    let fits = complete_path.inner.from == path.end
+        && complete_path.inner.first == path.key.next
+        && table.symbol_of(path.key.production, path.key.dot)
+            == Symbol::N(complete_path.nonterminal);
     if !fits {
         return None;
     }
     Some(QueuedFact {
         key: FactKey {
             dot: path.key.dot + 1,
-            next: whole.next,
+            next: complete_path.next,
             ..path.key
         },
-        end: whole.target,
+        end: complete_path.target,
         back: Back::Reduced {
             path: path.key,
-            inner: whole.inner,
+            inner: complete_path.inner,
         },
     })
 }
@@ -125,35 +126,35 @@ fn join(
     table: &Table,
     queue: &mut Queue<QueuedFact>,
     path: SettledFact,
-    whole: CompletePath,
+    complete_path: CompletePath,
 ) -> Result<(), Memory>
     requires path { InRange table.now path }
-    requires whole { whole.cost ≤ cap }
-    ensures { OnOk result (QueueGains (FollowsGoto table.now path whole) queue.old.buckets.items queue.new.buckets.items) }
+    requires complete_path { complete_path.cost ≤ cap }
+    ensures { OnOk result (QueueGains (FollowsGoto table.now path complete_path) queue.old.buckets.items queue.new.buckets.items) }
 {
-    match joined(table, path, whole) {
+    match joined(table, path, complete_path) {
         None => Ok(()),
         Some(item) => {
-            push(alloc, queue, add_costs(path.cost, whole.cost), item)?;
+            push(alloc, queue, add_costs(path.cost, complete_path.cost), item)?;
             Ok(())
         }
     }
 }
 
 /// Queues the extensions of a path by each of the gotos that fit.
-fn join_ways(
+fn join_gotos(
     alloc: Global,
     table: &Table,
     queue: &mut Queue<QueuedFact>,
     path: SettledFact,
-    wholes: &[CompletePath],
+    complete_paths: &[CompletePath],
 ) -> Result<(), Memory>
     requires path { InRange table.now path }
-    requires wholes { (w : CompletePath) → Contains wholes.now w → w.cost ≤ cap }
-    ensures { OnOk result (QueueGains (Among (FollowsGoto table.now path) wholes.now) queue.old.buckets.items queue.new.buckets.items) }
+    requires complete_paths { (w : CompletePath) → Contains complete_paths.now w → w.cost ≤ cap }
+    ensures { OnOk result (QueueGains (Among (FollowsGoto table.now path) complete_paths.now) queue.old.buckets.items queue.new.buckets.items) }
 {
-    for whole in wholes {
-        join(alloc, table, queue, path, *whole)?;
+    for complete_path in complete_paths {
+        join(alloc, table, queue, path, *complete_path)?;
     }
     Ok(())
 }
@@ -164,14 +165,14 @@ fn join_paths(
     table: &Table,
     queue: &mut Queue<QueuedFact>,
     paths: &[SettledFact],
-    whole: CompletePath,
+    complete_path: CompletePath,
 ) -> Result<(), Memory>
     requires paths { (p : SettledFact) → Contains paths.now p → InRange table.now p }
-    requires whole { whole.cost ≤ cap }
-    ensures { OnOk result (QueueGains (Among (λ path. FollowsGoto table.now path whole) paths.now) queue.old.buckets.items queue.new.buckets.items) }
+    requires complete_path { complete_path.cost ≤ cap }
+    ensures { OnOk result (QueueGains (Among (λ path. FollowsGoto table.now path complete_path) paths.now) queue.old.buckets.items queue.new.buckets.items) }
 {
     for path in paths {
-        join(alloc, table, queue, *path, whole)?;
+        join(alloc, table, queue, *path, complete_path)?;
     }
     Ok(())
 }
@@ -190,16 +191,16 @@ fn meet_path(
     requires path { InRange table.now path }
     ensures queue { OnOk result (QueueGains (Among (FollowsGoto table.now path) (complete_paths_at work.old (place_of classes.now path.end path.key.next))) work.old.queue.buckets.items work.new.queue.buckets.items) }
     ensures paths { OnOk result (AddsToRow work.old.paths.items work.new.paths.items (place_of classes.now path.end path.key.next) path) }
-    ensures wholes { OnOk result (work.new.wholes.items ≡ work.old.wholes.items) }
+    ensures complete_paths { OnOk result (work.new.complete_paths.items ≡ work.old.complete_paths.items) }
     ensures known { OnOk result (work.new.known.keys ≡ work.old.known.keys) }
 {
     let place = class_of(table, classes, path.end, path.key.next).place as usize;
-    join_ways(
+    join_gotos(
         alloc,
         table,
         &mut work.queue,
         path,
-        work.wholes[place].as_slice(),
+        work.complete_paths[place].as_slice(),
     )?;
     work.paths[place].push(path)?;
     Ok(())
@@ -221,44 +222,45 @@ fn reduces(table: &Table, classes: &TokenClasses, inner: SettledFact, next: Toke
     }
 }
 
-/// Records a goto fact. Returns whether it is new.
-fn note_way(known: &mut HashSet<GotoFact>, way: GotoFact) -> Result<bool, Memory>
-    ensures notes { OnOk result (ListGains (λ k. k ≡ way) known.old.keys known.new.keys) }
+/// Records a goto fact: that some word leads from a state over the goto on a nonterminal. Returns whether the fact is
+/// new.
+fn note_goto(known: &mut HashSet<GotoFact>, fact: GotoFact) -> Result<bool, Memory>
+    ensures notes { OnOk result (ListGains (λ k. k ≡ fact) known.old.keys known.new.keys) }
     ensures same { IfOk result (λ fresh. fresh ≡ false → known.new.keys ≡ known.old.keys) }
 {
-    let fresh = known.insert(way)?;
+    let fresh = known.insert(fact)?;
     Ok(fresh)
 }
 
 /// Records the goto fact of a complete path, if the path is reduced on the next token and the goto fact is new, and
 /// queues the extensions of all paths that wait for it.
-fn meet_way(
+fn meet_goto(
     alloc: Global,
     table: &Table,
     classes: &TokenClasses,
     work: &mut SearchData,
     inner: SettledFact,
-    whole: CompletePath,
+    complete_path: CompletePath,
 ) -> Result<(), Memory>
     requires classes { AreTokenClasses table.now classes.now }
     requires rows { HasRows table.now classes.now work.old }
     requires inner { InRange table.now inner }
     requires complete { inner.key.dot ≡ length (rhs_of table.now.grammar inner.key.production) }
-    requires whole { whole ≡ complete_path table.now inner whole.target whole.next }
-    requires edge { edge_of table.now inner.key.from (N whole.nonterminal) ≡ Some whole.target }
-    requires listed { Contains (representatives_at classes.now whole.target) whole.next }
-    ensures { OnOk result (AddsGoto table.now classes.now work.old work.new inner whole) }
+    requires complete_path { complete_path ≡ complete_path_of table.now inner complete_path.target complete_path.next }
+    requires edge { edge_of table.now inner.key.from (N complete_path.nonterminal) ≡ Some complete_path.target }
+    requires listed { Contains (representatives_at classes.now complete_path.target) complete_path.next }
+    ensures { OnOk result (AddsGoto table.now classes.now work.old work.new inner complete_path) }
 {
-    if !reduces(table, classes, inner, whole.next) {
+    if !reduces(table, classes, inner, complete_path.next) {
         return Ok(());
     }
-    let way = GotoFact {
-        from: whole.inner.from,
-        nonterminal: whole.nonterminal,
-        first: whole.inner.first,
-        next: whole.next,
+    let fact = GotoFact {
+        from: complete_path.inner.from,
+        nonterminal: complete_path.nonterminal,
+        first: complete_path.inner.first,
+        next: complete_path.next,
     };
-    if !note_way(&mut work.known, way)? {
+    if !note_goto(&mut work.known, fact)? {
         return Ok(());
     }
     let place = class_of(table, classes, inner.key.from, inner.key.first).place as usize;
@@ -267,14 +269,14 @@ fn meet_way(
         table,
         &mut work.queue,
         work.paths[place].as_slice(),
-        whole,
+        complete_path,
     )?;
-    work.wholes[place].push(whole)?;
+    work.complete_paths[place].push(complete_path)?;
     Ok(())
 }
 
 /// Records the goto facts of a complete path, one for each representative of the target on which the path is reduced.
-fn meet_whole(
+fn meet_gotos(
     alloc: Global,
     table: &Table,
     classes: &TokenClasses,
@@ -292,14 +294,14 @@ fn meet_whole(
     table.facts();
     let nonterminal = table.lhs_of(inner.key.production);
     for next in representatives_of(table, classes, target) {
-        let whole = CompletePath {
+        let complete_path = CompletePath {
             inner: inner.key,
             nonterminal,
             target,
             next: *next,
             cost: inner.cost,
         };
-        meet_way(alloc, table, classes, work, inner, whole)?;
+        meet_goto(alloc, table, classes, work, inner, complete_path)?;
     }
     Ok(())
 }
@@ -323,7 +325,7 @@ pub fn expand(
         return match table.goto(path.key.from, table.lhs_of(path.key.production)) {
             None => Ok(()),
             Some(target) => {
-                meet_whole(alloc, table, classes, work, path, target)?;
+                meet_gotos(alloc, table, classes, work, path, target)?;
                 Ok(())
             }
         };

@@ -10,7 +10,7 @@ use Rattle.mh_reach_words.specs.code.Words.{Words, letters_of, word_of_last, spe
 use Rattle.mh_reach_words.specs.code.Comparison.{IsComparison, word_of_stack, AreBelow, weight, ReplacesByParts, top_of, AreTops, IsComparisonStep, IsTokenComparison, TakesTop, AreRemainders}
 use Rattle.mh_reach_words.proofs.PartStacks.{rest_top, weight_append, weight_top, below_front, below_back, some_part}
 
--- Comparison of two words.
+-- Lemmas on the order of two words by their first parts.
 
 before_goes : (u v r s : List ℕ) → LessAtDifference u v → LessAtDifference (u ++ r) (v ++ s)
 before_goes [] v r s h = absurd h
@@ -61,7 +61,7 @@ module _ (words : Words) (old : Rests) where
 
   pub same_parts : (p q : LastPart) → p ≡ q → AreTops words old (Some p) (Some q) → IsComparisonStep words old old (Some p) (Some q) None
   same_parts p q e tops = record {
-    front = word_of_last words p;
+    prefix = word_of_last words p;
     left_is = rest_top words old.left.items p;
     right_is = rest_top words old.right.items q ∙ ap (λ (r : LastPart). word_of_last words r ++ word_of_stack words old.right.items) (sym e);
     left_below = below_front (length words) old.left.items (p ∷ []) tops.left_below;
@@ -104,7 +104,7 @@ module _ (words : Words) (old : Rests) where
 
   pub right_opened : (new : Rests) (left : Option LastPart) (n : ℕ) → AreTops words old left (Some (lasts.Word n)) → new.left.items ≡ old.left.items ++ top_of left → ReplacesByParts words n old.right.items new.right.items → IsComparisonStep words old new left (Some (lasts.Word n)) None
   right_opened new left n tops back opens = record {
-    front = [];
+    prefix = [];
     left_is = ap (λ (ps : List LastPart). word_of_stack words ps) (sym back);
     right_is = rest_top words old.right.items (lasts.Word n) ∙ sym opens.spelled;
     left_below = rw back tops.left_below;
@@ -114,7 +114,7 @@ module _ (words : Words) (old : Rests) where
 
   pub left_opened : (new : Rests) (n : ℕ) (right : Option LastPart) → AreTops words old (Some (lasts.Word n)) right → new.right.items ≡ old.right.items ++ top_of right → ReplacesByParts words n old.left.items new.left.items → IsComparisonStep words old new (Some (lasts.Word n)) right None
   left_opened new n right tops back opens = record {
-    front = [];
+    prefix = [];
     left_is = rest_top words old.left.items (lasts.Word n) ∙ sym opens.spelled;
     right_is = ap (λ (ps : List LastPart). word_of_stack words ps) (sym back);
     left_below = opens.below (below_front (length words) old.left.items (lasts.Word n ∷ []) tops.left_below);
@@ -122,7 +122,7 @@ module _ (words : Words) (old : Rests) where
     smaller = (let a = ap (λ (ps : List LastPart). weight ps) back in let b = weight_top old.left.items (lasts.Word n) in let c = opens.smaller in omega arith);
   }
 
--- The whole comparison.
+-- Lemmas on the whole comparison of two words.
 
 -- The parts of a word spell the word.
 pub parts_spell : (words : Words) (m : WordParts) (none parts : List LastPart) → none ≡ [] → parts ≡ (none ++ m.last ∷ []) ++ lasts.Word m.front ∷ [] → word_of_stack words parts ≡ spelled words m
@@ -134,7 +134,7 @@ parts_below words m none parts e is known = rw (is, e) (known.1, (known.0, tt))
 pub remainders_begin : (words : Words) (left right : WordParts) (none none' : List LastPart) (rests : Rests) → none ≡ [] → none' ≡ [] → rests.left.items ≡ (none ++ left.last ∷ []) ++ lasts.Word left.front ∷ [] →
     rests.right.items ≡ (none' ++ right.last ∷ []) ++ lasts.Word right.front ∷ [] → HasParts words left → HasParts words right → AreRemainders words rests (spelled words left) (spelled words right)
 remainders_begin words left right none none' rests e f l r known known' = record {
-  front = [];
+  prefix = [];
   left_is = sym (parts_spell words left none rests.left.items e l);
   right_is = sym (parts_spell words right none' rests.right.items f r);
   left_below = parts_below words left none rests.left.items e l known;
@@ -170,14 +170,14 @@ module _ (words : Words) (u v : List ℕ) (rests mid : Rests) (left right : Opti
 
   pub comparison_decides : (new : Rests) (o : Ordering) → IsComparisonStep words mid new left right (Some o) → IsComparison u v o
   comparison_decides new o turns =
-      compared_is u v (shares.front ++ word_of_stack words rests.left.items) (shares.front ++ word_of_stack words rests.right.items) o shares.left_is shares.right_is
-      (compared_after_prefix shares.front (word_of_stack words rests.left.items) (word_of_stack words rests.right.items) o (rw (left_top, right_top) turns))
+      compared_is u v (shares.prefix ++ word_of_stack words rests.left.items) (shares.prefix ++ word_of_stack words rests.right.items) o shares.left_is shares.right_is
+      (compared_after_prefix shares.prefix (word_of_stack words rests.left.items) (word_of_stack words rests.right.items) o (rw (left_top, right_top) turns))
 
   pub remainders_kept : (new : Rests) → IsComparisonStep words mid new left right None → AreRemainders words new u v
   remainders_kept new goes = record {
-    front = shares.front ++ goes.front;
-    left_is = shares.left_is ∙ ap (λ (ps : List LastPart). shares.front ++ word_of_stack words ps) left_top ∙ ap (λ (w : List ℕ). shares.front ++ w) goes.left_is ∙ sym (append_assoc shares.front goes.front (word_of_stack words new.left.items));
-    right_is = shares.right_is ∙ ap (λ (ps : List LastPart). shares.front ++ word_of_stack words ps) right_top ∙ ap (λ (w : List ℕ). shares.front ++ w) goes.right_is ∙ sym (append_assoc shares.front goes.front (word_of_stack words new.right.items));
+    prefix = shares.prefix ++ goes.prefix;
+    left_is = shares.left_is ∙ ap (λ (ps : List LastPart). shares.prefix ++ word_of_stack words ps) left_top ∙ ap (λ (w : List ℕ). shares.prefix ++ w) goes.left_is ∙ sym (append_assoc shares.prefix goes.prefix (word_of_stack words new.left.items));
+    right_is = shares.right_is ∙ ap (λ (ps : List LastPart). shares.prefix ++ word_of_stack words ps) right_top ∙ ap (λ (w : List ℕ). shares.prefix ++ w) goes.right_is ∙ sym (append_assoc shares.prefix goes.prefix (word_of_stack words new.right.items));
     left_below = goes.left_below;
     right_below = goes.right_below;
   }

@@ -10,7 +10,7 @@ use Rattle.indexmap.proofs.CallerLemmas.{Contains-list_any}
 use Rattle.mh_grammar.proofs.Lists.{get_cases, get_left, get_last, get_unique, get_within, contains_at, at_contains, contains_last, contains_push, contains_none, below_next}
 use Rattle.mh_reach_words.specs.contracts.word_parts.WordPartsPartialEq.TheImpl.{ghosts}
 use Rattle.mh_reach_words.specs.declared.word_parts.WordParts.{WordParts}
-use Rattle.mh_reach_words.specs.declared.word_parts.BookEntry.{BookEntry}
+use Rattle.mh_reach_words.specs.declared.word_parts.WordEntry.{WordEntry}
 use Rattle.mh_reach_words.specs.declared.numbering.PartialNumbering.{PartialNumbering}
 use Rattle.mh_reach_words.specs.code.Words.{Words, LessAtDifference, spelled, words_of}
 use Rattle.mh_reach_words.specs.code.Numbering.{ArePrefixFree, InsertsOnce, IsEqual, IsRepeated, AddsNew, HasEntryAt, IsNumberedUpTo, AreNumbers, number_in}
@@ -88,7 +88,7 @@ rises_at R (x ∷ made) zero (suc j) m o lt at there h = let same : x ≡ m = (l
 rises_at R (x ∷ made) (suc i) zero m o lt at there h = absurd (omega arith)
 rises_at R (x ∷ made) (suc i) (suc j) m o lt at there h = rises_at R made i j m o (omega arith) at there h.1
 
-module _ (entries : List BookEntry) (group : ℕ) (made : List WordParts) where
+module _ (entries : List WordEntry) (group : ℕ) (made : List WordParts) where
   abbrev words : Words
   words = words_of entries
 
@@ -111,7 +111,7 @@ module _ (entries : List BookEntry) (group : ℕ) (made : List WordParts) where
         apart_before (spelled words o) (spelled words m) (fresh p o m e there at) (rises_at (LexNoLater words) made p place o m (omega arith) there at rises) (even o m was has) (even m o has was)
 
     -- All new words are less than the word at `place`, if it does not repeat the one before it.
-    all_before : (j : ℕ) (d : BookEntry) → slice_get old.entries.items j ≡ Some d → IsRepeated words made place false → LessAtDifference (spelled words d.made) (spelled words m)
+    all_before : (j : ℕ) (d : WordEntry) → slice_get old.entries.items j ≡ Some d → IsRepeated words made place false → LessAtDifference (spelled words d.made) (spelled words m)
     all_before j d there fresh = by place refl
       where
         by : (n : ℕ) → place ≡ n → LessAtDifference (spelled words d.made) (spelled words m)
@@ -128,7 +128,7 @@ module _ (entries : List BookEntry) (group : ℕ) (made : List WordParts) where
             ]
 
     -- The word at `place` has the last entry: a new entry, or the entry of the equal word before it.
-    given_new : (o : WordParts) (j : ℕ) → HasEntryAt words old.entries.items o j → (e : BookEntry) → new.entries.items ≡ old.entries.items ++ e ∷ [] → HasEntryAt words new.entries.items o j
+    given_new : (o : WordParts) (j : ℕ) → HasEntryAt words old.entries.items o j → (e : WordEntry) → new.entries.items ≡ old.entries.items ++ e ∷ [] → HasEntryAt words new.entries.items o j
     given_new o j h e grown = record { entry = h.entry; at = rw grown (get_left old.entries.items (e ∷ []) j h.entry h.at); same = h.same }
 
     given_same : (o : WordParts) (j : ℕ) → HasEntryAt words old.entries.items o j → new.entries.items ≡ old.entries.items → HasEntryAt words new.entries.items o j
@@ -162,9 +162,9 @@ module _ (entries : List BookEntry) (group : ℕ) (made : List WordParts) where
         }
     numbered_next (inr (o, there, fresh, grown)) =
         let here : o ≡ m = get_unique made place o m there at in
-        let e : BookEntry = record { made = o; group = group } in
+        let e : WordEntry = record { made = o; group = group } in
         let j = length old.entries.items in
-        let count : length new.entries.items ≡ suc j = (let l = ap (λ (es : List BookEntry). length es) grown in let k = length_push old.entries.items e in omega arith) in
+        let count : length new.entries.items ≡ suc j = (let l = ap (λ (es : List WordEntry). length es) grown in let k = length_push old.entries.items e in omega arith) in
         let given : HasEntryAt words new.entries.items m j = record { entry = e; at = rw grown (get_last old.entries.items e j refl); same = ap (λ (o : WordParts). spelled words o) here } in
         record {
           begun = λ e. absurd (omega arith);
@@ -186,20 +186,20 @@ module _ (entries : List BookEntry) (group : ℕ) (made : List WordParts) where
 -- The list of the numbers, in the order of the words.
 
 pub record NumberedSoFar (given : PartialNumbering) (made : List WordParts) (n : ℕ) (numbers : List ℕ) : Type 0 where
-  pub long : length numbers ≡ n
+  pub len : length numbers ≡ n
   pub each : (i : ℕ) (m : WordParts) (k : ℕ) → slice_get made i ≡ Some m → slice_get numbers i ≡ Some k → number_in given m ≡ Some k
 
 pub numbers_begin : (given : PartialNumbering) (made : List WordParts) (numbers : List ℕ) → numbers ≡ [] → NumberedSoFar given made 0 numbers
-numbers_begin given made numbers none = record { long = ap (λ (l : List ℕ). length l) none; each = λ i m k at there. absurd (let y : None ≡ Some k = rw none at there in cc) }
+numbers_begin given made numbers none = record { len = ap (λ (l : List ℕ). length l) none; each = λ i m k at there. absurd (let y : None ≡ Some k = rw none at there in cc) }
 
 pub number_next : (given : PartialNumbering) (made : List WordParts) (n : ℕ) (m : WordParts) (k : ℕ) (old new : List ℕ) → slice_get made n ≡ Some m → number_in given m ≡ Some k → new ≡ old ++ k ∷ [] → NumberedSoFar given made n old → NumberedSoFar given made (n + 1) new
 number_next given made n m k old new at is grown h = record {
-  long = ap (λ (l : List ℕ). length l) grown ∙ length_push old k ∙ (let l = h.long in omega arith);
+  len = ap (λ (l : List ℕ). length l) grown ∙ length_push old k ∙ (let l = h.len in omega arith);
   each = λ i o q there got. elim (get_cases old k i q (rw grown at got)) [
     | inl was ↦ h.each i o q there was
-    | inr last ↦ (let here : i ≡ n = last.0 ∙ h.long in let same : o ≡ m = get_unique made n o m (rw here at there) at in rw (same, last.1) is)
+    | inr last ↦ (let here : i ≡ n = last.0 ∙ h.len in let same : o ≡ m = get_unique made n o m (rw here at there) at in rw (same, last.1) is)
   ];
 }
 
 pub numbers_end : (given : PartialNumbering) (made : List WordParts) (n : ℕ) (numbers : List ℕ) → n ≡ length made → NumberedSoFar given made n numbers → AreNumbers given made numbers
-numbers_end given made n numbers e h = record { long = h.long ∙ e; each = h.each }
+numbers_end given made n numbers e h = record { len = h.len ∙ e; each = h.each }

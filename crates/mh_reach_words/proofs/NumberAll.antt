@@ -5,14 +5,14 @@ use Rattle.std.specs.List.{Contains}
 use Rattle.std.proofs.lemmas.Option.{slice_get_within}
 use Rattle.mh_grammar.proofs.Lists.{at_contains, contains_at}
 use Rattle.mh_reach_words.specs.declared.word_parts.WordParts.{WordParts}
-use Rattle.mh_reach_words.specs.declared.word_parts.BookEntry.{BookEntry}
+use Rattle.mh_reach_words.specs.declared.word_parts.WordEntry.{WordEntry}
 use Rattle.mh_reach_words.specs.declared.numbering.PartialNumbering.{PartialNumbering}
 use Rattle.mh_reach_words.specs.code.Words.{HasParts, AreSoundEntries, words_of}
 use Rattle.mh_reach_words.specs.code.Numbering.{AreBelowGroup, ArePrefixFree, AreKnown, AreNumbers, IsNumberedUpTo, IsNumberedGroup, IsNumberOf, number_in}
 use Rattle.mh_reach_words.specs.code.Sorting.{LexNoLater, HaveSameElements, IsSortOf}
 use Rattle.mh_reach_words.proofs.LongerBook.{new_is, new_long, new_word, new_place, new_sound}
 
-module _ (entries : List BookEntry) (group : ℕ) (made distinct ordered : List WordParts) (same : HaveSameElements made distinct) (sorted : IsSortOf (LexNoLater (words_of entries)) distinct ordered) where
+module _ (entries : List WordEntry) (group : ℕ) (made distinct ordered : List WordParts) (same : HaveSameElements made distinct) (sorted : IsSortOf (LexNoLater (words_of entries)) distinct ordered) where
   to_ordered : (m : WordParts) → Contains made m → Contains ordered m
   to_ordered m h = sorted.same.kept m (same.kept m h)
 
@@ -32,17 +32,17 @@ module _ (entries : List BookEntry) (group : ℕ) (made distinct ordered : List 
         let n = gives.numbers at.0 m (slice_get_within ordered at.0 m at.1) at.1 in
         rw n.1 refl
 
-    abbrev es : List BookEntry
+    abbrev es : List WordEntry
     es = given.entries.items
 
     module _ (known : AreKnown (words_of entries) made) where
-      has : (j : ℕ) (e : BookEntry) → slice_get es j ≡ Some e → Contains made e.made
+      has : (j : ℕ) (e : WordEntry) → slice_get es j ≡ Some e → Contains made e.made
       has j e at = to_made e.made (gives.made j e at).0
 
-      knows : (j : ℕ) (e : BookEntry) → slice_get es j ≡ Some e → HasParts (words_of entries) e.made
+      knows : (j : ℕ) (e : WordEntry) → slice_get es j ≡ Some e → HasParts (words_of entries) e.made
       knows j e at = known e.made (has j e at)
 
-      one : (j : ℕ) (e : BookEntry) → slice_get es j ≡ Some e → e.group ≡ group
+      one : (j : ℕ) (e : WordEntry) → slice_get es j ≡ Some e → e.group ≡ group
       one j e at = (gives.made j e at).1
 
       module _ (numbers : Rattle.std.specs.Global.Vec ℕ) (sound : AreSoundEntries entries) (below : AreBelowGroup (words_of entries) group) (told : AreNumbers given made numbers.items) where
@@ -68,7 +68,7 @@ module _ (entries : List BookEntry) (group : ℕ) (made distinct ordered : List 
                 grown = new.1;
                 groups = λ n le lt. (let p = new_place entries es group sound below knows one n le lt in (new_word entries es group sound below knows one n p.0 p.1 p.2 p.3).1);
                 only = λ n le lt. (let p = new_place entries es group sound below knows one n le lt in (p.1.made, has p.0 p.1 p.3, (new_word entries es group sound below knows one n p.0 p.1 p.2 p.3).0));
-                long = told.long;
+                len = told.len;
                 each = number_is;
               };
             }

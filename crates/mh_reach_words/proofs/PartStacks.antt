@@ -4,7 +4,7 @@ use Rattle.std.specs.Prelude.{slice_get}
 use Rattle.std.proofs.lemmas.List.{append-nil}
 use Rattle.mh_reach_words.specs.declared.word_parts.LastPart.{LastPart}
 use Rattle.mh_reach_words.specs.declared.word_parts.LastPart.TheVariants as lasts
-use Rattle.mh_reach_words.specs.declared.word_parts.BookEntry.{BookEntry}
+use Rattle.mh_reach_words.specs.declared.word_parts.WordEntry.{WordEntry}
 use Rattle.mh_reach_words.specs.code.Words.{Words, letters_of, word_of_last, IsLastBelow, words_of, AreSoundEntries}
 use Rattle.mh_reach_words.specs.code.Comparison.{word_of_stack, AreBelow, weight_of, weight, ReplacesByParts}
 use Rattle.mh_reach_words.proofs.LongerBook.{word_at, empty_letters, made_below}
@@ -57,7 +57,7 @@ last_weight : (n : ℕ) (p : LastPart) → IsLastBelow (suc n) p → weight (p �
 last_weight n (lasts.Token x) h = let w = some_weight n in omega arith
 last_weight n (lasts.Word m) h = let w = weight_rises m n (omega arith) in omega arith
 
-module _ (entries : List BookEntry) (n : ℕ) (old new : List LastPart) where
+module _ (entries : List WordEntry) (n : ℕ) (old new : List LastPart) where
   abbrev words : Words
   words = words_of entries
 
@@ -71,7 +71,7 @@ module _ (entries : List BookEntry) (n : ℕ) (old new : List LastPart) where
         smaller = (let w = some_weight n in let l = ap (λ (ps : List LastPart). weight ps) same in omega arith);
       }
 
-  pub opens_entry : (i : ℕ) (e : BookEntry) → AreSoundEntries entries → n < length words → n ≡ suc i → slice_get entries i ≡ Some e → new ≡ (old ++ e.made.last ∷ []) ++ lasts.Word e.made.front ∷ [] → ReplacesByParts words n old new
+  pub opens_entry : (i : ℕ) (e : WordEntry) → AreSoundEntries entries → n < length words → n ≡ suc i → slice_get entries i ≡ Some e → new ≡ (old ++ e.made.last ∷ []) ++ lasts.Word e.made.front ∷ [] → ReplacesByParts words n old new
   opens_entry i e sound known is at grown =
       let word = word_at entries n i e sound is at in
       let below = made_below n (length words) e.made (omega arith) word.below in

@@ -4,7 +4,7 @@ ghost use Rattle.mh_reach_words.specs.code.Numbering.{AreBelowGroup, ArePrefixFr
 ghost use Rattle.mh_reach_words.specs.code.Words.{IsBook, empty_word};
 
 use crate::numbering::number_words;
-use crate::word_parts::{BookEntry, WordParts};
+use crate::word_parts::{WordEntry, WordParts};
 use mh_grammar::Memory;
 use std::alloc::Global;
 use std::marker::Model;
@@ -14,7 +14,7 @@ use std::marker::Model;
 /// group.
 #[derive(Drop)]
 pub struct Book {
-    entries: Vec<BookEntry>,
+    entries: Vec<WordEntry>,
 }
 
 impl Model for Book {
@@ -54,7 +54,7 @@ impl Book {
     ) -> Result<Vec<usize>, Memory>
         requires known { AreKnown self.old made.now }
         requires fresh { AreBelowGroup self.old group }
-        requires even { ArePrefixFree self.old made.now }
+        requires prefix_free { ArePrefixFree self.old made.now }
         ensures numbered { IfOk result (λ numbers. IsNumberingOf self.old self.new group made.now numbers.items) }
         ensures failed { OnErr result (self.new ≡ self.old) }
     {

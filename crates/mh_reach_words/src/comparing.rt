@@ -4,7 +4,7 @@ ghost use Rattle.mh_reach_words.specs.code.Comparison.{AreTops, IsComparison, Is
 ghost use Rattle.mh_reach_words.specs.code.Words.{AreSoundEntries, HasParts, group_of, spelled, words_of};
 ghost use Rattle.mh_reach_words.specs.declared.word_parts.LastPart.TheVariants as lasts;
 
-use crate::word_parts::{BookEntry, LastPart, WordParts};
+use crate::word_parts::{LastPart, WordEntry, WordParts};
 use mh_grammar::{Memory, Token};
 use std::alloc::Global;
 use std::cmp::Ordering;
@@ -34,14 +34,14 @@ fn put_parts(parts: &mut Vec<LastPart>, made: WordParts) -> Result<(), Memory>
 }
 
 /// The entry at an index, if there is one.
-fn get(entries: &[BookEntry], place: usize) -> Option<BookEntry>
+fn get(entries: &[WordEntry], place: usize) -> Option<WordEntry>
     ensures { result ≡ slice_get entries.now place }
 {
     entries.get(place).copied()
 }
 
 /// The entry of a word, none for the empty word.
-fn entry_at(entries: &[BookEntry], number: usize) -> Option<BookEntry>
+fn entry_at(entries: &[WordEntry], number: usize) -> Option<WordEntry>
     requires { number < length (words_of entries.now) }
     ensures { IsEntryOf entries.now number result }
 {
@@ -52,7 +52,7 @@ fn entry_at(entries: &[BookEntry], number: usize) -> Option<BookEntry>
 }
 
 /// The group of a word.
-fn group_at(entries: &[BookEntry], number: usize) -> u32
+fn group_at(entries: &[WordEntry], number: usize) -> u32
     requires { number < length (words_of entries.now) }
     ensures { result ≡ group_of (words_of entries.now) number }
 {
@@ -63,7 +63,7 @@ fn group_at(entries: &[BookEntry], number: usize) -> u32
 }
 
 /// Pushes the parts of the word of a number; the empty word has none.
-fn open(entries: &[BookEntry], parts: &mut Vec<LastPart>, number: usize) -> Result<(), Memory>
+fn open(entries: &[WordEntry], parts: &mut Vec<LastPart>, number: usize) -> Result<(), Memory>
     requires sound { AreSoundEntries entries.now }
     requires known { number < length (words_of entries.now) }
     ensures { OnOk result (ReplacesByParts (words_of entries.now) number parts.old.items parts.new.items) }
@@ -99,7 +99,7 @@ fn compare_tokens(one: Token, two: Token) -> Option<Ordering>
 
 /// Pushes the left part back, if there is one, and replaces the right word by its parts.
 fn open_right(
-    entries: &[BookEntry],
+    entries: &[WordEntry],
     rests: &mut Rests,
     left: Option<LastPart>,
     right: usize,
@@ -114,7 +114,7 @@ fn open_right(
 
 /// Pushes the right part back, if there is one, and replaces the left word by its parts.
 fn open_left(
-    entries: &[BookEntry],
+    entries: &[WordEntry],
     rests: &mut Rests,
     left: usize,
     right: Option<LastPart>,
@@ -131,7 +131,7 @@ fn open_left(
 /// their numbers. Else the word of the higher group is replaced by its parts, until equal words are on top of both
 /// stacks and can be dropped.
 fn turn_words(
-    entries: &[BookEntry],
+    entries: &[WordEntry],
     rests: &mut Rests,
     left: usize,
     right: usize,
@@ -161,7 +161,7 @@ fn turn_words(
 
 /// Compares the top parts of two words; none if they do not decide the order.
 fn turn_both(
-    entries: &[BookEntry],
+    entries: &[WordEntry],
     rests: &mut Rests,
     left: LastPart,
     right: LastPart,
@@ -186,7 +186,7 @@ fn turn_both(
 
 /// Compares the top part of the right word with a left word that has ended.
 fn left_ended(
-    entries: &[BookEntry],
+    entries: &[WordEntry],
     rests: &mut Rests,
     right: LastPart,
 ) -> Result<Option<Ordering>, Memory>
@@ -205,7 +205,7 @@ fn left_ended(
 
 /// Compares the top part of the left word with a right word that has ended.
 fn right_ended(
-    entries: &[BookEntry],
+    entries: &[WordEntry],
     rests: &mut Rests,
     left: LastPart,
 ) -> Result<Option<Ordering>, Memory>
@@ -224,7 +224,7 @@ fn right_ended(
 
 /// One step of a comparison, by the top parts of the two words; a word without a top part has ended.
 fn turn(
-    entries: &[BookEntry],
+    entries: &[WordEntry],
     rests: &mut Rests,
     left: Option<LastPart>,
     right: Option<LastPart>,
@@ -251,7 +251,7 @@ fn take_top(parts: &mut Vec<LastPart>) -> Option<LastPart>
 /// Compares two words lexicographically. The stacks are scratch space and are cleared first. Fails for want of memory
 /// alone.
 pub fn compare(
-    entries: &[BookEntry],
+    entries: &[WordEntry],
     rests: &mut Rests,
     left: WordParts,
     right: WordParts,

@@ -8,7 +8,7 @@ ghost use Rattle.mh_reach_words.specs.code.Words.{AreSoundEntries, HasParts, wor
 use crate::comparing::{Rests, compare, no_rests};
 use crate::sorting::sorted;
 use crate::spelling::BySpelling;
-use crate::word_parts::{BookEntry, WordParts};
+use crate::word_parts::{WordEntry, WordParts};
 use indexmap::{IndexMap, IndexSet};
 use mh_grammar::Memory;
 use std::alloc::Global;
@@ -43,7 +43,7 @@ fn made_at(made: &[WordParts], place: usize) -> WordParts
 
 /// Whether two words are equal.
 fn is_equal(
-    entries: &[BookEntry],
+    entries: &[WordEntry],
     rests: &mut Rests,
     left: WordParts,
     right: WordParts,
@@ -68,7 +68,7 @@ struct OrderedWords<'a> {
 
 /// Whether the word at an index equals the word before it.
 fn is_repeated(
-    entries: &[BookEntry],
+    entries: &[WordEntry],
     rests: &mut Rests,
     ordered: &OrderedWords,
     place: usize,
@@ -88,11 +88,11 @@ fn is_repeated(
 
 /// Appends the word at an index to the new entries, unless it equals the word before it.
 fn add_new(
-    entries: &[BookEntry],
+    entries: &[WordEntry],
     rests: &mut Rests,
     ordered: &OrderedWords,
     place: usize,
-    new: &mut Vec<BookEntry>,
+    new: &mut Vec<WordEntry>,
 ) -> Result<(), Memory>
     requires sound { AreSoundEntries entries.now }
     requires known { AreKnown (words_of entries.now) ordered.now.made.now }
@@ -102,7 +102,7 @@ fn add_new(
     if is_repeated(entries, rests, ordered, place)? {
         return Ok(());
     }
-    let entry = BookEntry {
+    let entry = WordEntry {
         made: made_at(ordered.made, place),
         group: ordered.group,
     };
@@ -113,13 +113,13 @@ fn add_new(
 /// The new entries so far, and the numbers of the words so far.
 #[derive(Drop)]
 struct PartialNumbering {
-    entries: Vec<BookEntry>,
+    entries: Vec<WordEntry>,
     numbers: IndexMap<WordParts, usize>,
 }
 
 /// Numbers the word at an index; a word that equals the one before it gets the same number.
 fn give_one(
-    entries: &[BookEntry],
+    entries: &[WordEntry],
     rests: &mut Rests,
     ordered: &OrderedWords,
     place: usize,
@@ -127,8 +127,8 @@ fn give_one(
 ) -> Result<(), Memory>
     requires sound { AreSoundEntries entries.now }
     requires known { AreKnown (words_of entries.now) ordered.now.made.now }
-    requires even { ArePrefixFree (words_of entries.now) ordered.now.made.now }
-    requires rises { IsSorted (LexNoLater (words_of entries.now)) ordered.now.made.now }
+    requires prefix_free { ArePrefixFree (words_of entries.now) ordered.now.made.now }
+    requires sorted { IsSorted (LexNoLater (words_of entries.now)) ordered.now.made.now }
     requires place { place < length ordered.now.made.now }
     requires given { IsNumberedUpTo entries.now ordered.now.group ordered.now.made.now place given.old }
     ensures { OnOk result (IsNumberedUpTo entries.now ordered.now.group ordered.now.made.now (place + 1) given.new) }
@@ -142,14 +142,14 @@ fn give_one(
 /// Numbers words that are in order.
 fn give(
     alloc: Global,
-    entries: &[BookEntry],
+    entries: &[WordEntry],
     rests: &mut Rests,
     ordered: &OrderedWords,
 ) -> Result<PartialNumbering, Memory>
     requires sound { AreSoundEntries entries.now }
     requires known { AreKnown (words_of entries.now) ordered.now.made.now }
-    requires even { ArePrefixFree (words_of entries.now) ordered.now.made.now }
-    requires rises { IsSorted (LexNoLater (words_of entries.now)) ordered.now.made.now }
+    requires prefix_free { ArePrefixFree (words_of entries.now) ordered.now.made.now }
+    requires sorted { IsSorted (LexNoLater (words_of entries.now)) ordered.now.made.now }
     ensures { IfOk result (λ given. IsNumberedUpTo entries.now ordered.now.group ordered.now.made.now (length ordered.now.made.now) given) }
 {
     let mut given = PartialNumbering {
@@ -165,7 +165,7 @@ fn give(
 /// The new entries, and the number of each word in the order of the words.
 #[derive(Drop)]
 pub struct NumberedWords {
-    pub entries: Vec<BookEntry>,
+    pub entries: Vec<WordEntry>,
     pub numbers: Vec<usize>,
 }
 
@@ -196,7 +196,7 @@ fn numbers_of(
 /// The given words in lexicographic order; words with the same parts occur once.
 fn in_order(
     alloc: Global,
-    entries: &[BookEntry],
+    entries: &[WordEntry],
     rests: &mut Rests,
     made: &[WordParts],
 ) -> Result<Vec<WordParts>, Memory>
@@ -212,7 +212,7 @@ fn in_order(
 /// Numbers words, given the same words in lexicographic order.
 fn number_ordered(
     alloc: Global,
-    entries: &[BookEntry],
+    entries: &[WordEntry],
     rests: &mut Rests,
     ordered: &OrderedWords,
     made: &[WordParts],
@@ -220,7 +220,7 @@ fn number_ordered(
     requires sound { AreSoundEntries entries.now }
     requires known { AreKnown (words_of entries.now) made.now }
     requires fresh { AreBelowGroup (words_of entries.now) ordered.now.group }
-    requires even { ArePrefixFree (words_of entries.now) made.now }
+    requires prefix_free { ArePrefixFree (words_of entries.now) made.now }
     requires orders { SortsDistinct (words_of entries.now) made.now ordered.now.made.now }
     ensures { IfOk result (λ numbered. IsNumberedGroup entries.now ordered.now.group made.now numbered) }
 {
@@ -236,14 +236,14 @@ fn number_ordered(
 /// Fails for want of memory alone.
 pub fn number_words(
     alloc: Global,
-    entries: &[BookEntry],
+    entries: &[WordEntry],
     group: u32,
     made: &[WordParts],
 ) -> Result<NumberedWords, Memory>
     requires sound { AreSoundEntries entries.now }
     requires known { AreKnown (words_of entries.now) made.now }
     requires fresh { AreBelowGroup (words_of entries.now) group }
-    requires even { ArePrefixFree (words_of entries.now) made.now }
+    requires prefix_free { ArePrefixFree (words_of entries.now) made.now }
     ensures { IfOk result (λ numbered. IsNumberedGroup entries.now group made.now numbered) }
 {
     let mut rests = no_rests(alloc);

@@ -5,14 +5,14 @@ ghost use Rattle.mh_reach_words.specs.code.Words.{AreSoundEntries, HasParts, wor
 
 use crate::comparing::{Rests, compare};
 use crate::sorting::Order;
-use crate::word_parts::{BookEntry, WordParts};
+use crate::word_parts::{WordEntry, WordParts};
 use mh_grammar::Memory;
 use std::cmp::Ordering;
 
 /// The order of words by their tokens.
 #[derive(Clone, Copy, Drop)]
 pub(crate) struct BySpelling<'a> {
-    pub(crate) entries: &'a [BookEntry],
+    pub(crate) entries: &'a [WordEntry],
 }
 
 impl<'a> Order for BySpelling<'a> {

@@ -16,9 +16,10 @@ pub struct WordParts {
     pub last: LastPart,
 }
 
-/// The entry of a word in a book: its parts and its group.
+/// The entry of a word in a book, the list of the numbered words: the parts of the word, and its group. The words of a
+/// group were added to the book together.
 #[derive(Clone, Copy, Drop)]
-pub struct BookEntry {
+pub struct WordEntry {
     pub made: WordParts,
     pub group: u32,
 }

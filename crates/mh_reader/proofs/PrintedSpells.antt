@@ -1,4 +1,4 @@
--- Proves that the text of a spelled module spells the module.
+-- Proves that the text printed for a module spells this module, if some bytes spell it.
 use Rattle.std.proofs.Common.{◌≡◌, ◌≢◌, ◌+◌, ◌-◌, ◌<◌, ℕ, List, [], ◌∷◌, ◌++◌, length, take, drop, map, Option, Some, None, Bool, true, false, Result, Ok, Err, codes, decimal, refl, sym, ap, subst, ◌∙◌, append_assoc, length-append, arith}
 use Rattle.std.specs.Prelude.{IfSome}
 use Rattle.std.specs.Option.{option_or}
@@ -52,7 +52,7 @@ actuals_again [] done rest h = subst (λ l. ListOf Actual LimitedActual done res
 actuals_again (a ∷ ks) done rest h =
     subst (λ l. ListOf Actual LimitedActual done (reads (flat_map actual_pieces (a ∷ ks)) rest) rest l) (append_assoc done (a ∷ []) ks)
     (subst (λ xs. ListOf Actual LimitedActual done xs rest ((done ++ a ∷ []) ++ ks)) (sym (reads-append (actual_pieces a) (flat_map actual_pieces ks) rest))
-    (spelling.ListOf.next (h.0.again (reads (flat_map actual_pieces ks) rest)) (actuals_again ks (done ++ a ∷ []) rest h.1)))
+    (spelling.ListOf.next (h.0.reads_back (reads (flat_map actual_pieces ks) rest)) (actuals_again ks (done ++ a ∷ []) rest h.1)))
 
 -- Lemmas on declarations.
 
@@ -93,7 +93,7 @@ producers_again [] done rest h = subst (λ l. Producers done rest rest l) (sym (
 producers_again (a ∷ ks) done rest h =
     subst (λ l. Producers done (reads (flat_map actual_pieces (a ∷ ks)) rest) rest l) (append_assoc done (a ∷ []) ks)
     (subst (λ xs. Producers done xs rest ((done ++ a ∷ []) ++ ks)) (sym (reads-append (actual_pieces a) (flat_map actual_pieces ks) rest))
-    (spelling.Producers.more (spelling.IsProducer.unnamed (h.0.again (reads (flat_map actual_pieces ks) rest))) spelling.Semicolons.none (producers_again ks (done ++ a ∷ []) rest h.1)))
+    (spelling.Producers.more (spelling.IsProducer.unnamed (h.0.reads_back (reads (flat_map actual_pieces ks) rest))) spelling.Semicolons.none (producers_again ks (done ++ a ∷ []) rest h.1)))
 
 prec_again : (p : Option Ref) (rest : List FileToken) → IsPrec (reads (prec_pieces p) rest) rest p
 unfolding keywords

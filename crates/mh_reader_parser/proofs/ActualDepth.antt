@@ -47,7 +47,7 @@ limited_shallow (spelling.LimitedActual.limited b l) = le_trans (actual_within b
 
 actuals_shallow : (ks : List Actual) → AllByRecursion FitsActual ks → AllByRecursion IsActualShallow ks
 actuals_shallow [] h = tt
-actuals_shallow (k ∷ ks) h = (limited_shallow (h.0.again []), actuals_shallow ks h.1)
+actuals_shallow (k ∷ ks) h = (limited_shallow (h.0.reads_back []), actuals_shallow ks h.1)
 
 alternatives_shallow : (ks : List Alternative) → AllByRecursion FitsAlternative ks → AllByRecursion (λ (a : Alternative). All IsActualShallow a.producers) ks
 alternatives_shallow [] h = tt

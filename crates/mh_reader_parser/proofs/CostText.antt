@@ -11,7 +11,7 @@ use Rattle.std.proofs.Math.Seq.{drop-append_seam, drop-cons, take-append_seam}
 use Rattle.std.proofs.lemmas.Fmt.{decimal_by_steps, decimal-digits_value, digits_decimal, digits_value-decimal}
 use Rattle.std.proofs.lemmas.Str.Parse.{IsDigitsTest, IsNumeralModel, FoldsDigits, numerals_by_fold}
 use Rattle.std.proofs.lemmas.Option.{same_Some}
-use Rattle.mh_grammar.specs.declared.types.TheConstants.{MAX_COST}
+use Rattle.mh_grammar.specs.Limits.{max_cost}
 use Rattle.mh_grammar.specs.Costs.{IsCost}
 use Rattle.mh_lex_bytes.specs.Bytes.{byte_at, is_blank, is_decimal}
 use Rattle.mh_reader_parser.specs.Costs.{IsCostText, prefix_length, value, cost_in_range, is_closing_text, cost_from_number, cost_from_blanks, cost_of}
@@ -33,7 +33,7 @@ front_all p (b ∷ bs) = by (p b) refl (front_all p bs)
     by true e h = subst (λ k. AllOf p (take k (b ∷ bs))) (sym (add-one (prefix_length p bs))) (e, h)
     by false e h = tt
 
--- The bytes of the class, and the bytes after them.
+-- The longest prefix of bytes that the predicate accepts, and the bytes after it.
 drop_prefix_length : (p : ℕ → Bool) (bs rest : List ℕ) → AllOf p bs → prefix_length p rest ≡ 0 → drop (prefix_length p (bs ++ rest)) (bs ++ rest) ≡ rest
 drop_prefix_length p bs rest h e = ap (λ n. drop n (bs ++ rest)) (front-append p bs rest h e) ∙ drop-append_seam bs rest
 
@@ -68,8 +68,8 @@ first_of = decimal_by_steps IsFirst
 
 -- Proves that the text of a cost attribute gives its cost.
 
-cost_is_in_range : (n : ℕ) → 1 ≤ n → n ≤ MAX_COST → cost_in_range n ≡ Some n
-cost_is_in_range n h k = rw (le-leb 1 n h, le-leb n MAX_COST k) refl
+cost_is_in_range : (n : ℕ) → 1 ≤ n → n ≤ max_cost → cost_in_range n ≡ Some n
+cost_is_in_range n h k = rw (le-leb 1 n h, le-leb n max_cost k) refl
 
 closing : (behind : List ℕ) → AllOf is_blank behind → is_closing_text (behind ++ 93 ∷ []) ≡ true
 closing behind h = ap (λ s. pointwise_end s) (drop_prefix_length is_blank behind (93 ∷ []) h refl)
@@ -90,7 +90,7 @@ no_blank d h k = grind (arith, nat_tests)
 no_zero : (d : ℕ) → 49 ≤ d → (d == 48) ≡ false
 no_zero d h = grind (arith, nat_tests)
 
-numbered_again : (n : ℕ) (behind : List ℕ) → 1 ≤ n → n ≤ MAX_COST → AllOf is_blank behind → cost_from_number (decimal n ++ (behind ++ 93 ∷ [])) ≡ Some n
+numbered_again : (n : ℕ) (behind : List ℕ) → 1 ≤ n → n ≤ max_cost → AllOf is_blank behind → cost_from_number (decimal n ++ (behind ++ 93 ∷ [])) ≡ Some n
 numbered_again n behind h k blanks =
     let q = behind ++ 93 ∷ [] in
     let digits = digits_decimal model n (omega arith) in
@@ -106,7 +106,7 @@ numbered_again n behind h k blanks =
     chosen : (a b : Bool) (o : Option ℕ) (m : ℕ) → a ≡ false → b ≡ true → o ≡ Some m → cond a None (cond b o None) ≡ Some m
     chosen a b o m e f g = rw (e, f) g
 
-spaced_again : (n : ℕ) (before behind : List ℕ) → 0 < length before → 1 ≤ n → n ≤ MAX_COST → AllOf is_blank before → AllOf is_blank behind → cost_from_blanks (before ++ (decimal n ++ (behind ++ 93 ∷ []))) ≡ Some n
+spaced_again : (n : ℕ) (before behind : List ℕ) → 0 < length before → 1 ≤ n → n ≤ max_cost → AllOf is_blank before → AllOf is_blank behind → cost_from_blanks (before ++ (decimal n ++ (behind ++ 93 ∷ []))) ≡ Some n
 spaced_again n before behind some h k blanks others =
     let r = decimal n ++ (behind ++ 93 ∷ []) in
     let first = (first_of n (omega arith)).first h in
@@ -120,22 +120,22 @@ spaced_again n before behind some h k blanks others =
 
 pub cost_of_text : (t : List ℕ) (n : ℕ) → IsCostText t n → cost_of t ≡ Some n
 unfolding cost_of
-cost_of_text t n h = subst (λ l. cost_of l ≡ Some n) (sym h.text_is) (spaced_again n h.before h.behind h.some h.least h.most h.blanks_before h.blanks_behind)
+cost_of_text t n h = subst (λ l. cost_of l ≡ Some n) (sym h.text_is) (spaced_again n h.before h.after h.some h.least h.most h.blanks_before h.blanks_after)
 
 -- The cost of a printed cost attribute.
 pub cost_printed : (n : ℕ) → IsCost n → cost_of (codes "[@cost " ++ (decimal n ++ 93 ∷ [])) ≡ Some n
 cost_printed n h = cost_of_text (codes "[@cost " ++ (decimal n ++ 93 ∷ [])) n (record {
   before = 32 ∷ [];
-  behind = [];
+  after = [];
   some = omega arith;
   blanks_before = (refl, tt);
-  blanks_behind = tt;
+  blanks_after = tt;
   least = h.0;
   most = h.1;
   text_is = refl;
 })
 
-pub decimal_is_digits : (n : ℕ) → n ≤ MAX_COST → AllByRecursion (λ d. is_decimal d ≡ true) (decimal n)
+pub decimal_is_digits : (n : ℕ) → n ≤ max_cost → AllByRecursion (λ d. is_decimal d ≡ true) (decimal n)
 decimal_is_digits n h = digits_decimal model n (omega arith)
 
 -- Proves that an attribute that gives a cost has the text of a cost attribute.
@@ -148,12 +148,12 @@ taken_else : (b : Bool) (o : Option ℕ) (n : ℕ) → cond b None o ≡ Some n 
 taken_else true o n e = cc
 taken_else false o n e = (refl, e)
 
-limited_is : (m n : ℕ) → cost_in_range m ≡ Some n → (m ≡ n) × (1 ≤ n) × (n ≤ MAX_COST)
+limited_is : (m n : ℕ) → cost_in_range m ≡ Some n → (m ≡ n) × (1 ≤ n) × (n ≤ max_cost)
 limited_is m n e =
-    let t = taken_if (nat_le 1 m && nat_le m MAX_COST) (Some m) n e in
+    let t = taken_if (nat_le 1 m && nat_le m max_cost) (Some m) n e in
     let same : m ≡ n = same_Some m n t.1 in
-    let limits = and_parts (nat_le 1 m) (nat_le m MAX_COST) t.0 in
-    (same, subst (λ k. 1 ≤ k) same (leb-true 1 m limits.0), subst (λ k. k ≤ MAX_COST) same (leb-true m MAX_COST limits.1))
+    let limits = and_parts (nat_le 1 m) (nat_le m max_cost) t.0 in
+    (same, subst (λ k. 1 ≤ k) same (leb-true 1 m limits.0), subst (λ k. k ≤ max_cost) same (leb-true m max_cost limits.1))
 
 split_front : (p : ℕ → Bool) (s : List ℕ) → s ≡ take (prefix_length p s) s ++ drop (prefix_length p s) s
 split_front p s = sym (take-append-drop (prefix_length p s) s)
@@ -201,10 +201,10 @@ text_of_cost t n e =
     let of_s : s ≡ take (prefix_length is_blank s) s ++ (decimal n ++ (take (prefix_length is_blank q) q ++ 93 ∷ [])) = split_front is_blank s ∙ ap (λ l. take (prefix_length is_blank s) s ++ l) of_r in
     record {
       before = take (prefix_length is_blank s) s;
-      behind = take (prefix_length is_blank q) q;
+      after = take (prefix_length is_blank q) q;
       some = subst (λ k. 0 < k) (sym (front_length is_blank s)) (ltb-true 0 (prefix_length is_blank s) two.0);
       blanks_before = front_all is_blank s;
-      blanks_behind = front_all is_blank q;
+      blanks_after = front_all is_blank q;
       least = is.1;
       most = is.2;
       text_is = sym (take-append-drop 6 t) ∙ ap (λ l. l ++ s) word ∙ ap (λ l. codes "[@cost" ++ l) of_s;
@@ -224,12 +224,12 @@ pub value_at_least : (n : ℕ) (cs : List ℕ) → n ≤ value n cs
 value_at_least n [] = omega arith
 value_at_least n (c ∷ cs) = omega (arith, value_at_least (n * 10 + (c - 48)) cs)
 
-pub cost_out_of_range : (n : ℕ) → MAX_COST < n → cost_in_range n ≡ None
+pub cost_out_of_range : (n : ℕ) → max_cost < n → cost_in_range n ≡ None
 cost_out_of_range n h = grind (arith, nat_tests)
 
 -- A number that exceeds the limit before its last digit is not a cost.
 pub value_out_of_range : (number more : ℕ) (digits : List ℕ) (i : ℕ) → i < length digits → value number (drop i digits) ≡ value 0 digits →
-    more ≡ number * 10 + (get_or digits i 0 - 48) → MAX_COST < more → None ≡ cost_in_range (value 0 digits)
+    more ≡ number * 10 + (get_or digits i 0 - 48) → max_cost < more → None ≡ cost_in_range (value 0 digits)
 value_out_of_range number more digits i h same is big =
     let rest = drop (suc i) digits in
     let whole : value more rest ≡ value 0 digits = ap (λ n. value n rest) is ∙ sym (ap (value number) (drop-cons digits i 0 h)) ∙ same in

@@ -202,7 +202,7 @@ FitsPiece-ref (Alias s) h = (texts.LexemeText.quoted s h, refl)
 -- The printed lexemes of the actual are an actual of this depth.
 record Prints (a : Actual) (d : ℕ) : Type 0 where
   printable : Printable (actual_pieces a)
-  again : (rest : List FileToken) → IsActual (reads (actual_pieces a) rest) rest a d
+  reads_back : (rest : List FileToken) → IsActual (reads (actual_pieces a) rest) rest a d
 
 -- The printed lexemes of one or more arguments are arguments after those in `done`.
 record PrintsArgs (done : List Actual) (m : ℕ) (all : List Actual) (d : ℕ) : Type 0 where
@@ -210,7 +210,7 @@ record PrintsArgs (done : List Actual) (m : ℕ) (all : List Actual) (d : ℕ) :
   others : List Actual
   split : all ≡ done ++ first ∷ others
   printable : Printable (actual_pieces first ++ bracket_end (map actual_pieces others))
-  again : (rest : List FileToken) → Args done m (reads (actual_pieces first ++ bracket_end (map actual_pieces others)) rest) rest all d
+  reads_back : (rest : List FileToken) → Args done m (reads (actual_pieces first ++ bracket_end (map actual_pieces others)) rest) rest all d
 
 pub FitsPiece-mark : (b : ℕ) → is_mark b ≡ true → FitsPiece (mark b)
 FitsPiece-mark b h = (texts.LexemeText.mark h, refl)
@@ -221,7 +221,7 @@ roll_pieces r ks = fold-roll-Actual (List Piece) (λ l. ref_piece l.head ∷ bra
 prints_plain : (r : Ref) → FitsRef r → Prints (applied r []) 1
 prints_plain r h = record {
   printable = subst Printable (sym (roll_pieces r [])) (FitsPiece-ref r h, tt);
-  again = λ rest. subst (λ ts. IsActual (reads ts rest) rest (applied r []) 1) (sym (roll_pieces r []))
+  reads_back = λ rest. subst (λ ts. IsActual (reads ts rest) rest (applied r []) 1) (sym (roll_pieces r []))
       (subst (λ xs. IsActual xs rest (applied r []) 1) (sym (reads-ref r [] rest)) (spelling.IsActual.actual (spelling.Unsuffixed.plain (ref_of_read r)) spelling.Suffixed.bare));
 }
 
@@ -231,9 +231,9 @@ prints_applied r ks d h p =
     let whole : actual_pieces (applied r ks) ≡ ref_piece r ∷ mark 40 ∷ inner = roll_pieces r ks ∙ ap (λ l. ref_piece r ∷ bracketed (map actual_pieces l)) p.split in
     record {
       printable = subst Printable (sym whole) (FitsPiece-ref r h, (FitsPiece-mark 40 refl, p.printable));
-      again = λ rest. subst (λ ts. IsActual (reads ts rest) rest (applied r ks) (suc d)) (sym whole)
+      reads_back = λ rest. subst (λ ts. IsActual (reads ts rest) rest (applied r ks) (suc d)) (sym whole)
           (subst (λ xs. IsActual xs rest (applied r ks) (suc d)) (sym (reads-ref r (mark 40 ∷ inner) rest))
-          (spelling.IsActual.actual (spelling.Unsuffixed.with_args (ref_of_read r) refl (p.again rest)) spelling.Suffixed.bare));
+          (spelling.IsActual.actual (spelling.Unsuffixed.with_args (ref_of_read r) refl (p.reads_back rest)) spelling.Suffixed.bare));
     }
 
 prints_last : (done : List Actual) (m : ℕ) (a : Actual) (d : ℕ) → Prints a d → PrintsArgs done m (done ++ a ∷ []) (max m d)
@@ -242,7 +242,7 @@ prints_last done m a d p = record {
   others = [];
   split = refl;
   printable = recursion-append FitsPiece (actual_pieces a) (mark 41 ∷ []) p.printable (FitsPiece-mark 41 refl, tt);
-  again = λ rest. subst (λ xs. Args done m xs rest (done ++ a ∷ []) (max m d)) (sym (reads-append (actual_pieces a) (mark 41 ∷ []) rest)) (spelling.Args.last (p.again _) refl);
+  reads_back = λ rest. subst (λ xs. Args done m xs rest (done ++ a ∷ []) (max m d)) (sym (reads-append (actual_pieces a) (mark 41 ∷ []) rest)) (spelling.Args.last (p.reads_back _) refl);
 }
 
 prints_more : (done all : List Actual) (m : ℕ) (a : Actual) (d e : ℕ) → Prints a d → PrintsArgs (done ++ a ∷ []) (max m d) all e → PrintsArgs done m all e
@@ -253,7 +253,7 @@ prints_more done all m a d e p q =
       others = q.first ∷ q.others;
       split = q.split ∙ append_assoc done (a ∷ []) (q.first ∷ q.others);
       printable = recursion-append FitsPiece (actual_pieces a) later p.printable (FitsPiece-mark 44 refl, q.printable);
-      again = λ rest. subst (λ xs. Args done m xs rest all e) (sym (reads-append (actual_pieces a) later rest)) (spelling.Args.more (p.again _) refl (q.again rest));
+      reads_back = λ rest. subst (λ xs. Args done m xs rest all e) (sym (reads-append (actual_pieces a) later rest)) (spelling.Args.more (p.reads_back _) refl (q.reads_back rest));
     }
 
 suffix_word : (g : TokenKind) (n : List ℕ) → suffix_of g ≡ Some n → LexemeText kinds.Word n
@@ -285,11 +285,11 @@ mutual
 -- The printed lexemes of the actual are an actual that is not too deep.
 pub record FitsActual (a : Actual) : Type 0 where
   pub printable : Printable (actual_pieces a)
-  pub again : (rest : List FileToken) → LimitedActual (reads (actual_pieces a) rest) rest a
+  pub reads_back : (rest : List FileToken) → LimitedActual (reads (actual_pieces a) rest) rest a
 
 LimitedActual-fits : {xs rest : List FileToken} {a : Actual} → LimitedActual xs rest a → AllFit xs → FitsActual a × AllFit rest
 LimitedActual-fits (spelling.LimitedActual.limited b l) h =
-    let p = Actual-prints b h in (record { printable = p.0.printable; again = λ rest. spelling.LimitedActual.limited (p.0.again rest) l }, p.1)
+    let p = Actual-prints b h in (record { printable = p.0.printable; reads_back = λ rest. spelling.LimitedActual.limited (p.0.reads_back rest) l }, p.1)
 
 -- Lemmas on modules.
 

@@ -143,7 +143,7 @@ turn_comma : (m : Module) (l : OpenList) (x : FileToken) → x.sign ≡ signs.Co
 unfolding next_at
 turn_comma m l x e = rw e refl
 
--- A list whose items are read alike in the list and after a comma.
+-- A list whose items the parser reads in the same way with and without a comma before them.
 module _ (A : Type 0) (X : List FileToken → List FileToken → A → Type 0) (q : TokenKind → Bool) (made : List A → Module) (l : List A → OpenList)
     (comma_q : q signs.Comma ≡ true)
     (first_q : (xs rest : List FileToken) (a : A) → X xs rest a → IsHead q xs)
@@ -280,28 +280,28 @@ listed_later m b done r _ text e = cc
 -- The lexemes begin with a word or a string, as every actual does.
 pub record Starts (xs : List FileToken) : Type 0 where
   pub x : FileToken
-  pub behind : List FileToken
+  pub rest : List FileToken
   pub r : Ref
-  pub whole : xs ≡ x ∷ behind
+  pub split : xs ≡ x ∷ rest
   pub refers : ref_of x ≡ Some r
 
 Actual-starts : {xs rest : List FileToken} {a : Actual} {d : ℕ} → IsActual xs rest a d → Starts xs
-Actual-starts (spelling.IsActual.actual (spelling.Unsuffixed.plain {x = x} {xs = xs} {r = r} e) t) = record { x = x; behind = xs; r = r; whole = refl; refers = e }
-Actual-starts (spelling.IsActual.actual (spelling.Unsuffixed.with_args {x = x} {y = y} {xs = xs} {r = r} e o b) t) = record { x = x; behind = y ∷ xs; r = r; whole = refl; refers = e }
+Actual-starts (spelling.IsActual.actual (spelling.Unsuffixed.plain {x = x} {xs = xs} {r = r} e) t) = record { x = x; rest = xs; r = r; split = refl; refers = e }
+Actual-starts (spelling.IsActual.actual (spelling.Unsuffixed.with_args {x = x} {y = y} {xs = xs} {r = r} e o b) t) = record { x = x; rest = y ∷ xs; r = r; split = refl; refers = e }
 
 items_argument : (m : Module) (b : Bool) (done : List Actual) (xs : List FileToken) → Starts xs → run (at m (places.Items (lists.Actuals b done))) xs ≡ run (at m (places.Argument (purposes.Listed b done) [])) xs
 unfolding next_at
-items_argument m b done xs s = ap (λ l. run (at m (places.Items (lists.Actuals b done))) l) s.whole
-    ∙ run-step m (places.Items (lists.Actuals b done)) s.x s.behind _ (listed_step m b done s.r s.x.sign s.x.text s.refers)
-    ∙ sym (run-step m (places.Argument (purposes.Listed b done) []) s.x s.behind _ (at_argument m (purposes.Listed b done) [] s.x s.r s.refers))
-    ∙ ap (λ l. run (at m (places.Argument (purposes.Listed b done) [])) l) (sym s.whole)
+items_argument m b done xs s = ap (λ l. run (at m (places.Items (lists.Actuals b done))) l) s.split
+    ∙ run-step m (places.Items (lists.Actuals b done)) s.x s.rest _ (listed_step m b done s.r s.x.sign s.x.text s.refers)
+    ∙ sym (run-step m (places.Argument (purposes.Listed b done) []) s.x s.rest _ (at_argument m (purposes.Listed b done) [] s.x s.r s.refers))
+    ∙ ap (λ l. run (at m (places.Argument (purposes.Listed b done) [])) l) (sym s.split)
 
 comma_argument : (m : Module) (b : Bool) (done : List Actual) (xs : List FileToken) → Starts xs → run (at m (places.Comma (lists.Actuals b done))) xs ≡ run (at m (places.Argument (purposes.Listed b done) [])) xs
 unfolding next_at
-comma_argument m b done xs s = ap (λ l. run (at m (places.Comma (lists.Actuals b done))) l) s.whole
-    ∙ run-step m (places.Comma (lists.Actuals b done)) s.x s.behind _ (listed_later m b done s.r s.x.sign s.x.text s.refers)
-    ∙ sym (run-step m (places.Argument (purposes.Listed b done) []) s.x s.behind _ (at_argument m (purposes.Listed b done) [] s.x s.r s.refers))
-    ∙ ap (λ l. run (at m (places.Argument (purposes.Listed b done) [])) l) (sym s.whole)
+comma_argument m b done xs s = ap (λ l. run (at m (places.Comma (lists.Actuals b done))) l) s.split
+    ∙ run-step m (places.Comma (lists.Actuals b done)) s.x s.rest _ (listed_later m b done s.r s.x.sign s.x.text s.refers)
+    ∙ sym (run-step m (places.Argument (purposes.Listed b done) []) s.x s.rest _ (at_argument m (purposes.Listed b done) [] s.x s.r s.refers))
+    ∙ ap (λ l. run (at m (places.Argument (purposes.Listed b done) [])) l) (sym s.split)
 
 step_after_actual : (m : Module) (k : ActualPurpose) (a : Actual) (d : ℕ) (g : TokenKind) (text : List ℕ) → may_follow_actual g ≡ true → machine.after_actual m k [] a d g text ≡ machine.after_whole m k a g text
 step_after_actual m k a d signs.Question text e = cc
@@ -337,7 +337,7 @@ declare_step : (m : Module) (x : FileToken) (g : TokenKind) → x.sign ≡ g →
 unfolding next_at
 declare_step m x g e = ap (λ k. machine.declare m k) e
 
-opening_step : (m : Module) (l : OpenList) (g : TokenKind) (text : List ℕ) → is_not_type g ≡ true → machine.at_opening m l g text ≡ machine.at_items m l g text
+opening_step : (m : Module) (l : OpenList) (g : TokenKind) (text : List ℕ) → is_not_type g ≡ true → machine.at_list_start m l g text ≡ machine.at_items m l g text
 opening_step m l signs.TypeText text e = cc
 opening_step m l _ text e = refl
 
@@ -597,7 +597,8 @@ again-modifiers {rest = rest} {x = x} {p = p} {i = i} spelling.Modifiers.none e 
 again-modifiers {p = p} {i = i} (spelling.Modifiers.public {x = y} {xs = ys} f t) e m = run-step m (places.Modified p i) y ys _ (modified_public m p i y f) ∙ again-modifiers t e m
 again-modifiers {p = p} {i = i} (spelling.Modifiers.inlined {x = y} {xs = ys} f t) e m = run-step m (places.Modified p i) y ys _ (modified_inline m p i y f) ∙ again-modifiers t e m
 
--- A rule without modifiers begins as one after modifiers.
+-- The tokens with which a rule without modifiers begins, or continues after its modifiers. On such a token the parser
+-- steps at the beginning of a rule as it does after the modifiers of a rule.
 abbrev is_modified : TokenKind → Bool
 is_modified signs.Word = true
 is_modified signs.Public = true

@@ -155,7 +155,7 @@ refused before s x h e (ys, m, f) =
 
 -- Lemmas on costs after lexemes.
 
--- The lexemes with a cost after the last of them, which counts if that has no cost yet.
+-- The tokens, where the last one gets this cost unless it has a cost already.
 abbrev amended : Option ℕ → List FileToken → List FileToken
 amended c [] = []
 amended c (x ∷ []) = record x { cost = option_or x.cost c } ∷ []
@@ -214,7 +214,10 @@ parser_after-plain (x ∷ y ∷ ys) c s t e = by (next_at s.made s.place x.sign 
 
 -- Lemmas on lexemes.
 
--- The costs and the grammar's view of lexemes that are followed by others.
+-- The tokens that the parser sees of two lists of lexemes, one after the other: `rs` are the tokens of the first list,
+-- `zs` those of the second, and `qs` those of both. A list may begin with a cost, which belongs to the token before the
+-- list: a for the first list, c for the second, and b for both. The last token of `rs` gets the cost c, unless it has a
+-- cost already.
 record Joins (c a b : Option ℕ) (rs zs qs : List FileToken) : Type 0 where
   alone : rs ≡ [] → b ≡ option_or a c
   others : (x : FileToken) (xs : List FileToken) → rs ≡ x ∷ xs → b ≡ a
@@ -248,7 +251,8 @@ joins bytes (l ∷ ls) ks =
 pub file_tokens-append : (bytes : List ℕ) (ls ks : List Lexeme) → file_tokens bytes (ls ++ ks) ≡ amended (cost_after bytes ks) (file_tokens bytes ls) ++ file_tokens bytes ks
 file_tokens-append bytes ls ks = (joins bytes ls ks).reads
 
--- The grammar's view of the lexemes after one more lexeme.
+-- The tokens that the parser sees after one more lexeme: a lexeme without a token kind only adds its cost to the last
+-- token.
 abbrev pub one_more : List FileToken → Option TokenKind → List ℕ → Option ℕ → List FileToken
 one_more before None text c = amended c before
 one_more before (Some g) text c = before ++ record { sign = g; text = text; cost = None } ∷ []

@@ -344,7 +344,7 @@ module _ (x : FileToken) (xs : List FileToken) (out : Module) where
   back_comma m l signs.Quoted e h = back_quoted m l e h
   back_comma m l _ e h = absurd h
 
-  back_opening : (m : Module) (l : OpenList) (g : TokenKind) → x.sign ≡ g → Stepped (machine.at_opening m l g x.text) Rest → Opened m l (x ∷ xs) out
+  back_opening : (m : Module) (l : OpenList) (g : TokenKind) → x.sign ≡ g → Stepped (machine.at_list_start m l g x.text) Rest → Opened m l (x ∷ xs) out
   back_opening m l signs.TypeText e h = (xs, spelling.OptionalType.given e, h)
   back_opening m l g e h = (x ∷ xs, spelling.OptionalType.absent, back_items m l g e h)
 
@@ -577,7 +577,7 @@ comma_safe m l signs.Word text = word_safe m l text
 comma_safe m l signs.Quoted text = quoted_safe m l text
 comma_safe m l _ text = tt
 
-opening_safe : (m : Module) (l : OpenList) (g : TokenKind) (text : List ℕ) → Safe (machine.at_opening m l g text)
+opening_safe : (m : Module) (l : OpenList) (g : TokenKind) (text : List ℕ) → Safe (machine.at_list_start m l g text)
 opening_safe m l signs.TypeText text = tt
 opening_safe m l g text = items_safe m l g text
 

@@ -2,7 +2,7 @@
 use Rattle.std.specs.Prelude.{◌≡◌, ◌<◌, ◌≤◌, ◌+◌, ◌-◌, ◌*◌, ◌==◌, ◌&&◌, ℕ, Bool, true, cond, List, [], ◌∷◌, ◌++◌, length, Option, Some, None, drop, take, nat_lt, nat_le, nat_eq, codes, decimal}
 use Rattle.std.specs.List.{AllByRecursion}
 use Rattle.std.specs.Cmp.Lexicographic.{pointwise}
-use Rattle.mh_grammar.specs.declared.types.TheConstants.{MAX_COST}
+use Rattle.mh_grammar.specs.Limits.{max_cost}
 use Rattle.mh_lex_bytes.specs.Bytes.{byte_at, is_blank, is_decimal}
 
 -- The text of a cost attribute.
@@ -10,13 +10,13 @@ use Rattle.mh_lex_bytes.specs.Bytes.{byte_at, is_blank, is_decimal}
 -- `[@cost`, one or more blanks, a number from 1 to 1,000 in decimal without leading zeros, blanks or none, and `]`.
 pub record IsCostText (text : List ℕ) (cost : ℕ) : Type 0 where
   pub before : List ℕ
-  pub behind : List ℕ
+  pub after : List ℕ
   pub some : 0 < length before
   pub blanks_before : AllByRecursion (λ b. is_blank b ≡ true) before
-  pub blanks_behind : AllByRecursion (λ b. is_blank b ≡ true) behind
+  pub blanks_after : AllByRecursion (λ b. is_blank b ≡ true) after
   pub least : 1 ≤ cost
-  pub most : cost ≤ MAX_COST
-  pub text_is : text ≡ codes "[@cost" ++ (before ++ (decimal cost ++ (behind ++ 93 ∷ [])))
+  pub most : cost ≤ max_cost
+  pub text_is : text ≡ codes "[@cost" ++ (before ++ (decimal cost ++ (after ++ 93 ∷ [])))
 
 -- The cost that a text gives.
 
@@ -31,7 +31,7 @@ value n [] = n
 value n (c ∷ cs) = value (n * 10 + (c - 48)) cs
 
 abbrev pub cost_in_range : ℕ → Option ℕ
-cost_in_range n = cond (nat_le 1 n && nat_le n MAX_COST) (Some n) None
+cost_in_range n = cond (nat_le 1 n && nat_le n max_cost) (Some n) None
 
 -- Blanks or none, and the closing bracket.
 abbrev pub is_closing_text : List ℕ → Bool

@@ -6,7 +6,7 @@ use Rattle.std.specs.Option.{option_or}
 use Rattle.mh_grammar.specs.declared.types.Assoc.{Assoc}
 use Rattle.mh_lex.specs.declared.kinds.Lexeme.{Lexeme}
 use Rattle.mh_lex.specs.Lexing.{Lexes}
-use Rattle.mh_rules.specs.declared.modules.TheConstants.{MAX_DEPTH}
+use Rattle.mh_rules.specs.Limits.{max_actual_depth}
 use Rattle.mh_rules.specs.declared.modules.Ref.{Ref}
 use Rattle.mh_rules.specs.declared.modules.Ref.TheVariants.{Plain, Alias}
 use Rattle.mh_rules.specs.declared.modules.Actual.{Actual}
@@ -61,7 +61,7 @@ mutual
 
 -- An actual that is not too deep.
 pub data LimitedActual : List FileToken → List FileToken → Actual → Type 0 where
-  limited : {xs rest : List FileToken} {a : Actual} {d : ℕ} → IsActual xs rest a d → d ≤ MAX_DEPTH → LimitedActual xs rest a
+  limited : {xs rest : List FileToken} {a : Actual} {d : ℕ} → IsActual xs rest a d → d ≤ max_actual_depth → LimitedActual xs rest a
 
 -- `([","] X)*` after the items in `done`.
 pub data ListOf (A : Type 0) (X : List FileToken → List FileToken → A → Type 0) : List A → List FileToken → List FileToken → List A → Type 0 where

@@ -7,6 +7,7 @@ ghost use Rattle.mh_reader_parser.specs.Spelling.{ref_by};
 ghost use Rattle.mh_reader_parser.specs.code.ParserSteps as machine;
 ghost use Rattle.mh_reader_parser.specs.code.ParserSteps.{AgreesWithStep, with_argument, with_producer};
 ghost use Rattle.mh_reader_parser.specs.code.DepthLimit.{AreOpenShallow};
+ghost use Rattle.mh_rules.specs.Limits.{max_actual_depth};
 
 use crate::declarations::at_items;
 use crate::parser_states::{
@@ -36,7 +37,7 @@ pub(crate) struct ActualContext {
 
 /// Returns whether one level more than this depth is within the limit, inside this number of brackets.
 fn has_room(depth: usize, brackets: usize) -> bool
-    ensures { result ≡ nat_le (suc depth + brackets) MAX_DEPTH }
+    ensures { result ≡ nat_le (suc depth + brackets) max_actual_depth }
 {
     brackets < MAX_DEPTH && depth < MAX_DEPTH - brackets
 }
@@ -159,8 +160,8 @@ fn after_argument(
     argument: ActualWithDepth,
     sign: TokenKind,
 ) -> Result<Parser, ParseFault>
-    requires inner { inner.depth ≤ MAX_DEPTH }
-    requires outer { argument.depth ≤ MAX_DEPTH }
+    requires inner { inner.depth ≤ max_actual_depth }
+    requires outer { argument.depth ≤ max_actual_depth }
     ensures { AgreesWithStep (machine.after_argument made purpose inner rest argument.actual argument.depth sign) result }
 {
     match add_argument(inner, argument) {
@@ -189,7 +190,7 @@ fn above(
     sign: TokenKind,
     text: &[u8],
 ) -> Result<Parser, ParseFault>
-    requires fits { read.depth + length within.pending ≤ MAX_DEPTH }
+    requires fits { read.depth + length within.pending ≤ max_actual_depth }
     requires deep { AreOpenShallow within.pending }
     ensures { AgreesWithStep (machine.after_suffixes made within.purpose within.pending read.actual read.depth sign text.now) result }
 {
@@ -238,7 +239,7 @@ pub(crate) fn after(
     sign: TokenKind,
     text: &[u8],
 ) -> Result<Parser, ParseFault>
-    requires fits { read.depth + length within.pending ≤ MAX_DEPTH }
+    requires fits { read.depth + length within.pending ≤ max_actual_depth }
     requires deep { AreOpenShallow within.pending }
     ensures { AgreesWithStep (machine.after_actual made within.purpose within.pending read.actual read.depth sign text.now) result }
 {
@@ -276,7 +277,7 @@ pub(crate) fn at_head(
     sign: TokenKind,
     text: &[u8],
 ) -> Result<Parser, ParseFault>
-    requires fits { 1 + length within.pending ≤ MAX_DEPTH }
+    requires fits { 1 + length within.pending ≤ max_actual_depth }
     requires deep { AreOpenShallow within.pending }
     ensures { AgreesWithStep (machine.at_head made within.purpose within.pending head sign text.now) result }
 {

@@ -6,7 +6,7 @@ ghost use Rattle.mh_reader_parser.specs.code.DepthLimit.{IsStateShallow};
 
 use crate::actuals::{ActualContext, ActualWithDepth, after, at_argument, at_head, at_named};
 use crate::declarations::{
-    at_aliased, at_comma, at_items, at_opening, at_parameter, at_token, at_type, declare,
+    at_aliased, at_comma, at_items, at_list_start, at_parameter, at_token, at_type, declare,
 };
 use crate::parser_states::{ParseFault, Parser, ParserState, unexpected};
 use crate::rules::{
@@ -18,8 +18,8 @@ use crate::token_kinds::TokenKind;
 use mh_rules::Module;
 use std::alloc::Global;
 
-/// Returns the module, for a state that carries nothing more. The state is dropped in one call, because to drop it in
-/// each arm is much more expensive to prove.
+/// Returns the module, for a state without other data. The state is dropped in one call, because to drop it in each arm
+/// is much more expensive to prove.
 fn made_of(made: Module, place: ParserState) -> Module
     ensures { result ≡ made }
 {
@@ -41,7 +41,7 @@ pub(crate) fn advance(
     let Parser { made, place } = reader;
     match place {
         ParserState::Declarations => declare(alloc, made_of(made, place), sign),
-        ParserState::Opening(listing) => at_opening(alloc, made, listing, sign, text),
+        ParserState::Opening(listing) => at_list_start(alloc, made, listing, sign, text),
         ParserState::TypeOf => at_type(alloc, made_of(made, place), sign),
         ParserState::Items(listing) => at_items(alloc, made, listing, sign, text),
         ParserState::Comma(listing) => at_comma(alloc, made, listing, sign, text),

@@ -214,14 +214,14 @@ pub(crate) fn at_comma(
 }
 
 /// Takes a lexeme after the keyword of a list; it may be a type.
-pub(crate) fn at_opening(
+pub(crate) fn at_list_start(
     alloc: Global,
     made: Module,
     listing: OpenList,
     sign: TokenKind,
     text: &[u8],
 ) -> Result<Parser, ParseFault>
-    ensures { AgreesWithStep (machine.at_opening made listing sign text.now) result }
+    ensures { AgreesWithStep (machine.at_list_start made listing sign text.now) result }
 {
     match sign {
         TokenKind::TypeText => go_to(made, ParserState::Items(listing)),

@@ -99,14 +99,14 @@ fn mark_at(text: &[u8]) -> TokenKind
 fn keyword_at(text: &[u8]) -> TokenKind
     ensures { result ≡ kind_of_word (drop 1 text.now) }
 {
-    match keyword_of(behind_first(text)) {
+    match keyword_of(after_first(text)) {
         Some(keyword) => keyword_sign(keyword),
         None => TokenKind::Unknown,
     }
 }
 
 /// The bytes after the first.
-fn behind_first(text: &[u8]) -> &[u8]
+fn after_first(text: &[u8]) -> &[u8]
     ensures value { result.now ≡ drop 1 text.now }
 {
     if text.is_empty() {

@@ -24,7 +24,7 @@ goto_text_is g a n edges row old new lt e f is = is ∙ ap (λ (l : List Edge). 
 pub state_text_is : (g : Grammar) (a : Automaton) (t : TableData) (s : ℕ) (old t1 t2 t3 t4 : Text) → t1 ≡ old ++ head_line s → t2 ≡ t1 ++ kernel_lines g (kernel_at a s).items
     → AppendsText (AreActionLines g a t s (fallback_of t s)) t2 t3 → t4 ≡ t3 ++ goto_lines g (edges_at a s) → AppendsText (IsStateText g a t s) old t4
 state_text_is g a t s old t1 t2 t3 t4 e1 e2 (actions, are, e3) e4 =
-    (head_line s ++ kernel_lines g (kernel_at a s).items ++ actions ++ goto_lines g (edges_at a s), record { actions = actions; are = are; is = refl }, pieces old _ _ actions _ t1 t2 t3 t4 e1 e2 e3 e4)
+    (head_line s ++ kernel_lines g (kernel_at a s).items ++ actions ++ goto_lines g (edges_at a s), record { actions = actions; are_actions = are; is = refl }, pieces old _ _ actions _ t1 t2 t3 t4 e1 e2 e3 e4)
 
 -- The invariant of the loop over the states, after one more state.
 pub state_texts_more : (g : Grammar) (a : Automaton) (t u : TableData) (s n : ℕ) (title old new : Text) → n ≡ suc s → u ≡ t → ((states : Text) × AreStateTexts g a t s states × (old ≡ title ++ states))

@@ -37,7 +37,7 @@ actions_once g a t s None x y p q = p.2 ∙ ap (λ (holes : List Bool). cell_lin
 
 state_once : (g : Grammar) (a : Automaton) (t : TableData) (s : ℕ) (x y : Text) → IsStateText g a t s x → IsStateText g a t s y → x ≡ y
 state_once g a t s x y p q =
-    let same = actions_once g a t s (fallback_of t s) p.actions q.actions p.are q.are in
+    let same = actions_once g a t s (fallback_of t s) p.actions q.actions p.are_actions q.are_actions in
     p.is ∙ ap (λ (lines : Text). head_line s ++ kernel_lines g (kernel_at a s).items ++ lines ++ goto_lines g (edges_at a s)) same ∙ sym q.is
 
 states_once : (g : Grammar) (a : Automaton) (t : TableData) (n : ℕ) (x y : Text) → AreStateTexts g a t n x → AreStateTexts g a t n y → x ≡ y
@@ -45,4 +45,4 @@ states_once g a t zero x y p q = p ∙ sym q
 states_once g a t (suc n) x y p q = p.4 ∙ ap₂ (λ (front last : Text). front ++ last) (states_once g a t n p.0 q.0 p.2 q.2) (state_once g a t n p.1 q.1 p.3 q.3) ∙ sym q.4
 
 pub text_once : (g : Grammar) (a : Automaton) (mode : Mode) (t : TableData) (x y : Text) → IsAutomatonText g a mode t x → IsAutomatonText g a mode t y → x ≡ y
-text_once g a mode t x y p q = p.is ∙ ap (λ (states : Text). title mode (length a.kernels) ++ states) (states_once g a t (length a.kernels) p.states q.states p.are q.are) ∙ sym q.is
+text_once g a mode t x y p q = p.is ∙ ap (λ (states : Text). title mode (length a.kernels) ++ states) (states_once g a t (length a.kernels) p.states q.states p.are_states q.are_states) ∙ sym q.is

@@ -64,7 +64,7 @@ head_line s = codes "state " ++ decimal s ++ codes "\n"
 -- The text of a state: its number, its kernel, its actions, and its edges on nonterminals.
 pub record IsStateText (g : Grammar) (a : Automaton) (t : TableData) (s : ℕ) (text : Text) : Type 0 where
   pub actions : Text
-  pub are : AreActionLines g a t s (fallback_of t s) actions
+  pub are_actions : AreActionLines g a t s (fallback_of t s) actions
   pub is : text ≡ head_line s ++ kernel_lines g (kernel_at a s).items ++ actions ++ goto_lines g (edges_at a s)
 
 -- The text consists of the texts of the first n states.
@@ -75,7 +75,7 @@ AreStateTexts g a t (suc n) text = (front last : Text) × AreStateTexts g a t n 
 -- The text of an automaton: its mode and number of states, and then each state.
 pub record IsAutomatonText (g : Grammar) (a : Automaton) (mode : Mode) (t : TableData) (text : Text) : Type 0 where
   pub states : Text
-  pub are : AreStateTexts g a t (length a.kernels) states
+  pub are_states : AreStateTexts g a t (length a.kernels) states
   pub is : text ≡ title mode (length a.kernels) ++ states
 
 -- The new text is the old one with a text of this kind appended.

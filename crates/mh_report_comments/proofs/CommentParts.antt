@@ -63,6 +63,6 @@ module _ (t : TableData) (f : Facts t) (start : ℕ) (w : List ℕ) (fails : (s 
         item = item;
         farthest = rw (← same) farthest;
         reduced = ps;
-        traced = rw here traced;
+        trace = rw here traced;
         is = written ∙ ap (λ (front : Text). front ++ comments g items s item ps) none ∙ ap (λ (xs : List KernelItem). comments g xs s item ps) same;
       }

@@ -10,7 +10,7 @@ use Rattle.mh_report_comments.specs.Comments.{HasFarthestDot}
 pub record FarthestSoFar (items : List KernelItem) (n : ℕ) (best : KernelItem) : Type 0 where
   pub place : ℕ
   pub within : place < length items
-  pub there : get_or items place best ≡ best
+  pub item_is : get_or items place best ≡ best
   pub first : (k : ℕ) (d : KernelItem) → k < place → (get_or items k d).dot < best.dot
   pub each : (k : ℕ) (d : KernelItem) → k < n → (get_or items k d).dot ≤ best.dot
 
@@ -31,32 +31,32 @@ so_far_more items i item old new h lt is (inl (same, farther)) =
     subst (FarthestSoFar items (i + 1)) (sym same) (record {
       place = i;
       within = lt;
-      there = sym is;
+      item_is = sym is;
       first = λ k d less. let le = h.each k d less in omega arith;
       each = each_more items i item old item h.each lt is (omega arith) (omega arith);
     })
 so_far_more items i item old new h lt is (inr (same, nearer)) =
-    subst (FarthestSoFar items (i + 1)) (sym same) (record { place = h.place; within = h.within; there = h.there; first = h.first; each = each_more items i item old old h.each lt is (omega arith) nearer })
+    subst (FarthestSoFar items (i + 1)) (sym same) (record { place = h.place; within = h.within; item_is = h.item_is; first = h.first; each = each_more items i item old old h.each lt is (omega arith) nearer })
 
 pub so_far_all : (items : List KernelItem) (n : ℕ) (best : KernelItem) → FarthestSoFar items n best → length items ≤ n → HasFarthestDot items best
-so_far_all items n best h all = record { place = h.place; within = h.within; there = h.there; first = λ k less. h.first k best less; farthest = λ k less. h.each k best (omega arith) }
+so_far_all items n best h all = record { place = h.place; within = h.within; item_is = h.item_is; first = λ k less. h.first k best less; farthest = λ k less. h.each k best (omega arith) }
 
 -- The item with the farthest dot has every property that all items have.
 pub farthest_among : (P : KernelItem → Type 0) (items : List KernelItem) (item : KernelItem) → All P items → HasFarthestDot items item → P item
-farthest_among P items item all far = subst P far.there (all far.place item far.within)
+farthest_among P items item all far = subst P far.item_is (all far.place item far.within)
 
 -- The first item with the farthest dot is unique.
 pub farthest_once : (items : List KernelItem) (x y : KernelItem) → HasFarthestDot items x → HasFarthestDot items y → x ≡ y
 farthest_once items x y p q =
-    let at_x : get_or items p.place y ≡ x = get_or_default items p.place y x p.within ∙ p.there in
-    let at_y : get_or items q.place x ≡ y = get_or_default items q.place x y q.within ∙ q.there in
+    let at_x : get_or items p.place y ≡ x = get_or_default items p.place y x p.within ∙ p.item_is in
+    let at_y : get_or items q.place x ≡ y = get_or_default items q.place x y q.within ∙ q.item_is in
     let x_far : x.dot ≤ y.dot = rw at_x at (q.farthest p.place p.within) in
     let y_far : y.dot ≤ x.dot = rw at_y at (p.farthest q.place q.within) in
     elim (cases_lt p.place q.place) [
       | inl less ↦ (let lower : x.dot < y.dot = rw at_x at (q.first p.place less) in absurd (omega arith))
       | inr more ↦ elim (cases_lt q.place p.place) [
         | inl less ↦ (let lower : y.dot < x.dot = rw at_y at (p.first q.place less) in absurd (omega arith))
-        | inr other ↦ (let same : p.place ≡ q.place = omega arith in sym p.there ∙ get_or_default items p.place x y p.within ∙ ap (λ (k : ℕ). get_or items k y) same ∙ q.there)
+        | inr other ↦ (let same : p.place ≡ q.place = omega arith in sym p.item_is ∙ get_or_default items p.place x y p.within ∙ ap (λ (k : ℕ). get_or items k y) same ∙ q.item_is)
       ]
     ]
 
@@ -65,7 +65,7 @@ begins : (item : KernelItem) (items : List KernelItem) → FarthestSoFar (item �
 begins item items = record {
   place = 0;
   within = omega arith;
-  there = refl;
+  item_is = refl;
   first = λ k d less. absurd (let l : ⊥ = omega (arith, less) in l);
   each = λ k d less. (let zero_is : k ≡ 0 = omega arith in rw zero_is (omega arith));
 }

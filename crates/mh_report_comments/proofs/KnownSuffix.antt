@@ -20,10 +20,10 @@ module _ (t : TableData) (f : Facts t) where
         let within : k + 1 < length stack = omega arith in
         let edge = h.path.edges k within in
         let next : k + 1 ≡ suc k = omega arith in
-        let of_p = f.behind (get_or stack k 0) edge.0 (get_or stack (k + 1) 0) p (suc d) edge.1 (rw next a) in
-        let of_q = f.behind (get_or stack k 0) edge.0 (get_or stack (k + 1) 0) q (suc e) edge.1 (rw next b) in
-        by j of_p.symbol of_q.symbol in_d in_e (λ i is. elim of_p.begun [
-          | inl c ↦ elim of_q.begun [
+        let of_p = f.moved_from (get_or stack k 0) edge.0 (get_or stack (k + 1) 0) p (suc d) edge.1 (rw next a) in
+        let of_q = f.moved_from (get_or stack k 0) edge.0 (get_or stack (k + 1) 0) q (suc e) edge.1 (rw next b) in
+        by j of_p.symbol of_q.symbol in_d in_e (λ i is. elim of_p.source [
+          | inl c ↦ elim of_q.source [
             | inl u ↦ (let p_place : suc d - 1 ≡ d = omega arith in let q_place : suc e - 1 ≡ e = omega arith in
                 agree k p d q e i (omega arith) (rw p_place at c) (rw q_place at u) (omega arith) (omega arith))
             | inr u ↦ absurd (omega (arith, u.0))
@@ -43,5 +43,5 @@ module _ (t : TableData) (f : Facts t) where
   pub suffix_agrees : (start s : ℕ) (w : List ℕ) → Fails t start w s → (p d q e j : ℕ) → InCore t s p d → InCore t s q e → j < d → j < e → slice_get (rhs_of t.grammar p) (d - 1 - j) ≡ slice_get (rhs_of t.grammar q) (e - 1 - j)
   suffix_agrees start s w fails p d q e j a b in_d in_e =
       let r = reached t f start w (length w - 1) s fails.sentence.known fails.verdict in
-      let begun = r.run.path.begun in
+      let begun = r.run.path.not_empty in
       agree r.stack r.run (length r.stack - 1) p d q e j (omega arith) (subst (λ (r : ℕ). InCore t r p d) r.top a) (subst (λ (r : ℕ). InCore t r q e) r.top b) in_d in_e

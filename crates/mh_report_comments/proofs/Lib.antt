@@ -2,3 +2,4 @@ pub mod KnownSuffix
 pub mod OneCommentText
 pub mod HasFarthestDot
 pub mod CommentParts
+pub mod AreEntries

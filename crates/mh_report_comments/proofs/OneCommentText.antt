@@ -58,10 +58,10 @@ module _ (g : Grammar) (a : Automaton) (t : TableData) where
       let same : q.state ≡ p.state = state_once start w q.state p.state q.fails p.fails in
       let farthest : HasFarthestDot (kernel_at a p.state).items q.item = subst (λ (s : ℕ). HasFarthestDot (kernel_at a s).items q.item) same q.farthest in
       let item : p.item ≡ q.item = farthest_once (kernel_at a p.state).items p.item q.item p.farthest farthest in
-      let reduced : p.reduced ≡ q.reduced = trace_once t start w p.reduced q.reduced _ _ p.traced q.traced in
+      let reduced : p.reduced ≡ q.reduced = trace_once t start w p.reduced q.reduced _ _ p.trace q.trace in
       p.is ∙ ap (λ i. comments g (kernel_at a p.state).items p.state i p.reduced) item
       ∙ ap (λ (ps : List ℕ). comments g (kernel_at a p.state).items p.state q.item ps) reduced ∙ ap (λ (s : ℕ). comments g (kernel_at a s).items s q.item q.reduced) (sym same) ∙ sym q.is
 
   pub entry_once : (start : ℕ) (w : List ℕ) (x y : Text) → IsEntryText g a t start w x → IsEntryText g a t start w y → x ≡ y
   entry_once start w x y p q =
-      p.is ∙ ap (λ (lines : Text). sentence_text g start w ++ codes "\n" ++ lines ++ message_placeholder) (comments_once start w p.comments q.comments p.are q.are) ∙ sym q.is
+      p.is ∙ ap (λ (lines : Text). sentence_text g start w ++ codes "\n" ++ lines ++ message_placeholder) (comments_once start w p.comments q.comments p.are_comments q.are_comments) ∙ sym q.is

@@ -48,7 +48,7 @@ message_placeholder = codes "\n<YOUR SYNTAX ERROR MESSAGE HERE>\n\n"
 pub record HasFarthestDot (items : List KernelItem) (item : KernelItem) : Type 0 where
   pub place : ℕ
   pub within : place < length items
-  pub there : slice_index_or items place item ≡ item
+  pub item_is : slice_index_or items place item ≡ item
   pub first : (k : ℕ) → k < place → (slice_index_or items k item).dot < item.dot
   pub farthest : (k : ℕ) → k < length items → (slice_index_or items k item).dot ≤ item.dot
 
@@ -71,7 +71,7 @@ pub record IsCommentText (g : Grammar) (a : Automaton) (t : TableData) (start : 
   pub item : KernelItem
   pub farthest : HasFarthestDot (kernel_at a state).items item
   pub reduced : List ℕ
-  pub traced : TraceOf t start w (Rejected (length w - 1) state) reduced
+  pub trace : TraceOf t start w (Rejected (length w - 1) state) reduced
   pub is : text ≡ comments g (kernel_at a state).items state item reduced
 
 -- The new text is the old one with the comment lines of a state appended, for the item with the farthest dot.
@@ -82,5 +82,5 @@ AppendsComments g items s ps old new = (item : KernelItem) × HasFarthestDot ite
 -- message, and an empty line.
 pub record IsEntryText (g : Grammar) (a : Automaton) (t : TableData) (start : ℕ) (w : List ℕ) (text : Text) : Type 0 where
   pub comments : Text
-  pub are : IsCommentText g a t start w comments
+  pub are_comments : IsCommentText g a t start w comments
   pub is : text ≡ sentence_text g start w ++ codes "\n" ++ comments ++ message_placeholder

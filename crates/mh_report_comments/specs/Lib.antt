@@ -1,2 +1,3 @@
 pub mod Comments
+pub mod CatalogueTexts
 pub mod Fitting

@@ -5,4 +5,4 @@ mod laws;
 mod lines;
 
 pub use laws::{entry_is_one, known_suffix_is_one};
-pub use lines::{comment_lines, entry_text};
+pub use lines::{comment_lines, entry_text, write_comments};

@@ -105,7 +105,8 @@ fn farthest<const W: usize>(items: &[KernelItem<W>]) -> &KernelItem<W>
 }
 
 /// Appends the comment lines of a state with these items; `reduced` has the productions reduced since the last shift.
-fn write_comments<const W: usize>(
+/// Fails only if memory runs out.
+pub fn write_comments<const W: usize>(
     alloc: Global,
     text: &mut Vec<u8>,
     grammar: &Grammar,

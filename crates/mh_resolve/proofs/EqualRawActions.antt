@@ -28,11 +28,11 @@ takes_same by R S e (Reduce p) s = (stays_same by R S e (Reduce p) s.0, λ q h. 
 takes_same by R S e Refuse s = s
 
 conflict_same : (R S : Action → Type 0) → AreAlike R S → IsConflict R → IsConflict S
-conflict_same R S e c = record { one = c.one; other = c.other; raw_one = e.to c.one c.raw_one; raw_other = e.to c.other c.raw_other; two = c.two }
+conflict_same R S e c = record { one = c.one; other = c.other; raw_one = e.to c.one c.raw_one; raw_other = e.to c.other c.raw_other; differ = c.differ }
 
 unsolved_same : (by : ℕ → Comparison) (R S : Action → Type 0) → AreAlike R S → IsUnsolved by R → IsUnsolved by S
 unsolved_same by R S e (inl u) = inl (record { target = u.target; production = u.production; shift = e.to (Shift u.target) u.shift; reduce = e.to (Reduce u.production) u.reduce; unknown = u.unknown })
-unsolved_same by R S e (inr t) = inr (record { one = t.one; other = t.other; stays_one = stays_same by R S e (Reduce t.one) t.stays_one; stays_other = stays_same by R S e (Reduce t.other) t.stays_other; below = t.below })
+unsolved_same by R S e (inr t) = inr (record { one = t.one; other = t.other; one_remains = stays_same by R S e (Reduce t.one) t.one_remains; other_remains = stays_same by R S e (Reduce t.other) t.other_remains; below = t.below })
 
 kind_same : (by : ℕ → Comparison) (R S : Action → Type 0) → AreAlike R S → (k : Option ConflictKind) → IsKind by R k → IsKind by S k
 kind_same by R S e None h = λ c. h (conflict_same S R (alike_sym e) c)

@@ -63,10 +63,10 @@ row_is g kernel closed edges e k items same cells slice row last stream a d f h 
     }
 
 candidate_to : (g : Grammar) (kernel : Kernel) (closed : Items) (edges : List Edge) → IsListed g kernel closed → (p r : ℕ) → IsErrorCandidate (state_of_items g closed.items []) p r → IsErrorCandidate (closed_state g kernel edges) p r
-candidate_to g kernel closed edges e p r c = record { look = c.look; complete = (e p c.look).0 c.complete; named = c.named }
+candidate_to g kernel closed edges e p r c = record { look = c.look; complete = (e p c.look).0 c.complete; rank_is = c.rank_is }
 
 candidate_from : (g : Grammar) (kernel : Kernel) (closed : Items) (edges : List Edge) → IsListed g kernel closed → (p r : ℕ) → IsErrorCandidate (closed_state g kernel edges) p r → IsErrorCandidate (state_of_items g closed.items []) p r
-candidate_from g kernel closed edges e p r c = record { look = c.look; complete = (e p c.look).1 c.complete; named = c.named }
+candidate_from g kernel closed edges e p r c = record { look = c.look; complete = (e p c.look).1 c.complete; rank_is = c.rank_is }
 
 errors_to : (g : Grammar) (kernel : Kernel) (closed : Items) (edges : List Edge) → IsListed g kernel closed → (p : ℕ) → IsErrorReduction (state_of_items g closed.items []) p → IsErrorReduction (closed_state g kernel edges) p
 errors_to g kernel closed edges e p f = record { rank = f.rank; candidate = candidate_to g kernel closed edges e p f.rank f.candidate; lowest = λ q r c. f.lowest q r (candidate_from g kernel closed edges e q r c) }

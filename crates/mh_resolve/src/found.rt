@@ -33,7 +33,8 @@ fn stream_kind(stream: bool) -> Option<ConflictKind>
     }
 }
 
-/// Appends the conflicts of a state: by token, then at the end of the stream, and the end-of-stream conflict last.
+/// Appends the conflicts of a state: first those on tokens, then that between actions at the end of the stream, and
+/// last the conflict of the action at the end of the stream with an action on a token.
 pub(crate) fn add_conflicts(
     conflicts: &mut Vec<Conflict>,
     state: u32,

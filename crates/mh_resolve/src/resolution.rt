@@ -128,7 +128,7 @@ fn all_states<const W: usize>(
     requires costs { HaveCosts grammar.now.tokens }
     requires automaton { IsAutomaton (plain_of grammar.now) automaton.now }
     requires none { found.old.states.items ≡ [] }
-    requires free { found.old.conflicts.items ≡ [] }
+    requires no_conflicts { found.old.conflicts.items ≡ [] }
     ensures states { OnOk result (AreResolved grammar.now automaton.now mode found.new.states.items) }
     ensures facts { OnOk result (Facts (table_data grammar.now found.new.states.items)) }
     ensures conflicts { OnOk result (AreConflicts grammar.now automaton.now found.new.conflicts.items) }
@@ -151,7 +151,7 @@ fn add_states<const W: usize>(
     requires automaton { IsAutomaton (plain_of grammar.now) automaton.now }
     requires closer { IsClosureBuilder (plain_of grammar.now) closer.old }
     requires none { found.old.states.items ≡ [] }
-    requires free { found.old.conflicts.items ≡ [] }
+    requires no_conflicts { found.old.conflicts.items ≡ [] }
     ensures states { OnOk result (AreResolved grammar.now automaton.now mode found.new.states.items) }
     ensures facts { OnOk result (Facts (table_data grammar.now found.new.states.items)) }
     ensures conflicts { OnOk result (AreConflicts grammar.now automaton.now found.new.conflicts.items) }

@@ -38,11 +38,11 @@ kept_raw s (Token z) a k = chosen_is_raw s (Token z) a k
 kept_raw s End a k = chosen_is_raw s End a k.0
 
 raw_kept : (s : State) → IsConflictFreeState s → (look : Look) (a : Action) → Raw s look a → IsKeptOn s look a
-raw_kept s clear (Token z) a r = raw_is_chosen s (Token z) (clear.one (Token z)) a r
-raw_kept s clear End a r = (raw_is_chosen s End (clear.one End) a r, clear.stream)
+raw_kept s clear (Token z) a r = raw_is_chosen s (Token z) (clear.no_conflict (Token z)) a r
+raw_kept s clear End a r = (raw_is_chosen s End (clear.no_conflict End) a r, clear.no_stream_conflict)
 
 no_hole : (s : State) → IsConflictFreeState s → (look : Look) → IsHoleOn s look → ⊥
-no_hole s clear look h = h.none_stays h.action (chosen_remains s look h.action (raw_is_chosen s look (clear.one look) h.action h.raw))
+no_hole s clear look h = h.none_remains h.action (chosen_remains s look h.action (raw_is_chosen s look (clear.no_conflict look) h.action h.raw))
 
 same_action : (a b : Action) → (a ≡ b) ⊎ (a ≡ b → ⊥)
 same_action (Shift i) (Shift j) = elim (cases_eq i j) [ inl e ↦ inl (ap Shift e) | inr n ↦ inr (λ e. n (let same : i ≡ j = cc in same)) ]
@@ -58,19 +58,19 @@ same_action Refuse Refuse = inl refl
 -- Without conflicts, two raw actions on one look are equal, and a raw action at the end of the stream equals that on
 -- each token.
 raw_same : (s : State) → IsConflictFreeState s → (look : Look) (a b : Action) → Raw s look a → Raw s look b → a ≡ b
-raw_same s clear look a b r q = chosen_unique s look a b (raw_is_chosen s look (clear.one look) a r) (raw_is_chosen s look (clear.one look) b q)
+raw_same s clear look a b r q = chosen_unique s look a b (raw_is_chosen s look (clear.no_conflict look) a r) (raw_is_chosen s look (clear.no_conflict look) b q)
 
 as_at_end : (s : State) → IsConflictFreeState s → (end : Action) → Raw s End end → (look : Look) (a : Action) → Raw s look a → a ≡ end
 as_at_end s clear end r End a q = raw_same s clear End a end q r
 as_at_end s clear end r (Token z) a q =
     elim (same_action a end) [
       | inl e ↦ e
-      | inr n ↦ absurd (clear.stream (record {
+      | inr n ↦ absurd (clear.no_stream_conflict (record {
         last = end;
         token = z;
         other = a;
-        takes_last = raw_is_chosen s End (clear.one End) end r;
-        takes_other = raw_is_chosen s (Token z) (clear.one (Token z)) a q;
+        takes_last = raw_is_chosen s End (clear.no_conflict End) end r;
+        takes_other = raw_is_chosen s (Token z) (clear.no_conflict (Token z)) a q;
         differ = λ e. n (sym e);
       }))
     ]
@@ -97,9 +97,9 @@ fallback_clear mode s clear None h (Shift j) r = absurd (let e : None ≡ Some j
 fallback_clear mode s clear None h Refuse r = absurd r
 
 cell_clear : (mode : Mode) (s : State) → IsConflictFreeState s → (z : ℕ) (cell a : Action) → IsCell mode s z cell → Raw s (Token z) a → cell ≡ a
-cell_clear mode s clear z cell a (inl (inl t)) r = chosen_unique s (Token z) cell a t (raw_is_chosen s (Token z) (clear.one (Token z)) a r)
+cell_clear mode s clear z cell a (inl (inl t)) r = chosen_unique s (Token z) cell a t (raw_is_chosen s (Token z) (clear.no_conflict (Token z)) a r)
 cell_clear mode s clear z cell a (inl (inr f)) r = absurd (f.0 a r)
-cell_clear mode s clear z cell a (inr n) r = absurd (n.1 a (inl (raw_is_chosen s (Token z) (clear.one (Token z)) a r)))
+cell_clear mode s clear z cell a (inr n) r = absurd (n.1 a (inl (raw_is_chosen s (Token z) (clear.no_conflict (Token z)) a r)))
 
 -- Without conflicts, a state takes each raw action.
 pub acts_if_conflict_free : (mode : Mode) (s : State) (kernel : Kernel) (parts : StateParts) → IsResolved mode s kernel parts → IsConflictFreeState s → ActsCompletely s parts
@@ -129,7 +129,7 @@ reduces_by mode s ordinary z p cell (inl (inl t)) e = let u = rw e at t in (ordi
 reduces_by mode s ordinary z p cell (inl (inr f)) e =
     let for = f.4 in
     let same : f.2 ≡ p = let x : Reduce p ≡ Reduce f.2 = sym e ∙ f.3 in cc in
-    rw (← same) (named_ordinary s.grammar f.2 for.rank for.candidate.named, record { look = for.candidate.look; complete = for.candidate.complete })
+    rw (← same) (named_ordinary s.grammar f.2 for.rank for.candidate.rank_is, record { look = for.candidate.look; complete = for.candidate.complete })
 reduces_by mode s ordinary z p cell (inr n) e = absurd (let no : Reduce p ≡ Refuse = sym e ∙ n.0 in cc)
 
 -- The actions of a state follow its edges and reduce complete productions, with or without conflicts.
@@ -145,16 +145,16 @@ clear_none : (g : Grammar) (a : Automaton) → HasNoConflicts g a → (c : Confl
 clear_none g a clear c h = go c.kind h.1
   where
     go : (kind : ConflictKind) → HasConflictOn (state_of g a c.state) c.look kind → ⊥
-    go Solved x = (clear c.state h.0).one c.look x.0
-    go Unsolved x = (clear c.state h.0).one c.look (unsolved_conflict _ _ x)
-    go Stream x = (clear c.state h.0).stream x.1
+    go Solved x = (clear c.state h.0).no_conflict c.look x.0
+    go Unsolved x = (clear c.state h.0).no_conflict c.look (unsolved_conflict _ _ x)
+    go Stream x = (clear c.state h.0).no_stream_conflict x.1
 
 pub none_listed : (g : Grammar) (a : Automaton) (conflicts : List Conflict) → AreConflicts g a conflicts → HasNoConflicts g a → conflicts ≡ []
 none_listed g a [] h clear = refl
 none_listed g a (c ∷ cs) h clear = absurd (clear_none g a clear c ((h.members c).0 (contains_at (c ∷ cs) 0 c refl)))
 
 pub none_there : (g : Grammar) (a : Automaton) → AreConflicts g a [] → HasNoConflicts g a
-none_there g a h s lt = record { one = one; stream = λ x. listed (record { state = s; look = End; kind = Stream }) (lt, (refl, x)) }
+none_there g a h s lt = record { no_conflict = one; no_stream_conflict = λ x. listed (record { state = s; look = End; kind = Stream }) (lt, (refl, x)) }
   where
     listed : (c : Conflict) → IsConflictOf g a c → ⊥
     listed c x = let in' = (h.members c).1 x in omega (arith, in'.1)

@@ -23,7 +23,7 @@ use Rattle.mh_resolve_cells.specs.code.StateResults.{IsCellRow, AreEdgesKnown}
 use Rattle.mh_resolve_cells.specs.code.ConflictList.{row_conflicts}
 use Rattle.mh_resolve_cells.specs.Conflicts.{AreConflicts, IsConflictBefore}
 use Rattle.mh_grammar.proofs.Lists.{rising-append}
-use Rattle.mh_resolve_cells.proofs.ConflictList.{row_to, row_from, row_rising}
+use Rattle.mh_resolve_cells.proofs.ConflictList.{row_sound, row_complete, row_rising}
 use Rattle.mh_resolve_cells.specs.declared.kinds.Mode.{Mode}
 use Rattle.mh_resolve_cells.proofs.TableFacts.{facts, moving_symbol}
 
@@ -105,7 +105,7 @@ collected_more g a n cells last stream r conflicts new e k = rw e (record { memb
     to : (c : Conflict) → Contains (conflicts ++ here) c → (c.state < n + 1) × HasConflictOn (state_of g a c.state) c.look c.kind
     to c h = elim (Contains-append_cases conflicts here c h) [
       | inl o ↦ (let old = (k.members c).0 o in (omega (arith, old.0), old.1))
-      | inr o ↦ (let found = row_to (state_of g a n) n cells last stream r c o in let f : c.state ≡ n = found.0 in (omega arith, rw f found.1))
+      | inr o ↦ (let found = row_sound (state_of g a n) n cells last stream r c o in let f : c.state ≡ n = found.0 in (omega arith, rw f found.1))
     ]
 
     from : (c : Conflict) → (c.state < n + 1) × HasConflictOn (state_of g a c.state) c.look c.kind → Contains (conflicts ++ here) c
@@ -114,14 +114,14 @@ collected_more g a n cells last stream r conflicts new e k = rw e (record { memb
       | inr ge ↦ (
           let same : c.state ≡ n = omega (arith, h.0) in
           let at : HasConflictOn (state_of g a n) c.look c.kind = rw (← same) h.1 in
-          Contains-append_right conflicts here c (row_from (state_of g a n) n cells last stream r c same at))
+          Contains-append_right conflicts here c (row_complete (state_of g a n) n cells last stream r c same at))
     ]
 
     rising : IsRising IsConflictBefore (conflicts ++ here)
     rising = rising-append IsConflictBefore conflicts here k.order (row_rising (state_of g a n) n cells last stream r)
         (λ c d h i.
         let old = (k.members c).0 h in
-        let found = row_to (state_of g a n) n cells last stream r d i in
+        let found = row_sound (state_of g a n) n cells last stream r d i in
         let lt : c.state < d.state = omega (arith, old.0, found.0) in
         inl lt)
 

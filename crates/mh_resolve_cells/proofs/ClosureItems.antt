@@ -108,8 +108,8 @@ pub record IsMoveOfItem (g : PlainGrammar) (I : ItemSet) (X : Symbol) (p d : ℕ
   pub place : ℕ
   pub rest : List Symbol
   pub dot : d ≡ suc place
-  pub there : I p place look
+  pub in_set : I p place look
   pub before : drop place (rhs_of g p) ≡ X ∷ rest
 
 pub move_origin : (g : PlainGrammar) (I : ItemSet) (X : Symbol) (p d : ℕ) (look : Look) → Moved g I X p d look → IsMoveOfItem g I X p d look
-move_origin g I X p d look (moved {d = e} {y = y} c s) = record { place = e; rest = y; dot = refl; there = c; before = s }
+move_origin g I X p d look (moved {d = e} {y = y} c s) = record { place = e; rest = y; dot = refl; in_set = c; before = s }

@@ -91,8 +91,8 @@ tokens_rising s z (cell ∷ cells) =
 
 -- The kind of a cell is the kind of its conflict.
 pub unsolved_conflict : (by : ℕ → Comparison) (R : Action → Type 0) → IsUnsolved by R → IsConflict R
-unsolved_conflict by R (inl u) = record { one = Shift u.target; other = Reduce u.production; raw_one = u.shift; raw_other = u.reduce; two = λ e. cc }
-unsolved_conflict by R (inr t) = record { one = Reduce t.one; other = Reduce t.other; raw_one = t.stays_one.0; raw_other = t.stays_other.0; two = λ e. let same : t.one ≡ t.other = cc in let b = t.below in omega arith }
+unsolved_conflict by R (inl u) = record { one = Shift u.target; other = Reduce u.production; raw_one = u.shift; raw_other = u.reduce; differ = λ e. cc }
+unsolved_conflict by R (inr t) = record { one = Reduce t.one; other = Reduce t.other; raw_one = t.one_remains.0; raw_other = t.other_remains.0; differ = λ e. let same : t.one ≡ t.other = cc in let b = t.below in omega arith }
 
 kind_to : (s : State) (look : Look) (found : Option ConflictKind) (kind : ConflictKind) → IsKind (comparison_on s.grammar look) (Raw s look) found → found ≡ Some kind → HasConflictOn s look kind
 kind_to s look None kind h e = cc
@@ -119,8 +119,8 @@ token_is s row last stream r place cell at =
     let same : get_or row place no_cell ≡ cell = get_or_from_slice_get row place cell no_cell at in
     rw same at (r.cells.each place (omega arith))
 
-pub row_to : (s : State) (n : ℕ) (row : List Cell) (last : Cell) (stream : Bool) → IsCellRow s row last stream → (c : Conflict) → Contains (row_conflicts n row last stream) c → (c.state ≡ n) × HasConflictOn s c.look c.kind
-row_to s n row last stream r c h =
+pub row_sound : (s : State) (n : ℕ) (row : List Cell) (last : Cell) (stream : Bool) → IsCellRow s row last stream → (c : Conflict) → Contains (row_conflicts n row last stream) c → (c.state ≡ n) × HasConflictOn s c.look c.kind
+row_sound s n row last stream r c h =
     elim (Contains-append_cases (token_conflicts n 0 row) (found_on n End last.kind ++ found_on n End (stream_kind stream)) c h) [
       | inl t ↦ (
           let i = tokens_to n 0 row c t in
@@ -139,8 +139,8 @@ row_to s n row last stream r c h =
     of_stream true kind e k = let same : Stream ≡ kind = cc in rw (← same) (refl, k refl)
     of_stream false kind e k = cc
 
-pub row_from : (s : State) (n : ℕ) (row : List Cell) (last : Cell) (stream : Bool) → IsCellRow s row last stream → (c : Conflict) → c.state ≡ n → HasConflictOn s c.look c.kind → Contains (row_conflicts n row last stream) c
-row_from s n row last stream r c e h = go c.look refl (at_look refl h)
+pub row_complete : (s : State) (n : ℕ) (row : List Cell) (last : Cell) (stream : Bool) → IsCellRow s row last stream → (c : Conflict) → c.state ≡ n → HasConflictOn s c.look c.kind → Contains (row_conflicts n row last stream) c
+row_complete s n row last stream r c e h = go c.look refl (at_look refl h)
   where
     rest : List Conflict
     rest = found_on n End last.kind ++ found_on n End (stream_kind stream)

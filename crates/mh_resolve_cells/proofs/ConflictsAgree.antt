@@ -27,10 +27,10 @@ module _ (g : Grammar) (a : Automaton) (is : IsAutomaton (plain_of g) a) (s : �
 
   -- If the set shifts a token, the state has an edge on the token.
   shift_edge : (z : ℕ) → ShiftsOn (plain_of g) I z → (u : ℕ) × RawOn (Token z) (Shift u)
-  shift_edge z h = is.edge s (T z) l (record { production = h.production; dot = _; look = h.look; moves = items.Moved.moved h.item h.behind })
+  shift_edge z h = is.edge s (T z) l (record { production = h.production; dot = _; look = h.look; moves = items.Moved.moved h.item h.token_next })
 
   moved_shift : (z p d : ℕ) (look : Look) → Moved (plain_of g) (Close (plain_of g) I) (T z) p d look → ShiftsOn (plain_of g) I z
-  moved_shift z p d look (items.Moved.moved {d = e} {y} i behind) = record { production = p; dot = e; look = look; rest = y; item = i; behind = behind }
+  moved_shift z p d look (items.Moved.moved {d = e} {y} i behind) = record { production = p; dot = e; look = look; rest = y; item = i; token_next = behind }
 
   edge_shift : (z u : ℕ) → RawOn (Token z) (Shift u) → ShiftsOn (plain_of g) I z
   edge_shift z u e = let m = (is.target s (T z) u e).0 in moved_shift z m.production m.dot m.look m.moves
@@ -41,8 +41,8 @@ module _ (g : Grammar) (a : Automaton) (is : IsAutomaton (plain_of g) a) (s : �
   pub state_conflict : HasConflict (plain_of g) I → (look : Look) × IsConflict (RawOn look)
   state_conflict (shift_reduce {z} {p} h r) =
       let u = shift_edge z h in
-      (Token z, record { one = Shift u.0; other = Reduce p; raw_one = u.1; raw_other = r; two = λ e. cc })
-  state_conflict (reduce_reduce {p} {q} {look} n r h) = (look, record { one = Reduce p; other = Reduce q; raw_one = r; raw_other = h; two = other_reduction p q n })
+      (Token z, record { one = Shift u.0; other = Reduce p; raw_one = u.1; raw_other = r; differ = λ e. cc })
+  state_conflict (reduce_reduce {p} {q} {look} n r h) = (look, record { one = Reduce p; other = Reduce q; raw_one = r; raw_other = h; differ = other_reduction p q n })
 
   no_end_shift : (u : ℕ) → RawOn End (Shift u) → ⊥
   no_end_shift u e = let f : None ≡ Some u = e in cc
@@ -61,7 +61,7 @@ module _ (g : Grammar) (a : Automaton) (is : IsAutomaton (plain_of g) a) (s : �
   both look Refuse y r h n = absurd r
 
   pub set_conflict : (look : Look) → IsConflict (RawOn look) → HasConflict (plain_of g) I
-  set_conflict look c = both look c.one c.other c.raw_one c.raw_other c.two
+  set_conflict look c = both look c.one c.other c.raw_one c.raw_other c.differ
 
   at_end : (x y : Action) (z : ℕ) → RawOn End x → RawOn (Token z) y → (x ≡ y → ⊥) → HasStreamConflict (plain_of g) I
   at_end (Shift u) y z e f n = absurd (no_end_shift u e)
@@ -83,10 +83,10 @@ module _ (g : Grammar) (a : Automaton) (is : IsAutomaton (plain_of g) a) (s : �
   pub conflict_free_exact : IsConflictFreeState (state_of g a s) ↔ (HasAnyConflict (plain_of g) I → ⊥)
   conflict_free_exact = (
     (λ c f. elim f [
-      | inl x ↦ (let y = state_conflict x in c.one y.0 y.1)
-      | inr x ↦ c.stream (state_stream c.one x)
+      | inl x ↦ (let y = state_conflict x in c.no_conflict y.0 y.1)
+      | inr x ↦ c.no_stream_conflict (state_stream c.no_conflict x)
     ]),
-    (λ n. record { one = λ look c. n (inl (set_conflict look c)); stream = λ c. n (inr (set_stream c)) }),
+    (λ n. record { no_conflict = λ look c. n (inl (set_conflict look c)); no_stream_conflict = λ c. n (inr (set_stream c)) }),
   )
 
 module _ (g : Grammar) (a : Automaton) (is : IsAutomaton (plain_of g) a) where

@@ -85,13 +85,13 @@ contains_cell s n cells a z lt = Contains-get_or cells z no_cell (let len = a.le
 
 pub stream_to : (s : State) (cells : List Cell) (last : Cell) → AreLooksInRange s → AreCells s (length s.grammar.tokens) cells → IsDecidedOn s End last → HasStreamConflictIn last.action cells → IsStreamConflict s
 stream_to s cells last k a d i =
-    let at = cell_at s (length s.grammar.tokens) cells i.cell a i.there in
+    let at = cell_at s (length s.grammar.tokens) cells i.cell a i.in_cells in
     record {
       last = last.action;
       token = at.token;
       other = i.cell.action;
-      takes_last = taken_held s End last last.action d refl i.acts;
-      takes_other = taken_held s (Token at.token) i.cell i.cell.action at.decided refl i.otherwise.acts;
+      takes_last = taken_held s End last last.action d refl i.last_not_refuse;
+      takes_other = taken_held s (Token at.token) i.cell i.cell.action at.decided refl i.otherwise.not_refuse;
       differ = λ e. i.otherwise.differs (sym e);
     }
 
@@ -103,11 +103,11 @@ stream_from s cells last k a d c =
     let other : cell.action ≡ c.other = holds_taken s (Token c.token) cell c.other (a.each c.token lt) c.takes_other in
     let end : last.action ≡ c.last = holds_taken s End last c.last d c.takes_last in
     record {
-      acts = λ e. takes_acts s End c.last c.takes_last (sym end ∙ e);
+      last_not_refuse = λ e. takes_acts s End c.last c.takes_last (sym end ∙ e);
       cell = cell;
-      there = contains_cell s n cells a c.token lt;
+      in_cells = contains_cell s n cells a c.token lt;
       otherwise = record {
-        acts = λ e. takes_acts s (Token c.token) c.other c.takes_other (sym other ∙ e);
+        not_refuse = λ e. takes_acts s (Token c.token) c.other c.takes_other (sym other ∙ e);
         differs = λ e. c.differ (sym end ∙ sym e ∙ other);
       };
     }
@@ -135,7 +135,7 @@ no_end_hole s h = go h.action h.raw
   where
     go : (a : Action) → Raw s End a → ⊥
     go (Shift j) r = let e : None ≡ Some j = r in cc
-    go (Reduce p) r = h.none_stays (Reduce p) (r, λ j f. let e : None ≡ Some j = f in cc)
+    go (Reduce p) r = h.none_remains (Reduce p) (r, λ j f. let e : None ≡ Some j = f in cc)
     go Refuse r = r
 
 raw_true : (P Q : Type 0) (b : Bool) → b ≡ false → MatchBool b P Q → Q
@@ -143,7 +143,7 @@ raw_true P Q true e m = absurd (let no : true ≡ false = e in cc)
 raw_true P Q false e m = m
 
 fit_no_hole : (s : State) (z p : ℕ) (cell : Cell) → IsDecidedOn s (Token z) cell → FitsDefault p cell → IsHoleOn s (Token z) → ⊥
-fit_no_hole s z p cell d (inl e) h = h.none_stays (Reduce p) (chosen_remains s (Token z) (Reduce p) (taken_held s (Token z) cell (Reduce p) d e (λ f. cc)))
+fit_no_hole s z p cell d (inl e) h = h.none_remains (Reduce p) (chosen_remains s (Token z) (Reduce p) (taken_held s (Token z) cell (Reduce p) d e (λ f. cc)))
 fit_no_hole s z p cell d (inr e) h = raw_true ((a : Action) × Raw s (Token z) a) ((a : Action) → Raw s (Token z) a → ⊥) cell.raw e.1 d.raw h.action h.raw
 
 fit_action : (s : State) (z p : ℕ) (cell : Cell) (a : Action) → IsDecidedOn s (Token z) cell → FitsDefault p cell → IsChosenOn s (Token z) a → a ≡ Reduce p
@@ -156,7 +156,7 @@ to_default s mode cells last stream k r p d = record {
   some = some.1;
   all = all;
   no_hole = no_hole;
-  canonical = λ e. elim d.last [
+  canonical = λ e. elim d.choice [
     | inl f ↦ kept_to s last stream (Reduce p) r.last r.stream.1 f (λ x. cc)
     | inr m ↦ absurd (let no : Canonical ≡ Merged = sym e ∙ m.1 in cc)
   ];
@@ -167,9 +167,9 @@ to_default s mode cells last stream k r p d = record {
 
     some : (look : Look) × IsKeptOn s look (Reduce p)
     some =
-        elim d.last [
+        elim d.choice [
           | inl f ↦ (End, kept_to s last stream (Reduce p) r.last r.stream.1 f (λ x. cc))
-          | inr m ↦ (let at = cell_at s n cells m.2.cell r.cells m.2.there in (Token at.token, taken_held s (Token at.token) m.2.cell (Reduce p) at.decided m.2.reduces (λ x. cc)))
+          | inr m ↦ (let at = cell_at s n cells m.2.cell r.cells m.2.in_cells in (Token at.token, taken_held s (Token at.token) m.2.cell (Reduce p) at.decided m.2.reduces (λ x. cc)))
         ]
 
     fit_at : (z : ℕ) → z < n → FitsDefault p (the_cell cells z)
@@ -179,7 +179,7 @@ to_default s mode cells last stream k r p d = record {
     all (Token z) a t = let lt : z < n = k.known (Token z) a (chosen_is_raw s (Token z) a t) in fit_action s z p (the_cell cells z) a (r.cells.each z lt) (fit_at z lt) t
     all End a t =
         let e = kept_from s last stream a r.last r.stream.0 t in
-        elim d.last [ inl f ↦ sym e ∙ f | inr m ↦ absurd (takes_acts s End a t.0 (sym e ∙ m.0)) ]
+        elim d.choice [ inl f ↦ sym e ∙ f | inr m ↦ absurd (takes_acts s End a t.0 (sym e ∙ m.0)) ]
 
     no_hole : (l : Look) → IsHoleOn s l → ⊥
     no_hole (Token z) h = let lt : z < n = k.known (Token z) h.action h.raw in fit_no_hole s z p (the_cell cells z) (r.cells.each z lt) (fit_at z lt) h
@@ -194,7 +194,7 @@ default_fit s mode z p cell d h =
     ]
   where
     go : (b : Bool) → cell.raw ≡ b → MatchBool b ((a : Action) × Raw s (Token z) a) ((a : Action) → Raw s (Token z) a → ⊥) → ((a : Action) → Remains (comparison_on s.grammar (Token z)) (Raw s (Token z)) a → ⊥) → cell.raw ≡ false
-    go true e m none = absurd (h.no_hole (Token z) (record { action = m.0; raw = m.1; none_stays = none }))
+    go true e m none = absurd (h.no_hole (Token z) (record { action = m.0; raw = m.1; none_remains = none }))
     go false e m none = e
 
 from_default : (s : State) (mode : Mode) (cells : List Cell) (last : Cell) (stream : Bool) → AreLooksInRange s → IsCellRow s cells last stream → (p : ℕ) → HasDefault mode s p → IsDefaultIn (kept_of stream last.action) mode cells p
@@ -203,7 +203,7 @@ from_default s mode cells last stream k r p h = record {
       let same = get_or_default cells z d no_cell lt in
       let len = r.cells.len in
       rw same (default_fit s mode z p (the_cell cells z) (r.cells.each z (omega arith)) h));
-  last = go h.look h.some mode refl;
+  choice = go h.look h.some mode refl;
 }
   where
     n : ℕ
@@ -224,7 +224,7 @@ from_default s mode cells last stream k r p h = record {
             e,
             record {
               cell = the_cell cells z;
-              there = contains_cell s n cells r.cells z lt;
+              in_cells = contains_cell s n cells r.cells z lt;
               reduces = holds_taken s (Token z) (the_cell cells z) (Reduce p) (r.cells.each z lt) t;
             },
           )

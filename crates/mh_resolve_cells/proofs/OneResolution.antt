@@ -81,11 +81,11 @@ table_once g a mode xs ys p q =
 
 -- Without a conflict the raw action of a cell is chosen.
 pub raw_is_chosen : (s : State) (look : Look) → (IsConflict (Raw s look) → ⊥) → (a : Action) → Raw s look a → IsChosenOn s look a
-raw_is_chosen s look clear (Shift j) r = (r, λ p h. absurd (clear (record { one = Shift j; other = Reduce p; raw_one = r; raw_other = h; two = λ e. cc })))
+raw_is_chosen s look clear (Shift j) r = (r, λ p h. absurd (clear (record { one = Shift j; other = Reduce p; raw_one = r; raw_other = h; differ = λ e. cc })))
 raw_is_chosen s look clear (Reduce p) r = (
-  (r, λ j h. absurd (clear (record { one = Shift j; other = Reduce p; raw_one = h; raw_other = r; two = λ e. cc }))),
+  (r, λ j h. absurd (clear (record { one = Shift j; other = Reduce p; raw_one = h; raw_other = r; differ = λ e. cc }))),
   λ q h. elim (cases_lt q p) [
-    | inl lt ↦ absurd (clear (record { one = Reduce q; other = Reduce p; raw_one = h.0; raw_other = r; two = λ e. let same : q ≡ p = cc in omega arith }))
+    | inl lt ↦ absurd (clear (record { one = Reduce q; other = Reduce p; raw_one = h.0; raw_other = r; differ = λ e. let same : q ≡ p = cc in omega arith }))
     | inr ge ↦ ge
   ],
 )

@@ -104,7 +104,7 @@ behind {g} {a} m r X u p d e c =
     record {
       moved = omega arith;
       symbol = rw back (get_from_drop (rhs_of (plain_of g) p) from.place X from.rest from.before);
-      begun = elim (core_item_or_begins (plain_of g) a m.automaton r p from.place carried.0 from.there) [
+      source = elim (core_item_or_begins (plain_of g) a m.automaton r p from.place carried.0 from.in_set) [
         | inl place ↦ inl (place_core m r p (d - 1) lt (rw back place))
         | inr begins ↦ inr (omega (arith, begins.0), begins.1.ordinary, goto_of m r p lt begins.1)
       ];
@@ -147,7 +147,7 @@ by_fill g a h mode s z p (inr fills) =
     let q = fills.2 in
     let for = fills.4 in
     let same : q ≡ p = let e = fills.3 in cc in
-    record { ordinary = rw (← same) (named_ordinary g q for.rank for.candidate.named); look = for.candidate.look; complete = rw (← same) for.candidate.complete }
+    record { ordinary = rw (← same) (named_ordinary g q for.rank for.candidate.rank_is); look = for.candidate.look; complete = rw (← same) for.candidate.complete }
 
 by_cell : (g : Grammar) (a : Automaton) → IsAutomaton (plain_of g) a → (mode : Mode) (s z p : ℕ) (c : Action) → c ≡ Reduce p → IsCell mode (state_of g a s) z c → Completes g a s p
 by_cell g a h mode s z p c e (inl fills) = by_fill g a h mode s z p (rw e at fills)
@@ -246,7 +246,7 @@ start_core {a = a} m i p d lt c = only_item (kernel_at a i) i p d (m.automaton.s
 
 starts : {g : Grammar} {a : Automaton} {mode : Mode} {states : List StateParts} → ResolutionPremises g a mode states → (i : ℕ) → i < length g.starts → InCore (table_data g states) i i 0
 starts {a = a} m i lt =
-    let enough = m.automaton.enough in
+    let enough = m.automaton.enough_states in
     place_core m i i 0 (omega arith) (let e = m.automaton.starts i lt in rw e (record { production = i; dot = 0; looks = End ∷ [] }, (0, omega arith, refl), refl, refl))
 
 filled : {g : Grammar} {a : Automaton} {mode : Mode} {states : List StateParts} → ResolutionPremises g a mode states → (s : ℕ) → s < length states → 0 < length (state_at (table_data g states) s).core
@@ -290,7 +290,7 @@ facts g a mode states m =
     let h = m.automaton in
     let range = m.range in
     let count = m.resolved.count in
-    let enough = h.enough in
+    let enough = h.enough_states in
     let few = h.few in
     record {
       ranges = record {
@@ -308,8 +308,8 @@ facts g a mode states m =
       start_core = start_core m;
       starts = starts m;
       filled = filled m;
-      other_core = λ s p d ge c. h.moved s p d ge (core_place m s p d c);
-      behind = behind m;
+      other_cores_moved = λ s p d ge c. h.moved s p d ge (core_place m s p d c);
+      moved_from = behind m;
       ordinary = ordinary m;
       complete = complete m;
       shifts = shifts m;

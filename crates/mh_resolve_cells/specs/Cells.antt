@@ -28,7 +28,7 @@ IsChosen by Raw Refuse = ⊥
 pub record IsHole (by : ℕ → Comparison) (Raw : Action → Type 0) : Type 0 where
   pub action : Action
   pub raw : Raw action
-  pub none_stays : (a : Action) → Remains by Raw a → ⊥
+  pub none_remains : (a : Action) → Remains by Raw a → ⊥
 
 -- The cell has two raw actions (Knuth 1965).
 pub record IsConflict (Raw : Action → Type 0) : Type 0 where
@@ -36,7 +36,7 @@ pub record IsConflict (Raw : Action → Type 0) : Type 0 where
   pub other : Action
   pub raw_one : Raw one
   pub raw_other : Raw other
-  pub two : one ≡ other → ⊥
+  pub differ : one ≡ other → ⊥
 
 -- Some comparison of a reduction with a shift has no comparable levels.
 pub record HasUnknownComparison (by : ℕ → Comparison) (Raw : Action → Type 0) : Type 0 where
@@ -50,8 +50,8 @@ pub record HasUnknownComparison (by : ℕ → Comparison) (Raw : Action → Type
 pub record HasTwoReductions (by : ℕ → Comparison) (Raw : Action → Type 0) : Type 0 where
   pub one : ℕ
   pub other : ℕ
-  pub stays_one : Remains by Raw (Reduce one)
-  pub stays_other : Remains by Raw (Reduce other)
+  pub one_remains : Remains by Raw (Reduce one)
+  pub other_remains : Remains by Raw (Reduce other)
   pub below : one < other
 
 -- Levels did not decide the conflict: some comparison has no comparable levels, or two reductions remain (Menhir

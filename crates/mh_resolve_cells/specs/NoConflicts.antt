@@ -16,8 +16,8 @@ use Rattle.mh_resolve_cells.specs.States.{State, state_of, Raw, IsStreamConflict
 
 -- The state has neither a conflict nor an end-of-stream conflict.
 pub record IsConflictFreeState (s : State) : Type 0 where
-  pub one : (look : Look) → IsConflict (Raw s look) → ⊥
-  pub stream : IsStreamConflict s → ⊥
+  pub no_conflict : (look : Look) → IsConflict (Raw s look) → ⊥
+  pub no_stream_conflict : IsStreamConflict s → ⊥
 
 -- No state of the automaton has a conflict of either kind. For the canonical automaton this says that the grammar is
 -- LR(1) (Knuth 1965) and that no state has an end-of-stream conflict.

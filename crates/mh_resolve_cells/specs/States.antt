@@ -100,7 +100,7 @@ IsFallback mode s (Some (fallbacks.Reduce p)) = (length s.grammar.starts ≤ p) 
 pub record IsErrorCandidate (s : State) (p rank : ℕ) : Type 0 where
   pub look : Look
   pub complete : Raw s look (Reduce p)
-  pub named : error_rank s.grammar p ≡ Some rank
+  pub rank_is : error_rank s.grammar p ≡ Some rank
 
 -- Production p is the only candidate of the lowest rank, so that a state without a default reduces p on each token on
 -- which it has no raw action (Menhir manual).

@@ -26,8 +26,8 @@ use Rattle.mh_grammar.proofs.Lists.{take_step_cases}
 
 pub no_more : (cells : List Cell) (i : ℕ) (d : Cell) → i < length cells → ((p : ℕ) → HasReduction (take i cells) p → ⊥) → ((p : ℕ) → (get_or cells i d).action ≡ Reduce p → ⊥) → (p : ℕ) → HasReduction (take (i + 1) cells) p → ⊥
 no_more cells i d h before here p r =
-    elim (take_step_cases cells i (get_or cells i d) h (get_or_default cells i d (get_or cells i d) h) r.cell r.there) [
-      | inl c ↦ before p (record { cell = r.cell; there = c; reduces = r.reduces })
+    elim (take_step_cases cells i (get_or cells i d) h (get_or_default cells i d (get_or cells i d) h) r.cell r.in_cells) [
+      | inl c ↦ before p (record { cell = r.cell; in_cells = c; reduces = r.reduces })
       | inr e ↦ here p (ap (λ (c : Cell). c.action) e ∙ r.reduces)
     ]
 

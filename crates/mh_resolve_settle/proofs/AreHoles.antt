@@ -45,7 +45,7 @@ module _ (mode : Mode) (s : State) (z : ℕ) where
 
   -- A hole refuses, and the state has an edge on its token.
   hole_refuses : (cell : Action) → IsCell mode s z cell → IsHoleOn s (Token z) → cell ≡ Refuse
-  hole_refuses cell (inl (inl t)) h = absurd (h.none_stays cell (chosen_remains s (Token z) cell t))
+  hole_refuses cell (inl (inl t)) h = absurd (h.none_remains cell (chosen_remains s (Token z) cell t))
   hole_refuses cell (inl (inr f)) h = absurd (f.0 h.action h.raw)
   hole_refuses cell (inr n) h = n.0
 
@@ -55,11 +55,11 @@ module _ (mode : Mode) (s : State) (z : ℕ) where
     where
       no : (a : Action) → Raw s (Token z) a → ⊥
       no (Shift j) r = let f : None ≡ Some j = sym e ∙ r in cc
-      no (Reduce p) r = h.none_stays (Reduce p) (r, λ j k. let f : None ≡ Some j = sym e ∙ k in cc)
+      no (Reduce p) r = h.none_remains (Reduce p) (r, λ j k. let f : None ≡ Some j = sym e ∙ k in cc)
       no Refuse r = r
 
   pub is_hole : (cell : Action) (shift : Option ℕ) → IsCell mode s z cell → find_edge s.edges (T z) ≡ shift → MatchBool (is_some shift && refuses cell) (IsHoleOn s (Token z)) (IsHoleOn s (Token z) → ⊥)
-  is_hole Refuse (Some j) c e = record { action = Shift j; raw = e; none_stays = none_left (refusing Refuse c refl) }
+  is_hole Refuse (Some j) c e = record { action = Shift j; raw = e; none_remains = none_left (refusing Refuse c refl) }
   is_hole Refuse None c e = λ h. let f = hole_edge None e h in cc
   is_hole (Shift i) (Some j) c e = λ h. let f = hole_refuses (Shift i) c h in cc
   is_hole (Shift i) None c e = λ h. let f = hole_edge None e h in cc

@@ -65,7 +65,7 @@ looks_more g I item shifts front look old new complete changed h = record { len 
     more = record {
       new = λ q x. elim x [ inl y ↦ inl (inl y) | inr y ↦ inr (sym y.0) ];
       old = λ q x. still q look x;
-      here = inr (refl, complete, contains_last front look);
+      added = inr (refl, complete, contains_last front look);
     }
 
     each : (l : Look) → IsLookBelow (length g.tokens) l → IsTally (comparison_with_shift (comparison_on g l) (shift_in shifts l)) (IsCompleteOn g (WithItem I item (front ++ look ∷ [])) l) (tally_on new l)
@@ -73,37 +73,37 @@ looks_more g I item shifts front look old new complete changed h = record { len 
         elim (equal_look_or_not l look) [
           | inl e ↦ (
               let there = h.each look (rw (← e) known) in
-              rw (e, changed.here) (more_is (comparison_with_shift (comparison_on g look) (shift_in shifts look)) (IsCompleteOn g (WithItem I item front) look) (IsCompleteOn g (WithItem I item (front ++ look ∷ [])) look) item.production _ (tally_on old look) more refl there))
+              rw (e, changed.tally_is) (more_is (comparison_with_shift (comparison_on g look) (shift_in shifts look)) (IsCompleteOn g (WithItem I item front) look) (IsCompleteOn g (WithItem I item (front ++ look ∷ [])) look) item.production _ (tally_on old look) more refl there))
           | inr ne ↦ rw (changed.elsewhere l ne) (same_is (comparison_with_shift (comparison_on g l) (shift_in shifts l)) (IsCompleteOn g (WithItem I item front) l) (IsCompleteOn g (WithItem I item (front ++ look ∷ [])) l) (tally_on old l) (kept l ne) (λ p x. still p l x) (h.each l known))
         ]
 
 -- The tallies after the looks of an item before `left` were counted.
 pub record AreCounted (g : Grammar) (shifts : List (Option ℕ)) (item : KernelItem) (left : List Look) (old new : Tallies) : Type 0 where
-  pub front : List Look
-  pub whole : item.looks ≡ front ++ left
+  pub counted : List Look
+  pub split : item.looks ≡ counted ++ left
   pub size : length new.tokens.items ≡ length g.tokens
-  pub tallied : (xs : List KernelItem) → AreTallied g (Holds (record { items = xs })) shifts old → AreTallied g (WithItem (Holds (record { items = xs })) item front) shifts new
+  pub tallied : (xs : List KernelItem) → AreTallied g (Holds (record { items = xs })) shifts old → AreTallied g (WithItem (Holds (record { items = xs })) item counted) shifts new
 
 pub counted_none : (g : Grammar) (shifts : List (Option ℕ)) (item : KernelItem) (t : Tallies) → length t.tokens.items ≡ length g.tokens → AreCounted g shifts item item.looks t t
-counted_none g shifts item t size = record { front = []; whole = refl; size = size; tallied = λ xs h. looks_begin g (Holds (record { items = xs })) item shifts t h }
+counted_none g shifts item t size = record { counted = []; split = refl; size = size; tallied = λ xs h. looks_begin g (Holds (record { items = xs })) item shifts t h }
 
 pub counted_more : (g : Grammar) (shifts : List (Option ℕ)) (item : KernelItem) (look : Look) (left : List Look) (first old new : Tallies) → item.dot ≡ length (rhs_of (plain_of g) item.production)
     → IsChanged look (tally_with (tally_on old look) item.production (comparison_with_shift (comparison_on g look) (shift_in shifts look) item.production)) old new → AreCounted g shifts item (look ∷ left) first old → AreCounted g shifts item left first new
 counted_more g shifts item look left first old new complete changed h = record {
-  front = h.front ++ look ∷ [];
-  whole = h.whole ∙ sym (append_assoc h.front (look ∷ []) left);
+  counted = h.counted ++ look ∷ [];
+  split = h.split ∙ sym (append_assoc h.counted (look ∷ []) left);
   size = changed.len ∙ h.size;
-  tallied = λ xs t. looks_more g (Holds (record { items = xs })) item shifts h.front look old new complete changed (h.tallied xs t);
+  tallied = λ xs t. looks_more g (Holds (record { items = xs })) item shifts h.counted look old new complete changed (h.tallied xs t);
 }
 
 -- The next look is in the grammar's range.
 pub counted_known : (g : Grammar) (shifts : List (Option ℕ)) (item : KernelItem) (look : Look) (left : List Look) (old new : Tallies) → AllByRecursion (IsLookBelow (length g.tokens)) item.looks → AreCounted g shifts item (look ∷ left) old new → IsLookBelow (length new.tokens.items) look
 counted_known g shifts item look left old new known h =
-    rw h.size (recursion_contains (IsLookBelow (length g.tokens)) item.looks known look (rw h.whole (Contains-append_right h.front (look ∷ left) look (contains_here look left))))
+    rw h.size (recursion_contains (IsLookBelow (length g.tokens)) item.looks known look (rw h.split (Contains-append_right h.counted (look ∷ left) look (contains_here look left))))
 
 pub counted_all : (g : Grammar) (shifts : List (Option ℕ)) (item : KernelItem) (left : List Look) (old new : Tallies) → left ≡ [] → AreCounted g shifts item left old new → (xs : List KernelItem) → AreTallied g (Holds (record { items = xs })) shifts old → AreTallied g (WithItem (Holds (record { items = xs })) item item.looks) shifts new
 counted_all g shifts item left old new none h xs t =
-    let all : h.front ≡ item.looks = sym (append-nil h.front) ∙ ap (λ l. h.front ++ l) (sym none) ∙ sym h.whole in
+    let all : h.counted ≡ item.looks = sym (append-nil h.counted) ∙ ap (λ l. h.counted ++ l) (sym none) ∙ sym h.split in
     let P : List Look → Type 0 = λ l. AreTallied g (WithItem (Holds (record { items = xs })) item l) shifts new in
     subst P all (h.tallied xs t)
 

@@ -46,8 +46,8 @@ raw_is g items look None false s = nothing
     nothing Refuse h = h
 
 two_stay : (by : ℕ → Comparison) (g : Grammar) (items : ItemSet) (look : Look) (shift : Option ℕ) → TwoReduce (comparison_with_shift by shift) (IsCompleteOn g items look) → HasTwoReductions by (RawOf g items look shift)
-two_stay by g items look None t = record { one = t.one; other = t.other; stays_one = (t.has_one, λ j e. cc); stays_other = (t.has_other, λ j e. cc); below = t.below }
-two_stay by g items look (Some j) t = record { one = t.one; other = t.other; stays_one = (t.has_one, λ k e. t.reduces_one); stays_other = (t.has_other, λ k e. t.reduces_other); below = t.below }
+two_stay by g items look None t = record { one = t.one; other = t.other; one_remains = (t.has_one, λ j e. cc); other_remains = (t.has_other, λ j e. cc); below = t.below }
+two_stay by g items look (Some j) t = record { one = t.one; other = t.other; one_remains = (t.has_one, λ k e. t.reduces_one); other_remains = (t.has_other, λ k e. t.reduces_other); below = t.below }
 
 kind_is : (by : ℕ → Comparison) (g : Grammar) (items : ItemSet) (look : Look) (shift : Option ℕ) (two unknown some : Bool)
     → MatchBool two (TwoReduce (comparison_with_shift by shift) (IsCompleteOn g items look)) ((p q : ℕ) → IsCompleteOn g items look p → IsCompleteOn g items look q → comparison_with_shift by shift p ≡ Reduces → comparison_with_shift by shift q ≡ Reduces → p ≡ q)
@@ -57,7 +57,7 @@ kind_is : (by : ℕ → Comparison) (g : Grammar) (items : ItemSet) (look : Look
 kind_is by g items look shift true unknown some t u s = inr (two_stay by g items look shift t)
 kind_is by g items look None false true some t u s = let e : Reduces ≡ Unknown = u.2 in cc
 kind_is by g items look (Some j) false true some t u s = inl (record { target = j; production = u.0; shift = refl; reduce = u.1; unknown = u.2 })
-kind_is by g items look None false false true t u s = λ c. apart c.one c.other c.raw_one c.raw_other c.two
+kind_is by g items look None false false true t u s = λ c. apart c.one c.other c.raw_one c.raw_other c.differ
   where
     apart : (a b : Action) → RawOf g items look None a → RawOf g items look None b → (a ≡ b → ⊥) → ⊥
     apart (Reduce p) (Reduce q) h k ne = ne (ap Reduce (t p q h k refl refl))
@@ -72,13 +72,13 @@ kind_is by g items look None false false false t u s = λ c. apart c.one c.raw_o
     apart (Shift i) h = cc
     apart Refuse h = h
 kind_is by g items look (Some j) false false true t u s = (
-  record { one = Shift j; other = Reduce s.0; raw_one = refl; raw_other = s.1; two = λ e. cc },
+  record { one = Shift j; other = Reduce s.0; raw_one = refl; raw_other = s.1; differ = λ e. cc },
   λ x. elim x [
     | inl n ↦ u n.production n.reduce n.unknown
-    | inr n ↦ (let e : n.one ≡ n.other = t n.one n.other n.stays_one.0 n.stays_other.0 (n.stays_one.1 j refl) (n.stays_other.1 j refl) in let b = n.below in omega arith)
+    | inr n ↦ (let e : n.one ≡ n.other = t n.one n.other n.one_remains.0 n.other_remains.0 (n.one_remains.1 j refl) (n.other_remains.1 j refl) in let b = n.below in omega arith)
   ],
 )
-kind_is by g items look (Some j) false false false t u s = λ c. apart c.one c.other c.raw_one c.raw_other c.two
+kind_is by g items look (Some j) false false false t u s = λ c. apart c.one c.other c.raw_one c.raw_other c.differ
   where
     apart : (a b : Action) → RawOf g items look (Some j) a → RawOf g items look (Some j) b → (a ≡ b → ⊥) → ⊥
     apart (Shift i) (Shift k) e f ne = ne (let same : i ≡ k = cc in ap Shift same)

@@ -21,7 +21,7 @@ IsTied Ranked p r b = MatchBool b ((q : ℕ) × Ranked q r × (q ≡ p → ⊥))
 record IsMore (Ranked Ranked' : ℕ → ℕ → Type 0) (p r : ℕ) : Type 0 where
   new : (q s : ℕ) → Ranked' q s → Ranked q s ⊎ ((q ≡ p) × (s ≡ r))
   old : (q s : ℕ) → Ranked q s → Ranked' q s
-  here : Ranked' p r
+  added : Ranked' p r
 
 tied_lower : (Ranked Ranked' : ℕ → ℕ → Type 0) (p r q s : ℕ) → IsMore Ranked Ranked' p r → s < r → (b : Bool) → IsTied Ranked q s b → IsTied Ranked' q s b
 tied_lower Ranked Ranked' p r q s m lt true t = (t.0, m.old t.0 s t.1, t.2)
@@ -30,18 +30,18 @@ tied_lower Ranked Ranked' p r q s m lt false t = λ x h. elim (m.new x s h) [ in
 tied_same : (Ranked Ranked' : ℕ → ℕ → Type 0) (p r q s : ℕ) → IsMore Ranked Ranked' p r → s ≡ r → (b e : Bool) → eqb p q ≡ e → IsTied Ranked q s b → IsTied Ranked' q s (b || not e)
 tied_same Ranked Ranked' p r q s m same true e f t = (t.0, m.old t.0 s t.1, t.2)
 tied_same Ranked Ranked' p r q s m same false true f t = λ x h. elim (m.new x s h) [ inl k ↦ t x k | inr e ↦ e.0 ∙ (Decides-eqb p q).0 f ]
-tied_same Ranked Ranked' p r q s m same false false f t = (p, rw same m.here, λ e. let no : true ≡ false = sym ((Decides-eqb p q).1 e) ∙ f in cc)
+tied_same Ranked Ranked' p r q s m same false false f t = (p, rw same m.added, λ e. let no : true ≡ false = sym ((Decides-eqb p q).1 e) ∙ f in cc)
 
 best_more : (Ranked Ranked' : ℕ → ℕ → Type 0) (p r : ℕ) → IsMore Ranked Ranked' p r → (best : Option BestCandidate) → IsBest Ranked best → IsBest Ranked' (Some (best_with best p r))
 best_more Ranked Ranked' p r m None b = (
-  m.here,
+  m.added,
   λ q s h. elim (m.new q s h) [ inl k ↦ absurd (b q s k) | inr e ↦ omega (arith, e.1) ],
   λ q h. elim (m.new q r h) [ inl k ↦ absurd (b q r k) | inr e ↦ e.0 ],
 )
 best_more Ranked Ranked' p r m (Some o) b =
     elim (cases_lt r o.rank) [
       | inl lt ↦ rw (lt-ltb r o.rank lt) (
-        m.here,
+        m.added,
         λ q s h. elim (m.new q s h) [ inl k ↦ (let le = b.1 q s k in omega arith) | inr e ↦ omega (arith, e.1) ],
         λ q h. elim (m.new q r h) [ inl k ↦ absurd (let le = b.1 q r k in omega arith) | inr e ↦ e.0 ],
       )
@@ -73,22 +73,22 @@ pub ranked_more : (g : Grammar) (xs : List KernelItem) (i : ℕ) (item : KernelI
 ranked_more g xs i item r best new h is e f b =
     rw f (best_more (IsRanked g (take i xs)) (IsRanked g (take (i + 1) xs)) item.production r
     (record {
-      new = λ q s k. elim (take_step_cases xs i item h is k.item k.there) [
-        | inl c ↦ inl (record { item = k.item; there = c; production = k.production; rank = k.rank })
+      new = λ q s k. elim (take_step_cases xs i item h is k.item k.item_listed) [
+        | inl c ↦ inl (record { item = k.item; item_listed = c; production = k.production; rank = k.rank })
         | inr x ↦ inr (sym k.production ∙ ap (λ (y : KernelItem). y.production) (sym x), let y : Some s ≡ Some r = sym k.rank ∙ ap (rank_in g) (sym x) ∙ e in cc)
       ];
-      old = λ q s k. record { item = k.item; there = take_step_keeps xs i k.item h k.there; production = k.production; rank = k.rank };
-      here = record { item = item; there = take_step_last xs i item h is; production = refl; rank = e };
+      old = λ q s k. record { item = k.item; item_listed = take_step_keeps xs i k.item h k.item_listed; production = k.production; rank = k.rank };
+      added = record { item = item; item_listed = take_step_last xs i item h is; production = refl; rank = e };
     }) best b)
 
 pub ranked_same : (g : Grammar) (xs : List KernelItem) (i : ℕ) (item : KernelItem) (best : Option BestCandidate) → i < length xs → item ≡ get_or xs i item → rank_in g item ≡ None → IsBest (IsRanked g (take i xs)) best → IsBest (IsRanked g (take (i + 1) xs)) best
 ranked_same g xs i item best h is e b =
     best_same (IsRanked g (take i xs)) (IsRanked g (take (i + 1) xs))
-    (λ q s k. elim (take_step_cases xs i item h is k.item k.there) [
-      | inl c ↦ record { item = k.item; there = c; production = k.production; rank = k.rank }
+    (λ q s k. elim (take_step_cases xs i item h is k.item k.item_listed) [
+      | inl c ↦ record { item = k.item; item_listed = c; production = k.production; rank = k.rank }
       | inr x ↦ absurd (let y : Some s ≡ None = sym k.rank ∙ ap (rank_in g) (sym x) ∙ e in cc)
     ])
-    (λ q s k. record { item = k.item; there = take_step_keeps xs i k.item h k.there; production = k.production; rank = k.rank })
+    (λ q s k. record { item = k.item; item_listed = take_step_keeps xs i k.item h k.item_listed; production = k.production; rank = k.rank })
     best b
 
 complete_ranked : (g : Grammar) (item : KernelItem) (r : ℕ) (b : Bool) → eqb item.dot (length (rhs_of (plain_of g) item.production)) ≡ b → (if b then error_rank g item.production else None) ≡ Some r → (item.dot ≡ length (rhs_of (plain_of g) item.production)) × (error_rank g item.production ≡ Some r)
@@ -99,12 +99,12 @@ ranked_candidate : (g : Grammar) (xs : List KernelItem) → All HasSomeLook xs �
 ranked_candidate g xs all p r k =
     let item = k.item in
     let is = complete_ranked g item r (eqb item.dot (length (rhs_of (plain_of g) item.production))) refl k.rank in
-    let look = some_item item.looks (All-contains HasSomeLook xs item all k.there) in
+    let look = some_item item.looks (All-contains HasSomeLook xs item all k.item_listed) in
     let same : item.production ≡ p = k.production in
     record {
       look = look.0;
-      complete = (item, k.there, same, is.0 ∙ ap (λ n. length (rhs_of (plain_of g) n)) same, look.1);
-      named = ap (error_rank g) (sym same) ∙ is.1;
+      complete = (item, k.item_listed, same, is.0 ∙ ap (λ n. length (rhs_of (plain_of g) n)) same, look.1);
+      rank_is = ap (error_rank g) (sym same) ∙ is.1;
     }
 
 candidate_ranked : (g : Grammar) (xs : List KernelItem) (p r : ℕ) → IsErrorCandidate (state_of_items g xs []) p r → IsRanked g xs p r
@@ -114,9 +114,9 @@ candidate_ranked g xs p r c =
     let dot : item.dot ≡ length (rhs_of (plain_of g) item.production) = c.complete.3 ∙ ap (λ n. length (rhs_of (plain_of g) n)) (sym same) in
     record {
       item = item;
-      there = c.complete.1;
+      item_listed = c.complete.1;
       production = same;
-      rank = rw ((Decides-eqb item.dot (length (rhs_of (plain_of g) item.production))).1 dot) (ap (error_rank g) same ∙ c.named);
+      rank = rw ((Decides-eqb item.dot (length (rhs_of (plain_of g) item.production))).1 dot) (ap (error_rank g) same ∙ c.rank_is);
     }
 
 pub errors_of : (g : Grammar) (xs : List KernelItem) → All HasSomeLook xs → (best : BestCandidate) → best.tied ≡ false → IsBest (IsRanked g xs) (Some best) → IsErrorReduction (state_of_items g xs []) best.production

@@ -21,13 +21,13 @@ empty_is by Has none = record {
 pub record IsMore (Has Has' : ℕ → Type 0) (p : ℕ) : Type 0 where
   pub new : (q : ℕ) → Has' q → Has q ⊎ (q ≡ p)
   pub old : (q : ℕ) → Has q → Has' q
-  pub here : Has' p
+  pub added : Has' p
 
 lowest_more : (by : ℕ → Comparison) (Has Has' : ℕ → Type 0) (p : ℕ) → IsMore Has Has' p → by p ≡ Reduces → (lo : Option ℕ) → IsLowest by Has lo → IsLowest by Has' (Some (lower_production lo p))
-lowest_more by Has Has' p m e None l = (m.here, e, λ q h r. elim (m.new q h) [ inl k ↦ absurd (l q k r) | inr s ↦ omega arith ])
+lowest_more by Has Has' p m e None l = (m.added, e, λ q h r. elim (m.new q h) [ inl k ↦ absurd (l q k r) | inr s ↦ omega arith ])
 lowest_more by Has Has' p m e (Some o) l =
     elim (cases_lt p o) [
-      | inl lt ↦ rw (lt-ltb p o lt) (m.here, e, λ q h r. elim (m.new q h) [ inl k ↦ (let le = l.2 q k r in omega arith) | inr s ↦ omega arith ])
+      | inl lt ↦ rw (lt-ltb p o lt) (m.added, e, λ q h r. elim (m.new q h) [ inl k ↦ (let le = l.2 q k r in omega arith) | inr s ↦ omega arith ])
       | inr ge ↦ rw (le-ltb p o ge) (m.old o l.0, l.1, λ q h r. elim (m.new q h) [ inl k ↦ l.2 q k r | inr s ↦ omega arith ])
     ]
 
@@ -61,10 +61,10 @@ two_more : (by : ℕ → Comparison) (Has Has' : ℕ → Type 0) (p : ℕ) → I
 two_more by Has Has' p m e None l two t = two_same by Has Has' p m (λ q h r. absurd (l q h r)) two t
 two_more by Has Has' p m e (Some o) l two t =
     elim (cases_lt p o) [
-      | inl lt ↦ rw (lt-ltb p o lt) (record { one = p; other = o; has_one = m.here; has_other = m.old o l.0; reduces_one = e; reduces_other = l.1; below = lt })
+      | inl lt ↦ rw (lt-ltb p o lt) (record { one = p; other = o; has_one = m.added; has_other = m.old o l.0; reduces_one = e; reduces_other = l.1; below = lt })
       | inr ge ↦ rw (le-ltb p o ge) (
           elim (cases_lt o p) [
-            | inl lt ↦ rw (lt-ltb o p lt) (record { one = o; other = p; has_one = m.old o l.0; has_other = m.here; reduces_one = l.1; reduces_other = e; below = lt })
+            | inl lt ↦ rw (lt-ltb o p lt) (record { one = o; other = p; has_one = m.old o l.0; has_other = m.added; reduces_one = l.1; reduces_other = e; below = lt })
             | inr le ↦ rw (le-ltb o p le) (go two t (omega arith))
           ])
     ]
@@ -97,31 +97,31 @@ not_for c d e x y (inr s) = y (sym e ∙ s)
 pub more_is : (by : ℕ → Comparison) (Has Has' : ℕ → Type 0) (p : ℕ) (c : Comparison) (t : Tally) → IsMore Has Has' p → by p ≡ c → IsTally by Has t → IsTally by Has' (tally_with t p c)
 more_is by Has Has' p Reduces t m e i = record {
   lowest = lowest_more by Has Has' p m e t.lowest i.lowest;
-  some = (p, m.here);
+  some = (p, m.added);
   two = two_more by Has Has' p m e t.lowest i.lowest t.two i.two;
-  shifts = (p, m.here, not_for (by p) Reduces e (λ x. cc) (λ x. cc));
+  shifts = (p, m.added, not_for (by p) Reduces e (λ x. cc) (λ x. cc));
   unknown = unknown_kept by Has Has' p m (λ u. let no : Reduces ≡ Unknown = sym e ∙ u in cc) t.unknown i.unknown;
 }
 more_is by Has Has' p Shifts t m e i = record {
   lowest = lowest_kept by Has Has' p m (λ u. let no : Shifts ≡ Reduces = sym e ∙ u in cc) t.lowest i.lowest;
-  some = (p, m.here);
+  some = (p, m.added);
   two = two_kept by Has Has' p m (λ u. let no : Shifts ≡ Reduces = sym e ∙ u in cc) t.two i.two;
   shifts = shifts_kept by Has Has' p m (inl e) t.shifts i.shifts;
   unknown = unknown_kept by Has Has' p m (λ u. let no : Shifts ≡ Unknown = sym e ∙ u in cc) t.unknown i.unknown;
 }
 more_is by Has Has' p Neither t m e i = record {
   lowest = lowest_kept by Has Has' p m (λ u. let no : Neither ≡ Reduces = sym e ∙ u in cc) t.lowest i.lowest;
-  some = (p, m.here);
+  some = (p, m.added);
   two = two_kept by Has Has' p m (λ u. let no : Neither ≡ Reduces = sym e ∙ u in cc) t.two i.two;
-  shifts = (p, m.here, not_for (by p) Neither e (λ x. cc) (λ x. cc));
+  shifts = (p, m.added, not_for (by p) Neither e (λ x. cc) (λ x. cc));
   unknown = unknown_kept by Has Has' p m (λ u. let no : Neither ≡ Unknown = sym e ∙ u in cc) t.unknown i.unknown;
 }
 more_is by Has Has' p Unknown t m e i = record {
   lowest = lowest_kept by Has Has' p m (λ u. let no : Unknown ≡ Reduces = sym e ∙ u in cc) t.lowest i.lowest;
-  some = (p, m.here);
+  some = (p, m.added);
   two = two_kept by Has Has' p m (λ u. let no : Unknown ≡ Reduces = sym e ∙ u in cc) t.two i.two;
   shifts = shifts_kept by Has Has' p m (inr e) t.shifts i.shifts;
-  unknown = (p, m.here, e);
+  unknown = (p, m.added, e);
 }
 
 -- A tally is correct for every set with the same productions.

@@ -1,7 +1,7 @@
 -- The depth of actuals, and the limit that bounds recursive calls over them (a rule of this project).
 use Rattle.std.specs.Prelude.{◌≤◌, ℕ, suc, max, List, [], ◌∷◌}
 use Rattle.std.specs.List.{All}
-use Rattle.mh_rules.specs.declared.modules.TheConstants.{MAX_DEPTH}
+use Rattle.mh_rules.specs.Limits.{max_actual_depth}
 use Rattle.mh_rules.specs.declared.modules.Actual.{Actual}
 use Rattle.mh_rules.specs.declared.modules.Actual.TheOpen.{Actual-F}
 use Rattle.mh_rules.specs.declared.modules.Actual.TheFolds.{fold-Actual}
@@ -28,7 +28,7 @@ abbrev pub actual_depth : Actual → ℕ
 actual_depth = fold-Actual ℕ actual_depth_step
 
 abbrev pub IsActualShallow : Actual → Type 0
-IsActualShallow a = actual_depth a ≤ MAX_DEPTH
+IsActualShallow a = actual_depth a ≤ max_actual_depth
 
 -- No producer of the rule is too deep.
 abbrev pub AreProducersShallow : Rule → Type 0
@@ -43,7 +43,7 @@ abbrev pub applied_depth : Applied → ℕ
 applied_depth = fold-Applied ℕ applied_depth_step
 
 abbrev pub IsAppliedShallow : Applied → Type 0
-IsAppliedShallow a = applied_depth a ≤ MAX_DEPTH
+IsAppliedShallow a = applied_depth a ≤ max_actual_depth
 
 -- No producer of the joined rule is too deep.
 abbrev pub AreJoinedShallow : JoinedRule → Type 0

@@ -1,3 +1,4 @@
+pub mod Limits
 pub mod Depth
 pub mod Modules
 pub mod Ready

@@ -2,19 +2,19 @@
 -- instances.
 use Rattle.std.specs.Prelude.{◌<◌, ◌≤◌, ◌≢◌, ℕ, List, length, AllPairs, IfSome}
 use Rattle.std.specs.List.{All}
-use Rattle.mh_grammar.specs.declared.types.TheConstants.{MAX_NUMBERED}
+use Rattle.mh_grammar.specs.Limits.{max_numbered}
 use Rattle.mh_grammar.specs.Costs.{IsCost, HaveCosts}
 use Rattle.mh_rules.specs.declared.modules.Rule.{Rule}
 use Rattle.mh_rules.specs.declared.modules.TokenDecl.{TokenDecl}
 use Rattle.mh_rules.specs.declared.modules.Module.{Module}
-use Rattle.mh_rules.specs.declared.joined.TheConstants.{MAX_TOKENS}
+use Rattle.mh_rules.specs.Limits.{max_tokens}
 use Rattle.mh_rules.specs.declared.joined.Head.{Head}
 use Rattle.mh_rules.specs.declared.joined.Head.TheVariants as heads
 use Rattle.mh_rules.specs.declared.joined.Applied.{Applied}
 use Rattle.mh_rules.specs.declared.joined.Applied.TheFolds.{every-Applied}
 use Rattle.mh_rules.specs.declared.joined.JoinedRule.{JoinedRule}
 use Rattle.mh_rules.specs.declared.joined.Joined.{Joined}
-use Rattle.mh_rules.specs.declared.instances.TheConstants.{MAX_INSTANCES}
+use Rattle.mh_rules.specs.Limits.{max_instances}
 use Rattle.mh_rules.specs.declared.instances.Part.{Part}
 use Rattle.mh_rules.specs.declared.instances.Part.TheVariants as parts
 use Rattle.mh_rules.specs.declared.instances.InstanceProduction.{InstanceProduction}
@@ -57,9 +57,9 @@ pub record IsRuleReady (tokens rules : ℕ) (r : JoinedRule) : Type 0 where
   pub shallow : AreJoinedShallow r
 
 -- All numbers and costs are in range, each rule has an alternative, the starts are distinct, there are at most
--- `MAX_TOKENS` tokens, and nothing is too deep.
+-- `max_tokens` tokens, and nothing is too deep.
 pub record IsJoinedReady (j : Joined) : Type 0 where
-  pub few_tokens : length j.tokens ≤ MAX_TOKENS
+  pub few_tokens : length j.tokens ≤ max_tokens
   pub costs : HaveCosts j.tokens
   pub starts_below : All (λ s. s < length j.rules) j.starts
   pub starts_distinct : AllPairs (λ a b. a ≢ b) j.starts
@@ -81,9 +81,9 @@ pub record IsInstanceReady (tokens instances : ℕ) (i : Instance) : Type 0 wher
 -- All numbers and costs are in range, each instance has an alternative, the starts are distinct, and the counts of
 -- tokens and instances are within their limits.
 pub record IsExpandedReady (e : Expanded) : Type 0 where
-  pub few_tokens : length e.tokens ≤ MAX_NUMBERED
+  pub few_tokens : length e.tokens ≤ max_numbered
   pub costs : HaveCosts e.tokens
-  pub few_instances : length e.instances ≤ MAX_INSTANCES
+  pub few_instances : length e.instances ≤ max_instances
   pub starts_below : All (λ s. s < length e.instances) e.starts
   pub starts_distinct : AllPairs (λ a b. a ≢ b) e.starts
   pub instances_ready : All (IsInstanceReady (length e.tokens) (length e.instances)) e.instances

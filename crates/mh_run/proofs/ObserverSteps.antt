@@ -31,7 +31,7 @@ module _ {S : Type 0} (f : Observer S) (t : TableData) where
 
   -- No step leads from a configuration to itself.
   pub leads_none : (look : Option ℕ) (old : List ℕ) (before : S) → StepsLead f t look 0 old old before before
-  leads_none look old before = record { there = λ read rest. refl; value = λ read rest. refl }
+  leads_none look old before = record { reaches = λ read rest. refl; value = λ read rest. refl }
 
   module _ (look : Option ℕ) (n : ℕ) (old stack : List ℕ) (before s : S) (h : StepsLead f t look n old stack before s) (p : ℕ) (m : run_move_of t (top_of stack) (look_list look) ≡ Reduces p) where
     -- The value after one more reduction.
@@ -39,16 +39,16 @@ module _ {S : Type 0} (f : Observer S) (t : TableData) where
     value_more read rest =
         let first : Config = config_with old read look rest in
         along_one_more n first before
-        ∙ ap (λ (c : Config). observed f t (run_move_of t (top_of c.stack) c.left) c.left (observed_after f t n first before)) (h.there read rest)
+        ∙ ap (λ (c : Config). observed f t (run_move_of t (top_of c.stack) c.left) c.left (observed_after f t n first before)) (h.reaches read rest)
         ∙ ap (observed f t (run_move_of t (top_of stack) (left_with look rest)) (left_with look rest)) (h.value read rest)
         ∙ ap (λ (x : RunMove). observed f t x (left_with look rest) s) (run_move_of-look t (top_of stack) look rest ∙ m)
 
     pub leads_more : (new : List ℕ) → reduce t p stack ≡ Some new → StepsLead f t look (suc n) old new before (f.reduced s (length (rhs_of t.grammar p)) p)
     leads_more new is = record {
-      there = λ read rest.
+      reaches = λ read rest.
           let here : Config = config_with stack read look rest in
           after_one_more t n (config_with old read look rest)
-          ∙ ap (λ (c : Config). next_of c (step t c)) (h.there read rest)
+          ∙ ap (λ (c : Config). next_of c (step t c)) (h.reaches read rest)
           ∙ ap (next_of here) (step_moves t here (Reduces p) (run_move_of-look t (top_of stack) look rest ∙ m) ∙ ap (goes_to here) is);
       value = value_more;
     }

@@ -26,7 +26,7 @@ at stack read left = record { stack = stack; read = read; left = left }
 pub record RunProgress {S : Type 0} (f : Observer S) (t : TableData) (start : ℕ) (w : List ℕ) (first : S) (stack : List ℕ) (read : ℕ) (s : S) : Type 0 where
   pub run : IsRunStack t stack
   pub steps : ℕ
-  pub there : after t steps (initial start w) ≡ at stack read (drop read w)
+  pub reaches : after t steps (initial start w) ≡ at stack read (drop read w)
   pub value : observed_after f t steps (initial start w) first ≡ s
 
 module _ {S : Type 0} (f : Observer S) (t : TableData) (start : ℕ) (w : List ℕ) (first : S) where
@@ -35,7 +35,7 @@ module _ {S : Type 0} (f : Observer S) (t : TableData) (start : ℕ) (w : List �
       rw e (record {
         run = IsRunStack-start t start lt;
         steps = 0;
-        there = refl;
+        reaches = refl;
         value = refl;
       })
 
@@ -44,7 +44,7 @@ module _ {S : Type 0} (f : Observer S) (t : TableData) (start : ℕ) (w : List �
     behind : (c : Config) (k : ℕ) → at stack read (drop read w) ≡ c → observed_after f t (h.steps + k) (initial start w) first ≡ observed_after f t k c s
     behind c k e =
         along_add f t h.steps k (initial start w) first
-        ∙ ap (λ (x : Config). observed_after f t k x (observed_after f t h.steps (initial start w) first)) (h.there ∙ e)
+        ∙ ap (λ (x : Config). observed_after f t k x (observed_after f t h.steps (initial start w) first)) (h.reaches ∙ e)
         ∙ ap (observed_after f t k c) h.value
 
     -- The invariant after the next reductions.
@@ -54,7 +54,7 @@ module _ {S : Type 0} (f : Observer S) (t : TableData) (start : ℕ) (w : List �
         record {
           run = r.run;
           steps = h.steps + r.count;
-          there = after-add t h.steps r.count (initial start w) ∙ ap (after t r.count) (h.there ∙ here) ∙ r.leads.there read rest ∙ ap (at new read) (sym e);
+          reaches = after-add t h.steps r.count (initial start w) ∙ ap (after t r.count) (h.reaches ∙ here) ∙ r.leads.reaches read rest ∙ ap (at new read) (sym e);
           value = behind (config_with stack read look rest) r.count here ∙ r.leads.value read rest;
         }
 
@@ -65,7 +65,7 @@ module _ {S : Type 0} (f : Observer S) (t : TableData) (start : ℕ) (w : List �
       value_shifted : observed_after f t (suc h.steps) (initial start w) first ≡ f.shifted s z
       value_shifted =
           along_one_more f t h.steps (initial start w) first
-          ∙ ap (λ (c : Config). observed f t (run_move_of t (top_of c.stack) c.left) c.left (observed_after f t h.steps (initial start w) first)) (h.there ∙ ap (at stack read) e)
+          ∙ ap (λ (c : Config). observed f t (run_move_of t (top_of c.stack) c.left) c.left (observed_after f t h.steps (initial start w) first)) (h.reaches ∙ ap (at stack read) e)
           ∙ ap (observed f t (run_move_of t (top_of stack) (z ∷ rest)) (z ∷ rest)) h.value
           ∙ ap (λ (x : RunMove). observed f t x (z ∷ rest) s) shifts
 
@@ -73,9 +73,9 @@ module _ {S : Type 0} (f : Observer S) (t : TableData) (start : ℕ) (w : List �
       so_far_shifted facts r = record {
         run = IsRunStack-shift t facts stack z j rest h.run shifts;
         steps = suc h.steps;
-        there =
+        reaches =
             after_one_more t h.steps (initial start w)
-            ∙ ap (λ (c : Config). next_of c (step t c)) (h.there ∙ ap (at stack read) e)
+            ∙ ap (λ (c : Config). next_of c (step t c)) (h.reaches ∙ ap (at stack read) e)
             ∙ ap (next_of (at stack read (z ∷ rest))) (step_moves t (at stack read (z ∷ rest)) (Shifts j) shifts)
             ∙ ap (at (stack ++ j ∷ []) (read + 1)) r;
         value = value_shifted;
@@ -85,7 +85,7 @@ module _ {S : Type 0} (f : Observer S) (t : TableData) (start : ℕ) (w : List �
     pub so_far_ends : (m : RunMove) (how : Ending) → run_move_of t (top_of stack) (drop read w) ≡ m → step_by t (at stack read (drop read w)) m ≡ Ends how → RunsObserved f t start w first how s
     so_far_ends m how e ended =
         let ends : step t (at stack read (drop read w)) ≡ Ends how = step_moves t (at stack read (drop read w)) m e ∙ ended in
-        record { steps = h.steps; ends = ap (step t) h.there ∙ ends; value = h.value }
+        record { steps = h.steps; ends = ap (step t) h.reaches ∙ ends; value = h.value }
 
 -- The run ends at a token.
 pub token_ends_run : {S : Type 0} (f : Observer S) (t : TableData) (start : ℕ) (w : List ℕ) (first : S) (old new : List ℕ) (read z : ℕ) (before now : S) (m : RunMove) (how : Ending) → RunProgress f t start w first old read before

@@ -183,14 +183,14 @@ raw_done s q k es h look Refuse r = absurd r
 
 conflict_free_by : (s : State) (look : Look) (a : Action) → OnlyRaw s look a → IsConflictFreeState s
 conflict_free_by s look a h = record {
-  one = λ l c. c.two ((h l c.one c.raw_one).1 ∙ sym (h l c.other c.raw_other).1);
-  stream = λ x. (let no : End ≡ Token x.token = (h End x.last (chosen_is_raw s End x.last x.takes_last)).0 ∙ sym (h (Token x.token) x.other (chosen_is_raw s (Token x.token) x.other x.takes_other)).0 in cc);
+  no_conflict = λ l c. c.differ ((h l c.one c.raw_one).1 ∙ sym (h l c.other c.raw_other).1);
+  no_stream_conflict = λ x. (let no : End ≡ Token x.token = (h End x.last (chosen_is_raw s End x.last x.takes_last)).0 ∙ sym (h (Token x.token) x.other (chosen_is_raw s (Token x.token) x.other x.takes_other)).0 in cc);
 }
 
 -- The state reduces p by default.
 module _ (s : State) (p : ℕ) (h : OnlyRaw s End (Reduce p)) (r : Raw s End (Reduce p)) where
   keeps : IsKeptOn s End (Reduce p)
-  keeps = let clear = conflict_free_by s End (Reduce p) h in (raw_is_chosen s End (clear.one End) (Reduce p) r, clear.stream)
+  keeps = let clear = conflict_free_by s End (Reduce p) h in (raw_is_chosen s End (clear.no_conflict End) (Reduce p) r, clear.no_stream_conflict)
 
   defaults : HasDefault Canonical s p
   defaults =
@@ -199,7 +199,7 @@ module _ (s : State) (p : ℕ) (h : OnlyRaw s End (Reduce p)) (r : Raw s End (Re
         look = End;
         some = keeps;
         all = λ l a k. (h l a (kept_raw s l a k)).1;
-        no_hole = λ l x. x.none_stays x.action (chosen_remains s l x.action (raw_is_chosen s l (clear.one l) x.action x.raw));
+        no_hole = λ l x. x.none_remains x.action (chosen_remains s l x.action (raw_is_chosen s l (clear.no_conflict l) x.action x.raw));
         canonical = λ e. keeps;
       }
 
@@ -237,7 +237,7 @@ shift_0 : Raw s_0 (Token 0) (Shift 1)
 shift_0 = ap (λ (es : List Edge). find_edge es (T 0)) edges_0
 
 cell_0 : (z : ℕ) → z < 1 → IsCell Canonical s_0 z (get_or (Shift 1 ∷ []) z Refuse)
-cell_0 zero lt = inl (inl (raw_is_chosen s_0 (Token 0) ((conflict_free_by s_0 (Token 0) (Shift 1) raw_0).one (Token 0)) (Shift 1) shift_0))
+cell_0 zero lt = inl (inl (raw_is_chosen s_0 (Token 0) ((conflict_free_by s_0 (Token 0) (Shift 1) raw_0).no_conflict (Token 0)) (Shift 1) shift_0))
 cell_0 (suc z) lt = absurd (omega arith)
 
 no_default_0 : (p : ℕ) → HasDefault Canonical s_0 p → ⊥
@@ -344,12 +344,12 @@ nothing_after_dot q h p d look X rest x e =
 done_still : (s q : ℕ) → kernel_at one_automaton s ≡ kernel_with q 1 → drop 1 (rhs_of g q) ≡ [] → (X : Symbol) → HasMove g one_automaton s X → ⊥
 done_still s q k h X m =
     let c = move_origin g (closure_of g one_automaton s) X m.production m.dot m.look m.moves in
-    nothing_after_dot q h m.production c.place m.look X c.rest (in_done s q k h m.production c.place m.look c.there) c.before
+    nothing_after_dot q h m.production c.place m.look X c.rest (in_done s q k h m.production c.place m.look c.in_set) c.before
 
 each_edge : (s : ℕ) (X : Symbol) → s < 3 → HasMove g one_automaton s X → (u : ℕ) × (leads_to one_automaton s X ≡ Some u)
 each_edge zero X lt m =
     let c = move_origin g (closure_of g one_automaton 0) X m.production m.dot m.look m.moves in
-    first_leads m.production c.place m.look X c.rest (in_first m.production c.place m.look c.there) c.before
+    first_leads m.production c.place m.look X c.rest (in_first m.production c.place m.look c.in_set) c.before
 each_edge (suc zero) X lt m = absurd (done_still 1 1 kernel_1 done_1 X m)
 each_edge (suc (suc zero)) X lt m = absurd (done_still 2 0 kernel_2 done_0 X m)
 each_edge (suc (suc (suc s))) X lt m = absurd (omega arith)
@@ -378,13 +378,13 @@ holds_2 p d look x = rw (x.production, x.dot, x.at_end) (subst (λ (k : Kernel).
 carried_T : (p d : ℕ) (look : Look) → move_of g one_automaton 0 (T 0) p d look → IsSingleItem 1 1 p d look
 carried_T p d look m =
     let c = move_origin g (closure_of g one_automaton 0) (T 0) p d look m in
-    let x = first_over_T p c.place look c.rest (in_first p c.place look c.there) c.before in
+    let x = first_over_T p c.place look c.rest (in_first p c.place look c.in_set) c.before in
     record { production = x.production; dot = c.dot ∙ ap suc x.dot; at_end = x.at_end }
 
 carried_N : (p d : ℕ) (look : Look) → move_of g one_automaton 0 (N 0) p d look → IsSingleItem 0 1 p d look
 carried_N p d look m =
     let c = move_origin g (closure_of g one_automaton 0) (N 0) p d look m in
-    let x = first_over_N p c.place look c.rest (in_first p c.place look c.there) c.before in
+    let x = first_over_N p c.place look c.rest (in_first p c.place look c.in_set) c.before in
     record { production = x.production; dot = c.dot ∙ ap suc x.dot; at_end = x.at_end }
 
 target_T : IsTarget g one_automaton 0 (T 0) 1
@@ -419,7 +419,7 @@ each_target (suc (suc (suc s))) X u e = absurd (none_leads (suc (suc (suc s))) X
 
 is_automaton : IsAutomaton g one_automaton
 is_automaton = record {
-  enough = omega arith;
+  enough_states = omega arith;
   few = omega arith;
   rows = refl;
   each = each_kernel;

@@ -1,4 +1,5 @@
--- Proves that the tokens of a run that overshoots begin a sentence, if each nonterminal is productive.
+-- Proves that the tokens of a run that overshoots (asks for a token after the last one) begin a sentence, if each
+-- nonterminal is productive.
 use Rattle.std.proofs.Common.{◌≡◌, ℕ, zero, suc, ◌+◌, ◌<◌, ◌≤◌, List, [], ◌∷◌, ◌++◌, length, take, drop, get_or, refl, ap, sym, subst, arith, ◌∙◌, append_assoc, append-nil, take-suc}
 use Rattle.std.specs.List.{All}
 use Rattle.std.proofs.Math.Seq.{take-length}
@@ -123,7 +124,7 @@ module _ (t : TableData) (range : IsInRange t.grammar) (productive : AllProducti
         let z = at_kernel (length kids) (omega arith) i.0 i.1 i.2 i.3 rest.0 rest.1 in
         (rest.0 ++ z.0, let s = z.1 in rw (take-length kids) at s)
 
--- Only the move that asks for a token ends a run with an overshoot.
+-- Only the move that asks for a token ends a run with the verdict `Overshot`.
 by_overshoots : (c : Config) (m : RunMove) (s : ℕ) → EndsBy m c (Overshot s) → m ≡ Asks
 by_overshoots c Accepts s e = cc
 by_overshoots c Asks s e = refl
@@ -141,4 +142,4 @@ overshot_begins t f a is productive start w s lt (n, e) =
     let asks : run_move_of t (top_of c.stack) c.left ≡ Asks = by_overshoots c _ s (step_ends t c (Overshot s) e) in
     let none : c.left ≡ [] = asks_at_end t (top_of c.stack) c.left asks in
     let whole : yields kids ≡ w = sym (append-nil (yields kids)) ∙ ap (λ (l : List ℕ). yields kids ++ l) (sym none) ∙ h.spells in
-    rw whole at (begun t f.ranges.grammar productive a is start lt c.stack kids h.grown low.is)
+    rw whole at (begun t f.ranges.grammar productive a is start lt c.stack kids h.match_stack low.is)

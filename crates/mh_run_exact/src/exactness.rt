@@ -36,7 +36,7 @@ pub fn trees_derive()
 {}
 
 /// Law: if a table belongs to an automaton, with or without conflicts, and each nonterminal derives some word, then the
-/// tokens of each run that overshoots begin a sentence.
+/// tokens of each run that overshoots (asks for a token after the last one) begin a sentence.
 pub fn overshoots_in_sentences<const W: usize>(
     grammar: &Grammar,
     automaton: &Automaton<W>,
@@ -65,10 +65,10 @@ pub fn verdicts_are_exact<const W: usize>(
 )
     requires automaton { IsAutomaton (plain_of grammar.now) automaton.now }
     requires table { IsTableOf grammar.now automaton.now mode table.now }
-    requires clear { HasNoConflicts grammar.now automaton.now }
-    ensures whole { (start : ℕ) (w : List ℕ) → start < length grammar.now.starts → VerdictOf table.now start w (Accepted (length w)) ↔ IsSentence (plain_of grammar.now) start w }
+    requires no_conflicts { HasNoConflicts grammar.now automaton.now }
+    ensures accepted { (start : ℕ) (w : List ℕ) → start < length grammar.now.starts → VerdictOf table.now start w (Accepted (length w)) ↔ IsSentence (plain_of grammar.now) start w }
     ensures prefix { (start : ℕ) (w : List ℕ) (read : ℕ) → start < length grammar.now.starts → VerdictOf table.now start w (Accepted read) ↔ IsPrefixSentence (plain_of grammar.now) start w read }
-    ensures one { (start : ℕ) (w : List ℕ) (j k : ℕ) → start < length grammar.now.starts → IsPrefixSentence (plain_of grammar.now) start w j → IsPrefixSentence (plain_of grammar.now) start w k → j ≡ k }
+    ensures unique { (start : ℕ) (w : List ℕ) (j k : ℕ) → start < length grammar.now.starts → IsPrefixSentence (plain_of grammar.now) start w j → IsPrefixSentence (plain_of grammar.now) start w k → j ≡ k }
     ensures refused { (start : ℕ) (w : List ℕ) (at s : ℕ) → start < length grammar.now.starts → VerdictOf table.now start w (Rejected at s) → BeginsSentence (plain_of grammar.now) start (take (at + 1) w) → ⊥ }
 {
     let _grammar = grammar;

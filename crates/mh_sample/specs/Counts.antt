@@ -6,7 +6,7 @@ use Rattle.mh_grammar.specs.declared.types.Sentence.{Sentence}
 use Rattle.mh_tables_core.specs.Table.{TableData}
 use Rattle.mh_tables_core.specs.Run.{VerdictOf, Ending, Accepted, Overshot, Rejected}
 use Rattle.mh_msgfile.specs.Sentences.{Vocabulary, vocabulary_of, LineResult, IsSentence, sentence_in}
-use Rattle.mh_sample.specs.declared.texts.TheConstants.{SENTENCES}
+use Rattle.mh_sample.specs.SampleSize.{sample_size}
 use Rattle.mh_grammar.specs.Text.{Text}
 use Rattle.mh_sample.specs.Texts.{each_from, operators_of, sentence_text}
 
@@ -23,7 +23,7 @@ sentences_at v operators sentence = sentences_of (sentence_in v (sentence_text o
 
 -- The sentences of all lines of a sample, in order. A line that is not a sentence of the grammar is left out.
 unfoldable pub sample_sentences : Grammar → ℕ → List Sentence
-sample_sentences g number = each_from (sentences_at (vocabulary_of g) (operators_of number)) 0 SENTENCES
+sample_sentences g number = each_from (sentences_at (vocabulary_of g) (operators_of number)) 0 sample_size
 
 -- The endings of the runs on these sentences, one by one.
 abbrev pub HaveEndings : TableData → List Sentence → List Ending → Type 0

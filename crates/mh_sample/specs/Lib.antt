@@ -1,3 +1,4 @@
+pub mod SampleSize
 pub mod Texts
 pub mod Counts
 pub mod Sentences

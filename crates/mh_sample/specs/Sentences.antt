@@ -10,8 +10,8 @@ use Rattle.mh_sample_shortest.specs.Shortest.{IsShortest}
 use Rattle.mh_sample_shortest.specs.declared.word.Shortest.{Shortest}
 use Rattle.mh_sample_shortest.specs.declared.word.Shortest.TheVariants.{None, Longer, Word}
 
--- The text of an answer: the names of the tokens of the word, or words in lower case. Names of tokens begin with
--- capitals.
+-- The text of an answer: the names of the tokens of the shortest word; or, if there is none or it is too long, a note
+-- in lower case. Names of tokens begin with capitals, so a note is no word.
 abbrev pub word_text : Grammar → Shortest → Text
 word_text g None = codes " none"
 word_text g Longer = codes " longer than 1000"

@@ -1,7 +1,7 @@
 -- The definition of samples: for each number a grammar of expressions with several levels, and sentences of it, some of
 -- which lack the last parenthesis. Samples are this project's own.
 use Rattle.std.specs.Prelude.{ℕ, zero, suc, ◌+◌, ◌-◌, ◌*◌, ◌%◌, nat_eq, if◌then◌else◌, List, [], ◌∷◌, ◌++◌, codes, decimal}
-use Rattle.mh_sample.specs.declared.texts.TheConstants.{SENTENCES}
+use Rattle.mh_sample.specs.SampleSize.{sample_size}
 use Rattle.mh_grammar.specs.Text.{Text}
 
 -- The text repeated so many times.
@@ -71,4 +71,4 @@ sentence_line operators sentence = sentence_text operators sentence ++ 10 ∷ []
 
 -- The lines of all sentences of a sample.
 unfoldable pub sentences_text : ℕ → Text
-sentences_text number = each_from (sentence_line (operators_of number)) 0 SENTENCES
+sentences_text number = each_from (sentence_line (operators_of number)) 0 sample_size

@@ -1,1 +1,2 @@
 pub mod SampleLexicon
+pub mod SampleSentences

@@ -5,12 +5,13 @@ ghost use Rattle.mh_grammar.specs.Plain.{plain_of, IsInRange};
 ghost use Rattle.mh_grammar.specs.declared.types.Sentence.{Sentence as Sentence'};
 ghost use Rattle.mh_run.specs.Verdicts.{ending_for};
 ghost use Rattle.mh_msgfile.specs.Sentences.{vocabulary_in, sentence_in};
-ghost use Rattle.mh_sample.specs.declared.texts.TheConstants.{SENTENCES};
 ghost use Rattle.mh_sample.specs.Texts.{each_from};
 ghost use Rattle.mh_sample.specs.Counts.{HaveEndings, IsSampleLine, counts_line as counts_text, endings_text, grammar_sizes, table_sizes, is_accepted, is_overshot, is_rejected, sample_sentences, sentences_of, sentences_at};
 ghost use Rattle.mh_sample.specs.code.SampleLexicon.{HasNamesOf};
+ghost use Rattle.mh_sample.specs.code.SampleSentences.{IsInSample};
+ghost use Rattle.mh_sample.specs.SampleSize.{sample_size};
 
-use crate::texts::{SENTENCES, operators, write_sentence};
+use crate::texts::{SENTENCES, SampleSentence, operators, write_sentence};
 use mh_grammar::{Grammar, Memory, Sentence};
 use mh_msgfile::{Lexicon, SentenceFault};
 use mh_run::{Verdict, verdict};
@@ -43,7 +44,7 @@ fn judge_line(
     verdicts: &mut Vec<Verdict>,
 ) -> Result<(), Memory>
     requires short { length line.now < 2 ^ 32 }
-    requires speaks { HasNamesOf lexicon.now table.now }
+    requires names { HasNamesOf lexicon.now table.now }
     ensures { OnOk result ((done : List Sentence') → HaveEndings table.now done (map ending_for verdicts.old.items) → HaveEndings table.now (done ++ sentences_of (sentence_in (vocabulary_in lexicon.now) line.now)) (map ending_for verdicts.new.items)) }
 {
     match lexicon.read(alloc, line) {
@@ -56,23 +57,20 @@ fn judge_line(
     }
 }
 
-/// Appends the verdict of a sentence of the sample, given by its number.
+/// Appends the verdict of a sentence of the sample.
 fn judge_sentence(
     alloc: Global,
     lexicon: &Lexicon,
     table: &Halting,
-    operators: u32,
-    sentence: u32,
+    sentence: SampleSentence,
     verdicts: &mut Vec<Verdict>,
 ) -> Result<(), Memory>
-    requires some { 0 < operators }
-    requires few { operators < 32 }
-    requires sentence { sentence < SENTENCES }
-    requires speaks { HasNamesOf lexicon.now table.now }
-    ensures { OnOk result ((done : List Sentence') → HaveEndings table.now done (map ending_for verdicts.old.items) → HaveEndings table.now (done ++ sentences_at (vocabulary_in lexicon.now) operators sentence) (map ending_for verdicts.new.items)) }
+    requires sentence { IsInSample sentence }
+    requires names { HasNamesOf lexicon.now table.now }
+    ensures { OnOk result ((done : List Sentence') → HaveEndings table.now done (map ending_for verdicts.old.items) → HaveEndings table.now (done ++ sentences_at (vocabulary_in lexicon.now) sentence.operators sentence.number) (map ending_for verdicts.new.items)) }
 {
     let mut line = Vec::new(alloc);
-    write_sentence(alloc, &mut line, operators, sentence)?;
+    write_sentence(alloc, &mut line, sentence)?;
     judge_line(alloc, lexicon, table, line.as_slice(), verdicts)
 }
 
@@ -86,13 +84,14 @@ fn judge_sentences(
 ) -> Result<Vec<Verdict>, Memory>
     requires some { 0 < operators }
     requires few { operators < 32 }
-    requires count { count ≤ SENTENCES }
-    requires speaks { HasNamesOf lexicon.now table.now }
+    requires count { count ≤ sample_size }
+    requires names { HasNamesOf lexicon.now table.now }
     ensures { IfOk result (λ verdicts. HaveEndings table.now (each_from (sentences_at (vocabulary_in lexicon.now) operators) 0 count) (map ending_for verdicts.items)) }
 {
     let mut verdicts = Vec::new(alloc);
-    for sentence in 0..count {
-        judge_sentence(alloc, lexicon, table, operators, sentence, &mut verdicts)?;
+    for number in 0..count {
+        let sentence = SampleSentence { operators, number };
+        judge_sentence(alloc, lexicon, table, sentence, &mut verdicts)?;
     }
     Ok(verdicts)
 }
@@ -209,7 +208,8 @@ fn counts_line(
 }
 
 /// The line of counts of a sample: its numbers of tokens, productions and states, the number of states in the catalogue
-/// (`listed`), and how many sentences are accepted, overshot and rejected. Fails only if memory runs out.
+/// (`listed`), and how many sentences have each of the three verdicts accepted, overshot and rejected. Fails only if
+/// memory runs out.
 pub fn sample_line(
     alloc: Global,
     number: u32,

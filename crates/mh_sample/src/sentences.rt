@@ -4,7 +4,7 @@ ghost use Rattle.mh_grammar.specs.Plain.{plain_of, IsInRange};
 ghost use Rattle.mh_msgfile.specs.FileTexts.{names_after, sentence_text as sentence_text'};
 ghost use Rattle.mh_sample.specs.Sentences.{shortest_line, word_text, IsRandomText, IsShortestText};
 ghost use Rattle.mh_sample_random.specs.Faults.{MayFail};
-ghost use Rattle.mh_sample_shortest.specs.declared.word.TheConstants.{MAX_WORD};
+ghost use Rattle.mh_sample_shortest.specs.Limits.{max_word};
 
 use mh_grammar::{Grammar, Memory, Token, nonterminal_name, token_name};
 use mh_msgfile::write_sentence;
@@ -83,7 +83,7 @@ pub fn random_text(
 ) -> Result<Vec<u8>, RandomFault>
     requires range { IsInRange (plain_of grammar.now) }
     requires start { 0 < len grammar.now.starts }
-    requires few { length ≤ MAX_WORD }
+    requires few { length ≤ max_word }
     ensures text { IfOk result (λ text. IsRandomText grammar.now seed length text.items) }
     ensures fault { IfErr result (MayFail (plain_of grammar.now) length) }
 {

@@ -1,7 +1,8 @@
 //! Writes the grammar and the sentences of a sample.
 ghost use Rattle.std.specs.Prelude.{◌≡◌, ◌<◌, ◌≤◌, ◌+◌, ◌-◌, ◌%◌, ◌++◌, IfOk, OnOk};
-ghost use Rattle.mh_sample.specs.declared.texts.TheConstants.{SENTENCES};
 ghost use Rattle.mh_sample.specs.Texts.{operators_of, repeated_text, each_from, token_line, left_text, right_text, level_line, last_level_line, grammar_text, operator_at, operand_text, closed_parentheses, sentence_text, sentence_line, sentences_text};
+ghost use Rattle.mh_sample.specs.SampleSize.{sample_size};
+ghost use Rattle.mh_sample.specs.code.SampleSentences.{IsInSample};
 
 use mh_grammar::Memory;
 use std::alloc::Global;
@@ -14,6 +15,15 @@ pub const SENTENCES: u32 = 3_000;
 pub struct Sample {
     pub grammar: Vec<u8>,
     pub sentences: Vec<u8>,
+}
+
+/// A sentence of a sample.
+#[derive(Clone, Copy)]
+pub(crate) struct SampleSentence {
+    /// The number of operators of the sample's grammar.
+    pub(crate) operators: u32,
+    /// The number of the sentence, from 0.
+    pub(crate) number: u32,
 }
 
 /// The number of operators of a sample's grammar, from 2 to 31.
@@ -130,19 +140,13 @@ fn write_operand(alloc: Global, text: &mut Vec<u8>, operator: u32) -> Result<(),
 }
 
 /// Appends the operators of a sentence, each with its right operand.
-fn write_operands(
-    alloc: Global,
-    text: &mut Vec<u8>,
-    operators: u32,
-    sentence: u32,
-) -> Result<(), Memory>
-    requires some { 0 < operators }
-    requires few { operators < 32 }
-    requires sentence { sentence < SENTENCES }
-    ensures { OnOk result (text.new.items ≡ text.old.items ++ each_from (λ place. operand_text (operator_at operators sentence place)) 1 (sentence % 5)) }
+fn write_operands(alloc: Global, text: &mut Vec<u8>, sentence: SampleSentence) -> Result<(), Memory>
+    requires { IsInSample sentence }
+    ensures { OnOk result (text.new.items ≡ text.old.items ++ each_from (λ place. operand_text (operator_at sentence.operators sentence.number place)) 1 (sentence.number % 5)) }
 {
-    for place in 0..sentence % 5 {
-        write_operand(alloc, text, 1 + sentence * (place + 1) % operators)?;
+    let SampleSentence { operators, number } = sentence;
+    for place in 0..number % 5 {
+        write_operand(alloc, text, 1 + number * (place + 1) % operators)?;
     }
     Ok(())
 }
@@ -164,34 +168,24 @@ fn count_closed(sentence: u32) -> u32
 pub(crate) fn write_sentence(
     alloc: Global,
     text: &mut Vec<u8>,
-    operators: u32,
-    sentence: u32,
+    sentence: SampleSentence,
 ) -> Result<(), Memory>
-    requires some { 0 < operators }
-    requires few { operators < 32 }
-    requires sentence { sentence < SENTENCES }
-    ensures { OnOk result (text.new.items ≡ text.old.items ++ sentence_text operators sentence) }
+    requires { IsInSample sentence }
+    ensures { OnOk result (text.new.items ≡ text.old.items ++ sentence_text sentence.operators sentence.number) }
 {
-    write_times(text, b"LP ", sentence % 17)?;
+    write_times(text, b"LP ", sentence.number % 17)?;
     text.extend_from_slice(b"INT")?;
-    write_operands(alloc, text, operators, sentence)?;
-    write_times(text, b" RP", count_closed(sentence))?;
+    write_operands(alloc, text, sentence)?;
+    write_times(text, b" RP", count_closed(sentence.number))?;
     text.extend_from_slice(b" EOF")?;
     Ok(())
 }
 
-fn write_line(
-    alloc: Global,
-    text: &mut Vec<u8>,
-    operators: u32,
-    sentence: u32,
-) -> Result<(), Memory>
-    requires some { 0 < operators }
-    requires few { operators < 32 }
-    requires sentence { sentence < SENTENCES }
-    ensures { OnOk result (text.new.items ≡ text.old.items ++ sentence_line operators sentence) }
+fn write_line(alloc: Global, text: &mut Vec<u8>, sentence: SampleSentence) -> Result<(), Memory>
+    requires { IsInSample sentence }
+    ensures { OnOk result (text.new.items ≡ text.old.items ++ sentence_line sentence.operators sentence.number) }
 {
-    write_sentence(alloc, text, operators, sentence)?;
+    write_sentence(alloc, text, sentence)?;
     text.push(b'\n')?;
     Ok(())
 }
@@ -205,11 +199,11 @@ fn write_sentences(
 ) -> Result<(), Memory>
     requires some { 0 < operators }
     requires few { operators < 32 }
-    requires count { count ≤ SENTENCES }
+    requires count { count ≤ sample_size }
     ensures { OnOk result (text.new.items ≡ text.old.items ++ each_from (sentence_line operators) 0 count) }
 {
-    for sentence in 0..count {
-        write_line(alloc, text, operators, sentence)?;
+    for number in 0..count {
+        write_line(alloc, text, SampleSentence { operators, number })?;
     }
     Ok(())
 }

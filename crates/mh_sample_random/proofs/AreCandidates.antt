@@ -11,7 +11,7 @@ use Rattle.mh_grammar.specs.declared.types.Symbol.TheVariants.{N}
 use Rattle.mh_grammar.specs.Plain.{PlainGrammar, IsInRange, IsSymbolBelow, IsProductionFor, rhs_of}
 use Rattle.mh_grammar.proofs.Lists.{contains_map, map_contains, recursion-append}
 use Rattle.mh_sample_shortest.specs.declared.word.Shortest.{Shortest}
-use Rattle.mh_sample_shortest.specs.declared.word.TheConstants.{MAX_WORD}
+use Rattle.mh_sample_shortest.specs.Limits.{max_word}
 use Rattle.mh_sample_shortest.proofs.RhsInRange.{rhs_below}
 use Rattle.mh_sample_random.specs.declared.rows.Choice.{Choice}
 use Rattle.mh_sample_random.specs.Random.{AreCandidates, IsCandidate, IsChosen}
@@ -36,7 +36,7 @@ module _ (g : PlainGrammar) (r : IsInRange g) (shortest : List Shortest) (length
       let same : number_of g c.0 ≡ p = ap (λ i. length g.starts + i) c.2 ∙ number in
       (c.0, c.1, same, (is.each c.0 c.1).1 ∙ ap (λ i. lengths_in lengths (rhs_of g i)) same)
 
-  module _ (n written room : ℕ) (rest : List Symbol) (few : n ≤ MAX_WORD) (below : AllByRecursion Below rest) (all : written + room + lengths_in lengths rest ≡ n) where
+  module _ (n written room : ℕ) (rest : List Symbol) (few : n ≤ max_word) (below : AllByRecursion Below rest) (all : written + room + lengths_in lengths rest ≡ n) where
     abbrev pub fitting : List Choice
     fitting = filter (fits room) row
 

@@ -14,7 +14,7 @@ use Rattle.mh_grammar.specs.Plain.{PlainGrammar, Derives, DerivesAll, IsInRange,
 use Rattle.mh_grammar.proofs.Lists.{get_within}
 use Rattle.mh_sample_shortest.specs.declared.word.Shortest.{Shortest}
 use Rattle.mh_sample_shortest.specs.declared.word.Shortest.TheVariants.{None, Longer, Word}
-use Rattle.mh_sample_shortest.specs.declared.word.TheConstants.{MAX_WORD}
+use Rattle.mh_sample_shortest.specs.Limits.{max_word}
 use Rattle.mh_sample_shortest.specs.Shortest.{IsShortest, IsLeast}
 use Rattle.mh_sample_shortest.proofs.ShortLex.{shortlex_length}
 use Rattle.mh_sample_shortest.proofs.RhsInRange.{rhs_below}
@@ -58,24 +58,24 @@ module _ (g : PlainGrammar) (r : IsInRange g) (shortest : List Shortest) (length
       let both : length w ≡ length (u ++ v) = ap length j in
       omega (arith, both, length-append u v, symbol_least X u b.0 t, symbols_least Xs v b.1 f, sum_by-cons (length_in lengths) X Xs)
 
-  answer_word : (n : ℕ) (s : Shortest) → IsShortest g n s → length_for s ≤ MAX_WORD → (w : List ℕ) × (s ≡ Word w) × IsLeast g (N n) w
+  answer_word : (n : ℕ) (s : Shortest) → IsShortest g n s → length_for s ≤ max_word → (w : List ℕ) × (s ≡ Word w) × IsLeast g (N n) w
   answer_word n None is l = absurd (omega (arith, l))
   answer_word n Longer is l = absurd (omega (arith, l))
   answer_word n (Word w) is l = (w, refl, is.0)
 
   -- A nonterminal with a length within the limit has a least word.
-  pub least_word : (n : ℕ) → n < g.nonterminals → length_in lengths (N n) ≤ MAX_WORD → (w : List ℕ) × (slice_get shortest n ≡ Some (Word w)) × IsLeast g (N n) w × (length w ≡ length_in lengths (N n))
+  pub least_word : (n : ℕ) → n < g.nonterminals → length_in lengths (N n) ≤ max_word → (w : List ℕ) × (slice_get shortest n ≡ Some (Word w)) × IsLeast g (N n) w × (length w ≡ length_in lengths (N n))
   least_word n b l =
       let at = known n b in
       let w = answer_word n at.answer at.is (omega (arith, l, at.size)) in
       let size : length_for at.answer ≡ length w.0 = ap length_for w.1 in
       (w.0, at.at ∙ ap Some w.1, w.2, sym (at.size ∙ size))
 
-  symbol_word : (X : Symbol) → Below X → length_in lengths X ≤ MAX_WORD → (w : List ℕ) × Derives g X w × (length w ≡ length_in lengths X)
+  symbol_word : (X : Symbol) → Below X → length_in lengths X ≤ max_word → (w : List ℕ) × Derives g X w × (length w ≡ length_in lengths X)
   symbol_word (T a) b l = (a ∷ [], trees.Derivation.leaf refl, refl)
   symbol_word (N n) b l = let w = least_word n b l in (w.0, w.2.derived, w.3)
 
-  symbols_word : (Xs : List Symbol) → AllByRecursion Below Xs → lengths_in lengths Xs ≤ MAX_WORD → (w : List ℕ) × DerivesAll g Xs w × (length w ≡ lengths_in lengths Xs)
+  symbols_word : (Xs : List Symbol) → AllByRecursion Below Xs → lengths_in lengths Xs ≤ max_word → (w : List ℕ) × DerivesAll g Xs w × (length w ≡ lengths_in lengths Xs)
   symbols_word [] b l = ([], trees.Derivations.none, refl)
   symbols_word (X ∷ Xs) b l =
       let parts = sum_by-cons (length_in lengths) X Xs in
@@ -84,7 +84,7 @@ module _ (g : PlainGrammar) (r : IsInRange g) (shortest : List Shortest) (length
       (first.0 ++ rest.0, trees.Derivations.more refl first.1 rest.1, omega (arith, length-append first.0 rest.0, first.2, rest.2, parts))
 
   -- Symbols can be written within the limit if their least lengths add up to at most the limit.
-  pub can_end : (n written : ℕ) (Xs : List Symbol) → n ≤ MAX_WORD → AllByRecursion Below Xs → written + lengths_in lengths Xs ≤ n → CanEnd g n written Xs
+  pub can_end : (n written : ℕ) (Xs : List Symbol) → n ≤ max_word → AllByRecursion Below Xs → written + lengths_in lengths Xs ≤ n → CanEnd g n written Xs
   can_end n written Xs few b l = let w = symbols_word Xs b (omega (arith, few, l)) in (w.0, w.1, omega (arith, l, w.2))
 
   pub can_end_least : (n written : ℕ) (Xs : List Symbol) → AllByRecursion Below Xs → CanEnd g n written Xs → written + lengths_in lengths Xs ≤ n
@@ -95,7 +95,7 @@ module _ (g : PlainGrammar) (r : IsInRange g) (shortest : List Shortest) (length
   produced n w (trees.Derivation.node {rhs = rhs} p f) = (p.0, p.1, subst (λ (Xs : List Symbol). lengths_in lengths Xs ≤ length w) (sym p.2) (symbols_least rhs w (rhs_below g r (N n) rhs p) f))
 
   -- A nonterminal with a length within the limit has a production whose right side is no longer.
-  pub some_production : (n : ℕ) → n < g.nonterminals → length_in lengths (N n) ≤ MAX_WORD → (p : ℕ) × IsProductionFor g n p × (lengths_in lengths (rhs_of g p) ≤ length_in lengths (N n))
+  pub some_production : (n : ℕ) → n < g.nonterminals → length_in lengths (N n) ≤ max_word → (p : ℕ) × IsProductionFor g n p × (lengths_in lengths (rhs_of g p) ≤ length_in lengths (N n))
   some_production n b l = let w = least_word n b l in let p = produced n w.0 w.2.derived in (p.0, p.1, omega (arith, p.2, w.3))
 
 -- The lengths of the answers are the least lengths.

@@ -18,7 +18,7 @@ use Rattle.mh_sample_shortest.specs.Shortest.{IsLeast}
 use Rattle.mh_sample_random.specs.declared.rows.Choice.{Choice}
 use Rattle.mh_sample_random.specs.declared.writing.Guide.{Guide}
 use Rattle.mh_sample_random.specs.declared.writing.Writing.{Writing}
-use Rattle.mh_sample_random.specs.declared.writing.TheConstants.{MAX_DRAWS}
+use Rattle.mh_sample_random.specs.Limits.{max_draws}
 use Rattle.mh_sample_random.specs.Random as random
 use Rattle.mh_sample_random.specs.Random.{draw, generator_after, IsChosen, Writes}
 use Rattle.mh_sample_random.specs.code.Rows.{fits, length_in, lengths_in, number_of}
@@ -46,7 +46,7 @@ module _ (guide : Guide) where
     draws = omega (arith, draws, h.rest.draws);
     below = subst (λ p. All Below p.items) (sym pending) h.rest.below;
     needed = needed ∙ h.rest.needed ∙ ap (λ p. lengths_in guide.lengths.now p.items) (sym pending);
-    within = omega (arith, written, needed, h.room);
+    within = omega (arith, written, needed, h.fits_limit);
   }
 
   next_generator : (d e : ℕ) → e ≡ d + 1 → (pcg32 (generator_after guide.seed d)).1 ≡ generator_after guide.seed e
@@ -61,7 +61,7 @@ module _ (guide : Guide) where
     below_rest = reversed_all Below old.pending.items (recursion_from_All Below old.pending.items h.rest.below)
 
     all_room : length old.written.items + room + lengths_in guide.lengths.now (reverse old.pending.items) ≡ guide.limit
-    all_room = omega (arith, h.room, h.rest.needed, reversed_lengths guide.lengths.now old.pending.items)
+    all_room = omega (arith, h.fits_limit, h.rest.needed, reversed_lengths guide.lengths.now old.pending.items)
 
     -- The choices that fit, as the code has read the row.
     pub fitting_is : (j given : ℕ) (row read found fitting : List Choice) → j ≡ x → row ≡ get_or guide.rows.now j read → given ≡ room → found ≡ filter (fits given) row → fitting ≡ found → fitting ≡ filter (fits room) (get_or guide.rows.now x [])
@@ -72,7 +72,7 @@ module _ (guide : Guide) where
     -- There is at least one candidate.
     pub some_candidate : (fitting : List Choice) → fitting ≡ filter (fits room) (get_or guide.rows.now x []) → 0 < length fitting
     some_candidate fitting is =
-        let some = some_fits (plain_of guide.grammar.now) k.range guide.shortest.now guide.lengths.now k.known x (get_or guide.rows.now x []) (k.rows x) guide.limit (length old.written.items) room (reverse old.pending.items) k.few below_rest all_room h.symbol (omega (arith, h.room)) in
+        let some = some_fits (plain_of guide.grammar.now) k.range guide.shortest.now guide.lengths.now k.known x (get_or guide.rows.now x []) (k.rows x) guide.limit (length old.written.items) room (reverse old.pending.items) k.few below_rest all_room h.symbol (omega (arith, h.fits_limit)) in
         omega (arith, some, ap length is)
 
     module _ (number : ℕ) (c : Choice) (at : slice_get (filter (fits room) (get_or guide.rows.now x [])) (number % length (filter (fits room) (get_or guide.rows.now x []))) ≡ Some c) where
@@ -89,7 +89,7 @@ module _ (guide : Guide) where
         (at : slice_get (filter (fits room) (get_or guide.rows.now x [])) (number % length (filter (fits room) (get_or guide.rows.now x []))) ≡ Some c)
         (found : slice_get guide.grammar.now.productions c.place ≡ Some p) (new : Writing)
         (generator : new.generator ≡ (pcg32 old.generator).1) (draws : new.draws ≡ old.draws + 1) (written : new.written.items ≡ old.written.items)
-        (needed : new.needed ≡ old.needed + c.length) (pending : new.pending.items ≡ old.pending.items ++ reverse p.rhs) (few : old.draws < MAX_DRAWS) where
+        (needed : new.needed ≡ old.needed + c.length) (pending : new.pending.items ≡ old.pending.items ++ reverse p.rhs) (few : old.draws < max_draws) where
       known : IsProductionFor (plain_of guide.grammar.now) x (number_of (plain_of guide.grammar.now) c) × (c.length ≡ lengths_in guide.lengths.now (rhs_of (plain_of guide.grammar.now) (number_of (plain_of guide.grammar.now) c)))
       known = (k.rows x).each c (in_row number c at).0
 
@@ -108,7 +108,7 @@ module _ (guide : Guide) where
         draws = omega (arith, draws, few);
         below = subst (All Below) (sym pending) (All-append Below old.pending.items (reverse p.rhs) h.rest.below (All-from_recursion Below (reverse p.rhs) (reversed_all Below p.rhs below_side)));
         needed = omega (arith, needed, h.rest.needed, size, reversed_lengths guide.lengths.now p.rhs, sum_by-append (length_in guide.lengths.now) old.pending.items (reverse p.rhs), ap (lengths_in guide.lengths.now) pending);
-        within = omega (arith, needed, h.room, within_room number c at, ap length written);
+        within = omega (arith, needed, h.fits_limit, within_room number c at, ap length written);
       }
 
       pub treats_by_draw : Treats guide (N x) old new
@@ -127,7 +127,7 @@ module _ (guide : Guide) where
   abbrev Comes : Writing → List ℕ → List Symbol → List ℕ → Type 0
   Comes old written pending s = Writes (plain_of guide.grammar.now) guide.seed guide.limit old.draws written pending s
 
-  pub treats_by_least : (x : ℕ) (old : Writing) (u v : List ℕ) → IsLeast (plain_of guide.grammar.now) (N x) u → MAX_DRAWS ≤ old.draws → v ≡ old.written.items ++ u → (s : List ℕ)
+  pub treats_by_least : (x : ℕ) (old : Writing) (u v : List ℕ) → IsLeast (plain_of guide.grammar.now) (N x) u → max_draws ≤ old.draws → v ≡ old.written.items ++ u → (s : List ℕ)
       → Writes (plain_of guide.grammar.now) guide.seed guide.limit old.draws v (reverse old.pending.items) s → Writes (plain_of guide.grammar.now) guide.seed guide.limit old.draws old.written.items (N x ∷ reverse old.pending.items) s
   treats_by_least x old u v least spent written s w = random.Writes.least u spent least (subst (λ t. Comes old t (reverse old.pending.items) s) written w)
 
@@ -136,7 +136,7 @@ module _ (guide : Guide) where
   treats_by_token z old v written s w = random.Writes.token (subst (λ t. Comes old t (reverse old.pending.items) s) written w)
 
 -- A draw lowers the number of rounds that are left.
-pub rounds_fall : (old new : Writing) (side : List Symbol) → old.draws < MAX_DRAWS → new.draws ≡ old.draws + 1 → new.pending.items ≡ old.pending.items ++ reverse side → length side < 2 ^ 32 → rounds_left new < rounds_left old
+pub rounds_fall : (old new : Writing) (side : List Symbol) → old.draws < max_draws → new.draws ≡ old.draws + 1 → new.pending.items ≡ old.pending.items ++ reverse side → length side < 2 ^ 32 → rounds_left new < rounds_left old
 rounds_fall old new side few draws pending short = omega (arith, few, draws, ap length pending, length-append old.pending.items (reverse side), length-reverse side, short)
 
 -- ---- Popping a symbol, and the first state of the writing.
@@ -161,7 +161,7 @@ module _ (guide : Guide) where
           within = omega (arith, needed, h.within, ap (λ w. length w.items) written);
         };
         symbol = both.1;
-        room = omega (arith, needed, h.needed, parts, h.within, ap (λ w. length w.items) written);
+        fits_limit = omega (arith, needed, h.needed, parts, h.within, ap (λ w. length w.items) written);
       }
 
   pub begun_is : IsGuide guide → 0 < length guide.grammar.now.starts → length_in guide.lengths.now (start_symbol (plain_of guide.grammar.now) 0) ≤ guide.limit → (w : Writing) → w.generator ≡ pcg32_of_seed (pcg32_seed 16 guide.seed) → w.draws ≡ 0 → w.written.items ≡ [] → w.pending.items ≡ start_symbol (plain_of guide.grammar.now) 0 ∷ []

@@ -11,7 +11,7 @@ use Rattle.mh_grammar.specs.declared.types.Symbol.TheVariants.{T, N}
 use Rattle.mh_grammar.specs.Edges.{IsRising}
 use Rattle.mh_grammar.specs.Plain.{PlainGrammar, DerivesAll, IsProductionFor, rhs_of, start_symbol}
 use Rattle.mh_sample_shortest.specs.Shortest.{IsLeast}
-use Rattle.mh_sample_random.specs.declared.writing.TheConstants.{MAX_DRAWS}
+use Rattle.mh_sample_random.specs.Limits.{max_draws}
 
 -- The generator of the seed after the given number of draws.
 unfoldable pub generator_after : ℕ → ℕ → Lcg
@@ -47,8 +47,8 @@ IsChosen g n written x rest number p = (ps : List ℕ) × AreCandidates g n writ
 pub data Writes (g : PlainGrammar) (seed n : ℕ) : ℕ → List ℕ → List Symbol → List ℕ → Type 0 where
   ended : {d : ℕ} {w : List ℕ} → Writes g seed n d w [] w
   token : {d z : ℕ} {w s : List ℕ} {rest : List Symbol} → Writes g seed n d (w ++ z ∷ []) rest s → Writes g seed n d w (T z ∷ rest) s
-  drawn : {d x : ℕ} {w s : List ℕ} {rest : List Symbol} (p : ℕ) → d < MAX_DRAWS → IsChosen g n (length w) x rest (draw seed d) p → Writes g seed n (suc d) w (rhs_of g p ++ rest) s → Writes g seed n d w (N x ∷ rest) s
-  least : {d x : ℕ} {w s : List ℕ} {rest : List Symbol} (u : List ℕ) → MAX_DRAWS ≤ d → IsLeast g (N x) u → Writes g seed n d (w ++ u) rest s → Writes g seed n d w (N x ∷ rest) s
+  drawn : {d x : ℕ} {w s : List ℕ} {rest : List Symbol} (p : ℕ) → d < max_draws → IsChosen g n (length w) x rest (draw seed d) p → Writes g seed n (suc d) w (rhs_of g p ++ rest) s → Writes g seed n d w (N x ∷ rest) s
+  least : {d x : ℕ} {w s : List ℕ} {rest : List Symbol} (u : List ℕ) → max_draws ≤ d → IsLeast g (N x) u → Writes g seed n d (w ++ u) rest s → Writes g seed n d w (N x ∷ rest) s
 
 -- The list s is the random sentence of the seed, of at most n tokens.
 abbrev pub IsRandom : PlainGrammar → ℕ → ℕ → List ℕ → Type 0

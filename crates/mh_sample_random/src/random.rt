@@ -1,12 +1,12 @@
 //! The public call: the random sentence of a seed.
 ghost use Rattle.std.specs.Prelude.{◌≡◌, ◌<◌, ◌≤◌, length as len, IfOk, IfErr};
 ghost use Rattle.mh_grammar.specs.Plain.{plain_of, start_symbol, IsInRange, IsSentence};
-ghost use Rattle.mh_sample_shortest.specs.declared.word.TheConstants.{MAX_WORD};
 ghost use Rattle.mh_sample_random.specs.Faults.{MayFail};
 ghost use Rattle.mh_sample_random.specs.Random.{IsRandom};
 ghost use Rattle.mh_sample_random.specs.code.Rows.{length_in};
 ghost use Rattle.mh_sample_random.specs.code.Writing.{IsGuide};
 ghost use Rattle.mh_sample_random.specs.declared.random.RandomFault.TheVariants.{Memory as Memory'};
+ghost use Rattle.mh_sample_shortest.specs.Limits.{max_word};
 
 use crate::rows::{least_lengths, rows_of};
 use crate::writing::{Guide, begun, write_all};
@@ -42,7 +42,7 @@ pub fn random_sentence(
 ) -> Result<TokenWord, RandomFault>
     requires range { IsInRange (plain_of grammar.now) }
     requires start { 0 < len grammar.now.starts }
-    requires few { length ≤ MAX_WORD }
+    requires few { length ≤ max_word }
     ensures random { IfOk result (λ s. IsRandom (plain_of grammar.now) seed length s) }
     ensures sentence { IfOk result (λ s. IsSentence (plain_of grammar.now) 0 s) }
     ensures within { IfOk result (λ s. len s ≤ length) }

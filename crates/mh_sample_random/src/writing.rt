@@ -6,6 +6,7 @@ ghost use Rattle.mh_grammar.specs.declared.types.Symbol.TheVariants.{T, N};
 ghost use Rattle.mh_grammar.specs.Plain.{plain_of, start_symbol};
 ghost use Rattle.mh_sample_random.specs.code.Rows.{fits, length_in};
 ghost use Rattle.mh_sample_random.specs.code.Writing.{rounds_left, Ends, IsGuide, IsPopped, IsWriting, Treats};
+ghost use Rattle.mh_sample_random.specs.Limits.{max_draws};
 
 use crate::rows::{Choice, length_of};
 use mh_grammar::{Grammar, Memory, Sequence, Symbol, Token};
@@ -99,7 +100,7 @@ fn draw_production(
 ) -> Result<(), Memory>
     requires guide { IsGuide guide.now }
     requires popped { IsPopped guide.now (N nonterminal) writing.old }
-    requires draws { writing.old.draws < MAX_DRAWS }
+    requires draws { writing.old.draws < max_draws }
     ensures keeps { OnOk result (IsWriting guide.now writing.new) }
     ensures treats { OnOk result (Treats guide.now (N nonterminal) writing.old writing.new) }
     ensures ends { OnOk result (rounds_left writing.new < rounds_left writing.old) }
@@ -118,7 +119,7 @@ fn draw_production(
 fn write_least(guide: &Guide<'_>, writing: &mut Writing, nonterminal: u16) -> Result<(), Memory>
     requires guide { IsGuide guide.now }
     requires popped { IsPopped guide.now (N nonterminal) writing.old }
-    requires draws { MAX_DRAWS ≤ writing.old.draws }
+    requires draws { max_draws ≤ writing.old.draws }
     ensures keeps { OnOk result (IsWriting guide.now writing.new) }
     ensures treats { OnOk result (Treats guide.now (N nonterminal) writing.old writing.new) }
     ensures ends { OnOk result (rounds_left writing.new ≡ rounds_left writing.old) }

@@ -6,13 +6,13 @@ use Rattle.std.proofs.lemmas.Option.{same_Some, none-some}
 use Rattle.mh_grammar.specs.declared.types.Symbol.TheVariants.{N}
 use Rattle.mh_grammar.specs.declared.types.Production.{Production}
 use Rattle.mh_grammar.specs.Plain.{PlainGrammar, Derives}
-use Rattle.mh_sample_shortest.specs.declared.word.TheConstants.{MAX_WORD}
+use Rattle.mh_sample_shortest.specs.Limits.{max_word}
 use Rattle.mh_sample_shortest.specs.Shortest.{ShortLex}
 use Rattle.mh_sample_shortest.specs.code.Chains.{chain, comes_before, IsWithin, AreDerived, Closes}
 use Rattle.mh_sample_shortest.proofs.ShortLex.{lex_less-false}
 
 -- Setting one word that its nonterminal derives keeps all words derived.
-pub derived_set : (g : PlainGrammar) (words : List (Option (List ℕ))) (n : ℕ) (w : List ℕ) → AreDerived g words → n < length words → Derives g (N n) w → length w ≤ MAX_WORD → AreDerived g (set words n (Some w))
+pub derived_set : (g : PlainGrammar) (words : List (Option (List ℕ))) (n : ℕ) (w : List ℕ) → AreDerived g words → n < length words → Derives g (N n) w → length w ≤ max_word → AreDerived g (set words n (Some w))
 derived_set g words n w d l t few = record {
   derived = λ m v e. elim (cases_eq m n) [
     | inl same ↦ (let at : Some w ≡ Some v = sym (get_or-set_same words n (Some w) None l) ∙ ap (λ k. get_or (set words n (Some w)) k None) (sym same) ∙ e in
@@ -47,8 +47,8 @@ pub closes_by_none : (words : List (Option (List ℕ))) (p : Production) → cha
 closes_by_none words p e v at few = absurd (none-some v (sym e ∙ at))
 
 -- A production is closed if the word of its right side is longer than the limit.
-pub closes_by_length : (words : List (Option (List ℕ))) (p : Production) (present : Option (List ℕ)) → get_or words p.lhs None ≡ present → (IsWithin (option_map_or length present MAX_WORD) (chain words p.rhs) → ⊥) → Closes words p
-closes_by_length words p None is h v at few = absurd (h (subst (IsWithin MAX_WORD) (sym at) few))
+pub closes_by_length : (words : List (Option (List ℕ))) (p : Production) (present : Option (List ℕ)) → get_or words p.lhs None ≡ present → (IsWithin (option_map_or length present max_word) (chain words p.rhs) → ⊥) → Closes words p
+closes_by_length words p None is h v at few = absurd (h (subst (IsWithin max_word) (sym at) few))
 closes_by_length words p (Some u) is h v at few = (
   u,
   is,
@@ -58,10 +58,10 @@ closes_by_length words p (Some u) is h v at few = (
   ],
 )
 
--- A word within the limit for the present word has at most `MAX_WORD` tokens.
-pub within_few : (words : List (Option (List ℕ))) (g : PlainGrammar) (n : ℕ) (o : Option (List ℕ)) (w : List ℕ) → AreDerived g words → o ≡ Some w → IsWithin (option_map_or length (get_or words n None) MAX_WORD) o → length w ≤ MAX_WORD
-within_few words g n o w d e h = go (get_or words n None) refl (subst (IsWithin (option_map_or length (get_or words n None) MAX_WORD)) e h)
+-- A word within the limit for the present word has at most `max_word` tokens.
+pub within_few : (words : List (Option (List ℕ))) (g : PlainGrammar) (n : ℕ) (o : Option (List ℕ)) (w : List ℕ) → AreDerived g words → o ≡ Some w → IsWithin (option_map_or length (get_or words n None) max_word) o → length w ≤ max_word
+within_few words g n o w d e h = go (get_or words n None) refl (subst (IsWithin (option_map_or length (get_or words n None) max_word)) e h)
   where
-    go : (present : Option (List ℕ)) → get_or words n None ≡ present → length w ≤ option_map_or length (get_or words n None) MAX_WORD → length w ≤ MAX_WORD
+    go : (present : Option (List ℕ)) → get_or words n None ≡ present → length w ≤ option_map_or length (get_or words n None) max_word → length w ≤ max_word
     go None is l = let m = l in (let k = rw is at m in k)
     go (Some u) is l = let m = l in (let k : length w ≤ length u = rw is at m in omega (arith, k, d.short n u is))

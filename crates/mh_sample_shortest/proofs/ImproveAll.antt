@@ -8,19 +8,19 @@ use Rattle.mh_grammar.specs.Plain.{PlainGrammar}
 use Rattle.mh_sample_shortest.specs.code.Chains.{rank_sum, Closes, Improves}
 
 pub improves_nothing : (g : PlainGrammar) (words : List (Option (List ℕ))) → Improves g words words false
-improves_nothing g words = record { sound = λ d. d; same = λ e. refl; falls = λ e d. absurd (both_ways false refl e) }
+improves_nothing g words = record { sound = λ d. d; same = λ e. refl; decreases = λ e d. absurd (both_ways false refl e) }
 
 pub improves_more : (g : PlainGrammar) (old mid new : List (Option (List ℕ))) (first second : Bool) → Improves g old mid first → Improves g mid new second → Improves g old new (first || second)
 improves_more g old mid new first second a b = record {
   sound = λ d. b.sound (a.sound d);
   same = λ e. let h = or_parts first second e in b.same h.1 ∙ a.same h.0;
-  falls = λ e d. elim (cases_Bool second) [
+  decreases = λ e d. elim (cases_Bool second) [
     | inl late ↦ elim (cases_Bool first) [
-      | inl too ↦ omega (arith, b.falls late (a.sound d), a.falls too d)
-      | inr first_none ↦ (let l = b.falls late (a.sound d) in omega (arith, l, ap (rank_sum (2 ^ 16)) (a.same first_none)))
+      | inl too ↦ omega (arith, b.decreases late (a.sound d), a.decreases too d)
+      | inr first_none ↦ (let l = b.decreases late (a.sound d) in omega (arith, l, ap (rank_sum (2 ^ 16)) (a.same first_none)))
     ]
     | inr no_more ↦ elim (or_cases first second e) [
-      | inl too ↦ (let l = a.falls too d in omega (arith, l, ap (rank_sum (2 ^ 16)) (b.same no_more)))
+      | inl too ↦ (let l = a.decreases too d in omega (arith, l, ap (rank_sum (2 ^ 16)) (b.same no_more)))
       | inr late ↦ absurd (both_ways second no_more late)
     ]
   ];

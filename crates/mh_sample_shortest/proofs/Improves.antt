@@ -11,7 +11,7 @@ use Rattle.mh_grammar.specs.declared.types.Production.{Production}
 use Rattle.mh_grammar.specs.Plain.{PlainGrammar, IsInRange, IsProductionBelow, IsProductive}
 use Rattle.mh_grammar.proofs.Lists.{contains_at, get_within, recursion-weaker}
 use Rattle.mh_sample_shortest.specs.declared.word.Shortest.{Shortest}
-use Rattle.mh_sample_shortest.specs.declared.word.TheConstants.{MAX_WORD}
+use Rattle.mh_sample_shortest.specs.Limits.{max_word}
 use Rattle.mh_sample_shortest.specs.Shortest.{IsShortest}
 use Rattle.mh_sample_shortest.specs.code.Chains.{answer_of, chain, comes_before, AreAnswers, AreClosed, AreDerived, Improves, IsWithin}
 use Rattle.mh_sample_shortest.proofs.RhsInRange.{tokens_below}
@@ -25,9 +25,9 @@ read_word words i n r same l e = e ∙ get_or_default words i r None (omega (ari
 
 -- A production whose right side has an earlier word for its left side improves the words.
 module _ (g : PlainGrammar) (r : IsInRange g) (words : List (Option (List ℕ))) (k : ℕ) (p : Production) (at : slice_get g.productions k ≡ Some p) (w : List ℕ)
-    (below : p.lhs < length words) (is : chain words p.rhs ≡ Some w) (within : IsWithin (option_map_or length (get_or words p.lhs None) MAX_WORD) (chain words p.rhs))
+    (below : p.lhs < length words) (is : chain words p.rhs ≡ Some w) (within : IsWithin (option_map_or length (get_or words p.lhs None) max_word) (chain words p.rhs))
     (before : comes_before w (get_or words p.lhs None) ≡ true) where
-  few : AreDerived g words → length w ≤ MAX_WORD
+  few : AreDerived g words → length w ≤ max_word
   few d = within_few words g p.lhs (chain words p.rhs) w d is within
 
   tokens : AreDerived g words → AllByRecursion (λ z. z < 2 ^ 16) w
@@ -39,7 +39,7 @@ module _ (g : PlainGrammar) (r : IsInRange g) (words : List (Option (List ℕ)))
   improved_at = record {
     sound = λ d. derived_set g words p.lhs w d below (production_derived g words d k p at w is) (few d);
     same = λ e. absurd (both_ways true e refl);
-    falls = λ e d. sum_lower (2 ^ 16) (omega arith) words p.lhs w below (rank_lower (2 ^ 16) (omega arith) w (get_or words p.lhs None) before (few d) (tokens d));
+    decreases = λ e d. sum_lower (2 ^ 16) (omega arith) words p.lhs w below (rank_lower (2 ^ 16) (omega arith) w (get_or words p.lhs None) before (few d) (tokens d));
   }
 
   pub improved : (i : ℕ) → i ≡ p.lhs → Improves g words (set words i (Some w)) true

@@ -9,7 +9,7 @@ use Rattle.mh_grammar.specs.declared.types.Production.{Production}
 use Rattle.mh_grammar.specs.Derivations as trees
 use Rattle.mh_grammar.specs.Plain.{PlainGrammar, IsToken, Produces, Derives, DerivesAll}
 use Rattle.mh_grammar.proofs.ProductionNumbers.{listed_from_for, produces_at}
-use Rattle.mh_sample_shortest.specs.declared.word.TheConstants.{MAX_WORD}
+use Rattle.mh_sample_shortest.specs.Limits.{max_word}
 use Rattle.mh_sample_shortest.specs.Shortest.{ShortLex, IsLeast}
 use Rattle.mh_sample_shortest.specs.code.Chains.{word_of, joined, chain, AreDerived, AreClosed}
 use Rattle.mh_sample_shortest.proofs.ShortLex.{shortlex_same, shortlex_length, shortlex_after, shortlex_append}
@@ -28,21 +28,21 @@ module _ (g : PlainGrammar) (words : List (Option (List ℕ))) (c : AreClosed g.
   leaf_found (T b) a e = (b ∷ [], refl, subst (λ z. ShortLex (b ∷ []) (z ∷ [])) e (shortlex_same (b ∷ [])))
   leaf_found (N n) a e = absurd e
 
-  node_found : (X : Symbol) (rhs : List Symbol) (w : List ℕ) → Produces g X rhs → Found (chain words rhs) w → length w ≤ MAX_WORD → Found (word_of words X) w
+  node_found : (X : Symbol) (rhs : List Symbol) (w : List ℕ) → Produces g X rhs → Found (chain words rhs) w → length w ≤ max_word → Found (word_of words X) w
   node_found (T a) rhs w p h l = absurd p
   node_found (N n) rhs w p h l =
       let at = listed_from_for g n p.0 p.1 in
       let same : at.production.rhs ≡ rhs = sym at.rhs ∙ p.2 in
-      let few : length h.0 ≤ MAX_WORD = omega (arith, l, shortlex_length h.0 w h.2) in
+      let few : length h.0 ≤ max_word = omega (arith, l, shortlex_length h.0 w h.2) in
       let found = c.closed at.place at.production at.at h.0 (ap (chain words) same ∙ h.1) few in
       (found.0, ap (λ m. get_or words m None) (sym at.lhs) ∙ found.1, shortlex_after found.0 h.0 w found.2 h.2)
 
   mutual
-    pub found : (X : Symbol) (w : List ℕ) → Derives g X w → length w ≤ MAX_WORD → Found (word_of words X) w
+    pub found : (X : Symbol) (w : List ℕ) → Derives g X w → length w ≤ max_word → Found (word_of words X) w
     found X w (trees.Derivation.leaf {a = a} t) l = leaf_found X a t
     found X w (trees.Derivation.node p f) l = node_found X _ w p (all_found _ w f l) l
 
-    pub all_found : (Xs : List Symbol) (w : List ℕ) → DerivesAll g Xs w → length w ≤ MAX_WORD → Found (chain words Xs) w
+    pub all_found : (Xs : List Symbol) (w : List ℕ) → DerivesAll g Xs w → length w ≤ max_word → Found (chain words Xs) w
     all_found Xs w trees.Derivations.none l = ([], refl, shortlex_same [])
     all_found Xs w (trees.Derivations.more {u = u} {v = v} j t f) l =
         let both : length w ≡ length (u ++ v) = ap length j in
@@ -71,15 +71,15 @@ production_derived g words d k p at w e = trees.Derivation.node (produces_at g k
 pub least_found : (g : PlainGrammar) (words : List (Option (List ℕ))) → AreDerived g words → AreClosed g.productions words → (n : ℕ) (w : List ℕ) → get_or words n None ≡ Some w → IsLeast g (N n) w
 least_found g words d c n w e = record {
   derived = d.derived n w e;
-  first = λ v t. elim (cases_lt MAX_WORD (length v)) [
+  first = λ v t. elim (cases_lt max_word (length v)) [
     | inl l ↦ inl (omega (arith, l, d.short n w e))
     | inr le ↦ (let h = found g words c (N n) v t le in subst (λ u. ShortLex u v) (same_Some h.0 w (sym h.1 ∙ e)) h.2)
   ];
 }
 
 -- If a nonterminal has no word at the end, each of its words is too long.
-pub none_found : (g : PlainGrammar) (words : List (Option (List ℕ))) → AreClosed g.productions words → (n : ℕ) → get_or words n None ≡ None → (v : List ℕ) → Derives g (N n) v → MAX_WORD < length v
-none_found g words c n e v t = elim (cases_lt MAX_WORD (length v)) [
+pub none_found : (g : PlainGrammar) (words : List (Option (List ℕ))) → AreClosed g.productions words → (n : ℕ) → get_or words n None ≡ None → (v : List ℕ) → Derives g (N n) v → max_word < length v
+none_found g words c n e v t = elim (cases_lt max_word (length v)) [
   | inl l ↦ l
   | inr le ↦ (let h = found g words c (N n) v t le in absurd (none-some h.0 (sym e ∙ h.1)))
 ]

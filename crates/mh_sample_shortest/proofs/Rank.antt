@@ -4,22 +4,23 @@ use Rattle.std.specs.List.{AllByRecursion}
 use Rattle.std.proofs.Math.Nat.{pow-succ', pow-zero, pow-le-pow_right, mul-le-mul_right}
 use Rattle.std.proofs.lemmas.Bool.{cases_eq, eq-eqb, ne_eqb, ltb-true, both_ways}
 use Rattle.std.proofs.lemmas.List.Sums.{sum_by-set}
-use Rattle.mh_sample_shortest.specs.declared.word.TheConstants.{MAX_WORD}
+use Rattle.mh_sample_shortest.specs.Limits.{max_word}
 use Rattle.mh_sample_shortest.specs.code.Chains.{lex_less, comes_before, digits, rank, rank_sum}
 
 module _ (base : ℕ) (some : 2 ≤ base) where
-  abbrev pub AreBelow : List ℕ → Type 0
-  AreBelow w = AllByRecursion (λ z. z < base) w
+  -- All numbers of the word are digits in this base.
+  abbrev pub AreDigits : List ℕ → Type 0
+  AreDigits w = AllByRecursion (λ z. z < base) w
 
   -- A lower leading digit makes the whole number lower.
   higher : (x y p d : ℕ) → x < y → d < p → x * p + d < y * p
   higher x y p d l m = let h = mul-le-mul_right {m = suc x} {n = y} p l in omega (arith, h, m)
 
-  digits_below : (w : List ℕ) → AreBelow w → digits base w < base ^ length w
+  digits_below : (w : List ℕ) → AreDigits w → digits base w < base ^ length w
   digits_below [] h = omega (arith, pow-zero base)
   digits_below (x ∷ w) h = let e = higher x base (base ^ length w) (digits base w) h.0 (digits_below w h.1) in omega (arith, e, pow-succ' base (length w))
 
-  digits_lower : (u v : List ℕ) → length u ≡ length v → lex_less u v ≡ true → AreBelow u → digits base u < digits base v
+  digits_lower : (u v : List ℕ) → length u ≡ length v → lex_less u v ≡ true → AreDigits u → digits base u < digits base v
   digits_lower [] v l e h = absurd (both_ways false refl e)
   digits_lower (x ∷ u) [] l e h = absurd (both_ways false refl e)
   digits_lower (x ∷ u) (y ∷ v) l e h =
@@ -43,9 +44,9 @@ module _ (base : ℕ) (some : 2 ≤ base) where
       let more = pow-le-pow_right {n = base} (omega (arith, some)) {i = suc k} {j = n} l in
       omega (arith, twice, more, h, pow-succ' base k)
 
-  pub rank_lower : (u : List ℕ) (o : Option (List ℕ)) → comes_before u o ≡ true → length u ≤ MAX_WORD → AreBelow u → rank base (Some u) < rank base o
+  pub rank_lower : (u : List ℕ) (o : Option (List ℕ)) → comes_before u o ≡ true → length u ≤ max_word → AreDigits u → rank base (Some u) < rank base o
   unfolding rank
-  rank_lower u None e l h = below_power (length u) (MAX_WORD + 1) (digits base u) (omega (arith, l)) (digits_below u h)
+  rank_lower u None e l h = below_power (length u) (max_word + 1) (digits base u) (omega (arith, l)) (digits_below u h)
   rank_lower u (Some v) e l h = elim (cases_eq (length u) (length v)) [
     | inl same ↦ (let f = e in
         let rest = digits_lower u v same (let g = rw (eq-eqb (length u) (length v) same) at f in g) h in

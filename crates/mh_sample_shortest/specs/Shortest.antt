@@ -7,7 +7,7 @@ use Rattle.mh_grammar.specs.Plain.{PlainGrammar, Derives, IsProductive}
 use Rattle.mh_grammar.specs.WordOrder.{LexLe}
 use Rattle.mh_sample_shortest.specs.declared.word.Shortest.{Shortest}
 use Rattle.mh_sample_shortest.specs.declared.word.Shortest.TheVariants.{None, Longer, Word}
-use Rattle.mh_sample_shortest.specs.declared.word.TheConstants.{MAX_WORD}
+use Rattle.mh_sample_shortest.specs.Limits.{max_word}
 
 -- The word u is v, or shorter than v, or as long as v with the lower number at the first index where they differ.
 abbrev pub ShortLex : List ℕ → List ℕ → Type 0
@@ -19,8 +19,8 @@ pub record IsLeast (g : PlainGrammar) (X : Symbol) (w : List ℕ) : Type 0 where
   pub first : (v : List ℕ) → Derives g X v → ShortLex w v
 
 -- The answer for a nonterminal: `None` if the nonterminal derives no word, `Longer` if each of its words has more than
--- `MAX_WORD` tokens, and its least word otherwise.
+-- `max_word` tokens, and its least word otherwise.
 abbrev pub IsShortest : PlainGrammar → ℕ → Shortest → Type 0
 IsShortest g n None = (w : List ℕ) → Derives g (N n) w → ⊥
-IsShortest g n Longer = IsProductive g n × ((w : List ℕ) → Derives g (N n) w → MAX_WORD < length w)
-IsShortest g n (Word w) = IsLeast g (N n) w × (length w ≤ MAX_WORD)
+IsShortest g n Longer = IsProductive g n × ((w : List ℕ) → Derives g (N n) w → max_word < length w)
+IsShortest g n (Word w) = IsLeast g (N n) w × (length w ≤ max_word)

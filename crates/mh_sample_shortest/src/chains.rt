@@ -3,7 +3,7 @@ ghost use Rattle.std.specs.Prelude.{◌≡◌, ◌^◌, ◌<◌, ◌↔◌, Some
 ghost use Rattle.std.specs.Option.{option_map};
 ghost use Rattle.std.specs.List.{All};
 ghost use Rattle.mh_grammar.specs.Plain.{IsSymbolBelow};
-ghost use Rattle.mh_sample_shortest.specs.code.Chains.{chain, comes_before as comes_before_of, lex_less, word_of, IsPut, IsWithin};
+ghost use Rattle.mh_sample_shortest.specs.code.Chains.{chain, word_of, IsPut, IsWithin};
 
 use crate::word::TokenWord;
 use mh_grammar::{Memory, Symbol, Token};
@@ -78,33 +78,4 @@ fn put_word(
         },
     }
     Ok(true)
-}
-
-/// Returns true if the word has the lower number at the first index where it differs from another word of its length.
-fn is_lower(word: &[Token], other: &[Token]) -> bool
-    requires { length word.now ≡ length other.now }
-    ensures { result ≡ lex_less word.now other.now }
-{
-    for (place, token) in word.iter().enumerate() {
-        if *token != other[place] {
-            return *token < other[place];
-        }
-    }
-    false
-}
-
-/// Returns true if the word comes before the other word, or there is no other word.
-pub fn comes_before(word: &TokenWord, other: &Option<TokenWord>) -> bool
-    ensures { result ≡ comes_before_of word.now other.now }
-{
-    match other {
-        None => true,
-        Some(other) => {
-            if word.len() == other.len() {
-                is_lower(word.as_slice(), other.as_slice())
-            } else {
-                word.len() < other.len()
-            }
-        }
-    }
 }

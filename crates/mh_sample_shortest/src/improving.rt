@@ -5,7 +5,8 @@ ghost use Rattle.mh_sample_shortest.specs.declared.word.TheConstants.{MAX_WORD a
 ghost use Rattle.mh_grammar.specs.Plain.{PlainGrammar, plain_of, IsInRange, IsProductionBelow};
 ghost use Rattle.mh_sample_shortest.specs.code.Chains.{AreClosed, Closes, Improves};
 
-use crate::chains::{comes_before, fits, spelled};
+use crate::chains::{fits, spelled};
+use crate::order::comes_before;
 use crate::word::{MAX_WORD, TokenWord};
 use mh_grammar::{Grammar, Memory, Production};
 use std::alloc::Global;

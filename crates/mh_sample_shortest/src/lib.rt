@@ -4,6 +4,7 @@
 mod chains;
 mod improving;
 mod offers;
+mod order;
 mod shortest;
 mod word;
 

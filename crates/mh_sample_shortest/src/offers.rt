@@ -12,20 +12,12 @@ ghost use Rattle.mh_sample_shortest.specs.code.Offers.{load, KeepsDerived};
 
 use crate::chains::{fits, spelled};
 use crate::improving::improve;
+use crate::order::Offer;
 use crate::word::{MAX_WORD, TokenWord};
-use mh_grammar::{Grammar, Memory, Production, Symbol, Token};
+use mh_grammar::{Grammar, Memory, Production, Symbol};
 use std::alloc::Global;
 use std::cmp::Reverse;
 use std::collections::BinaryHeap;
-
-/// A word that a production offers to its left side. The order of offers is the order of their words: by length, then
-/// by tokens.
-#[derive(PartialEq, Eq, PartialOrd, Ord, Drop)]
-pub struct Offer {
-    length: usize,
-    tokens: Vec<Token>,
-    place: usize,
-}
 
 /// The worklist: what the productions still lack, and their offers.
 #[derive(Drop)]

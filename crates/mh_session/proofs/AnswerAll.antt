@@ -18,7 +18,7 @@ use Rattle.mh_session.specs.Served.{IsServed, IsAnswerOfBranches}
 -- commands.
 pub record AnswersSoFar (t : TableData) (commands : List Command) (i : ℕ) (session : SessionState) (so_far : List Answer) : Type 0 where
   pub branches : Branches
-  pub stands : Represents session branches
+  pub represented : Represents session branches
   pub table : session.table ≡ t
   pub rest : (more : List Answer) → AreAnswers t branches (drop i commands) more → AreAnswers t [] commands (so_far ++ more)
 
@@ -26,31 +26,31 @@ pub record AnswersSoFar (t : TableData) (commands : List Command) (i : ℕ) (ses
 pub answers_begin : (commands : List Command) (session : SessionState) (so_far : List Answer) → session.held ≡ [] → so_far ≡ [] → AnswersSoFar session.table commands 0 session so_far
 answers_begin commands session so_far none empty = record {
   branches = [];
-  stands = λ name. subst (λ (held : List (Text × Position)). FitsBranch session.table None (at_name name held)) (sym none) tt;
+  represented = λ name. subst (λ (held : List (Text × Position)). FitsBranch session.table None (at_name name held)) (sym none) tt;
   table = refl;
   rest = λ more h. rw empty h;
 }
 
 -- If no command remains, the answers so far are answers to all commands.
 pub answers_whole : (t : TableData) (commands : List Command) (i : ℕ) (session : SessionState) (so_far : List Answer) → AnswersSoFar t commands i session so_far → length commands ≤ i → AreAnswers t [] commands so_far
-answers_whole t commands i session so_far told le =
-    subst (AreAnswers t [] commands) (append-nil so_far) (told.rest [] (subst (λ (l : List Command). AreAnswers t told.branches l []) (sym (drop_of_length-le commands le)) refl))
+answers_whole t commands i session so_far before le =
+    subst (AreAnswers t [] commands) (append-nil so_far) (before.rest [] (subst (λ (l : List Command). AreAnswers t before.branches l []) (sym (drop_of_length-le commands le)) refl))
 
 -- The facts after a command for which memory did not run out.
 pub record AnsweredFacts (old : SessionState) (command : Command) (new : SessionState) (r : Answer) (bs : Branches) : Type 0 where
   pub table_stays : new.table ≡ old.table
-  pub theirs : IsAnswer old.table bs command r
-  pub stands_for : Represents new (branches_after_answer r bs command)
+  pub answer_is : IsAnswer old.table bs command r
+  pub represented : Represents new (branches_after_answer r bs command)
 
 refused_goes : (old new : SessionState) (command : Command) (f : SessionFault) (bs : Branches) → new ≡ old → IsAnswerOfBranches old command (Err f) → Represents old bs → AnsweredFacts old command new (Err f) bs
 refused_goes old new command f bs same theirs all = record {
   table_stays = ap (λ (m : SessionState). m.table) same;
-  theirs = theirs bs all;
-  stands_for = subst (λ (m : SessionState). Represents m bs) (sym same) all;
+  answer_is = theirs bs all;
+  represented = subst (λ (m : SessionState). Represents m bs) (sym same) all;
 }
 
 pub answered_facts : (old new : SessionState) (command : Command) (r : Answer) (bs : Branches) → IsServed old command new r → (r ≡ Err faults.Memory → ⊥) → Represents old bs → AnsweredFacts old command new r bs
-answered_facts old new command (Ok reply) bs s free all = record { table_stays = s.0; theirs = s.1 bs all; stands_for = s.2 bs all }
+answered_facts old new command (Ok reply) bs s free all = record { table_stays = s.0; answer_is = s.1 bs all; represented = s.2 bs all }
 answered_facts old new command (Err faults.UnknownName) bs s free all = refused_goes old new command faults.UnknownName bs s.0 s.1 all
 answered_facts old new command (Err faults.NameTaken) bs s free all = refused_goes old new command faults.NameTaken bs s.0 s.1 all
 answered_facts old new command (Err (faults.WrongPhase phase)) bs s free all = refused_goes old new command (faults.WrongPhase phase) bs s.0 s.1 all
@@ -59,15 +59,15 @@ answered_facts old new command (Err faults.Memory) bs s free all = absurd (free 
 
 pub answers_more : (t : TableData) (commands : List Command) (i : ℕ) (old new : SessionState) (so_far more : List Answer) (command : Command) (r : Answer) → AnswersSoFar t commands i old so_far → i < length commands → command ≡ get_or commands i command → IsServed old command new r
     → (r ≡ Err faults.Memory → ⊥) → more ≡ so_far ++ r ∷ [] → AnswersSoFar t commands (i + 1) new more
-answers_more t commands i old new so_far more command r told lt is s free e =
-    let g = answered_facts old new command r told.branches s free told.stands in
-    let theirs : IsAnswer t told.branches command r = subst (λ (u : TableData). IsAnswer u told.branches command r) told.table g.theirs in
+answers_more t commands i old new so_far more command r before lt is s free e =
+    let g = answered_facts old new command r before.branches s free before.represented in
+    let theirs : IsAnswer t before.branches command r = subst (λ (u : TableData). IsAnswer u before.branches command r) before.table g.answer_is in
     let left : drop i commands ≡ command ∷ drop (i + 1) commands = drop_more commands i command lt ∙ ap (λ (c : Command). c ∷ drop (i + 1) commands) (sym is) in
     record {
-      branches = branches_after_answer r told.branches command;
-      stands = g.stands_for;
-      table = g.table_stays ∙ told.table;
+      branches = branches_after_answer r before.branches command;
+      represented = g.represented;
+      table = g.table_stays ∙ before.table;
       rest = λ last h.
-          let all = told.rest (r ∷ last) (subst (λ (l : List Command). AreAnswers t told.branches l (r ∷ last)) (sym left) (theirs, h)) in
+          let all = before.rest (r ∷ last) (subst (λ (l : List Command). AreAnswers t before.branches l (r ∷ last)) (sym left) (theirs, h)) in
           subst (AreAnswers t [] commands) (sym (ap (λ (l : List Answer). l ++ last) e ∙ append_assoc so_far (r ∷ []) last)) all;
     }

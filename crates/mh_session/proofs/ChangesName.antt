@@ -22,8 +22,8 @@ pub of_table : (t : TableData) (held : List (Text × Position)) (name : Text) (o
 of_table t held name None e all = tt
 of_table t held name (Some c) e all = all name c.now (sym e)
 
--- If a name gets a new position in the session and the branch of this position in the branches, the session still
--- represents the branches.
+-- If a name gets a new position in the session, and gets in the branches a branch with this position, then the session
+-- still represents the branches.
 pub puts_fit : (old new : SessionState) (bs : Branches) (name : Text) (b : Branch) (c : Position) → Represents old bs → ChangesName old name (Some c) new → HasPosition b c → c.table ≡ old.table → Represents new (with_name name b bs)
 puts_fit old new bs name b c all put at is = λ q. elim (same_cases name q) [
   | inl e ↦ (
@@ -64,14 +64,15 @@ pub free_name_has_no_branch : (m : SessionState) (bs : Branches) (name : Text) �
 free_name_has_no_branch m bs name all e = no_branch m.table (at_name name bs) (subst (λ (o : Option Position). FitsBranch m.table (at_name name bs) o) e (all name))
 
 -- If one name gets a position of the table, all positions are still of the table.
-pub puts_of : (t : TableData) (old new : List (Text × Position)) (name : Text) (c : Position) → HaveTable t old → ((q : Text) → at_name q new ≡ update same (λ k. at_name k old) name (Some c) q) → c.table ≡ t → HaveTable t new
-puts_of t old new name c all put is = λ q d e. elim (same_cases name q) [
+pub put_keeps_table : (t : TableData) (old new : List (Text × Position)) (name : Text) (c : Position) → HaveTable t old → ((q : Text) → at_name q new ≡ update same (λ k. at_name k old) name (Some c) q) → c.table ≡ t → HaveTable t new
+put_keeps_table t old new name c all put is = λ q d e. elim (same_cases name q) [
   | inl s ↦ (let its : Some d ≡ Some c = sym e ∙ put q ∙ cond-true (same name q) (Some c) (at_name q old) (ap (same name) (sym s) ∙ same_refl name) in let same_one : d ≡ c = cc in ap (λ (p : Position). p.table) same_one ∙ is)
   | inr d' ↦ all q d (sym (cond-false (same name q) (Some c) (at_name q old) d'.0) ∙ sym (put q) ∙ e)
 ]
 
-pub removal_of : (t : TableData) (old new : List (Text × Position)) (name : Text) → HaveTable t old → ((q : Text) → at_name q new ≡ update same (λ k. at_name k old) name None q) → HaveTable t new
-removal_of t old new name all put = λ q d e. elim (same_cases name q) [
+-- If one name loses its position, all positions are still of the table.
+pub removal_keeps_table : (t : TableData) (old new : List (Text × Position)) (name : Text) → HaveTable t old → ((q : Text) → at_name q new ≡ update same (λ k. at_name k old) name None q) → HaveTable t new
+removal_keeps_table t old new name all put = λ q d e. elim (same_cases name q) [
   | inl s ↦ (let its : Some d ≡ None = sym e ∙ put q ∙ cond-true (same name q) None (at_name q old) (ap (same name) (sym s) ∙ same_refl name) in cc)
   | inr d' ↦ all q d (sym (cond-false (same name q) None (at_name q old) d'.0) ∙ sym (put q) ∙ e)
 ]

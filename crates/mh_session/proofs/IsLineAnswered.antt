@@ -31,13 +31,13 @@ served_some old new command (Err faults.TooDeep) bs s all = (bs, subst (λ (m : 
 served_some old new command (Err faults.Memory) bs s all = (bs, subst (λ (m : SessionState). Represents m bs) (sym s) all)
 
 pub meaning_answered : (g : Grammar) (old new : SessionState) (command : Command) (r : Answer) (text : Result (Vec ℕ Global) Memory) → IsServed old command new r → IfOk text (λ v. IsAnswerText g (replied_name command) r v.items) → IsMeaningAnswered g (Asks command) old new text
-meaning_answered g old new command r (Ok v) s told = λ bs all. let w = answered_facts old new command r bs s told.1 all in (branches_after_answer r bs command, w.stands_for, (r, w.theirs, told.0, refl))
-meaning_answered g old new command r (Err e) s told = λ bs all. let after = served_some old new command r bs s all in (after.0, after.1, tt)
+meaning_answered g old new command r (Ok v) s answered = λ bs all. let w = answered_facts old new command r bs s answered.1 all in (branches_after_answer r bs command, w.represented, (r, w.answer_is, answered.0, refl))
+meaning_answered g old new command r (Err e) s answered = λ bs all. let after = served_some old new command r bs s all in (after.0, after.1, tt)
 
 -- The answer to the meaning of a line is the answer to the line.
 pub line_answered : (g : Grammar) (line : Text) (old new : SessionState) (said : LineMeaning) (r : Result (Vec ℕ Global) Memory) → LineMeans (vocabulary_of g) line said → IsMeaningAnswered g said old new r → IsLineAnswered g line old new r
-line_answered g line old new said (Ok v) says told = λ bs all. let t = told bs all in (t.0, t.1, inl (said, says, t.2))
-line_answered g line old new said (Err e) says told = λ bs all. let t = told bs all in (t.0, t.1, tt)
+line_answered g line old new said (Ok v) says answered = λ bs all. let t = answered bs all in (t.0, t.1, inl (said, says, t.2))
+line_answered g line old new said (Err e) says answered = λ bs all. let t = answered bs all in (t.0, t.1, tt)
 
 -- A line that is no command changes nothing, and its answer is the text of the fault.
 module _ (g : Grammar) (line : Text) (old : SessionState) where

@@ -44,36 +44,36 @@ phase_is t b c at e = ap phase_of (position_is t b c at e)
 -- The answer to the command is the phase of c, and after the command the name has a branch with the position c.
 pub record GivesPosition (old : SessionState) (command : Command) (name : Text) (c : Position) (bs : Branches) : Type 0 where
   pub branch : Branch
-  pub stands : HasPosition branch c
-  pub theirs : IsAnswer old.table bs command (Ok (replies.Phase (phase_of c)))
+  pub has_position : HasPosition branch c
+  pub answer_is : IsAnswer old.table bs command (Ok (replies.Phase (phase_of c)))
   pub change : branches_after_command bs command ≡ with_name name branch bs
 
 put_case : (old new : SessionState) (command : Command) (name : Text) (c : Position) (r : Answer) → ((bs : Branches) → Represents old bs → GivesPosition old command name c bs) → c.table ≡ old.table → IfOk r (λ x. x ≡ replies.Phase (phase_of c)) → IfErr r (λ f. f ≡ faults.Memory)
     → OnOk r (ChangesName old name (Some c) new) → OnErr r (new ≡ old) → IsServed old command new r
-put_case old new command name c (Ok reply) gives is told fault put same = (
+put_case old new command name c (Ok reply) gives is reply_is fault put same = (
   put.table,
-  λ bs all. let g = gives bs all in subst (λ (x : Reply). IsAnswer old.table bs command (Ok x)) (sym told) g.theirs,
-  λ bs all. let g = gives bs all in subst (Represents new) (sym g.change) (puts_fit old new bs name g.branch c all put g.stands is),
+  λ bs all. let g = gives bs all in subst (λ (x : Reply). IsAnswer old.table bs command (Ok x)) (sym reply_is) g.answer_is,
+  λ bs all. let g = gives bs all in subst (Represents new) (sym g.change) (puts_fit old new bs name g.branch c all put g.has_position is),
 )
-put_case old new command name c (Err fault) gives is told f put same = subst (λ (x : SessionFault). IsServed old command new (Err x)) (sym f) same
+put_case old new command name c (Err fault) gives is reply_is f put same = subst (λ (x : SessionFault). IsServed old command new (Err x)) (sym f) same
 
--- The contract of `put` for this result.
+-- The contract of `name_changed` for this result.
 pub record DidPut (old new : SessionState) (name : Text) (c : Position) (r : Answer) : Type 0 where
   pub reply : IfOk r (λ x. x ≡ replies.Phase (phase_of c))
   pub fault : IfErr r (λ f. f ≡ faults.Memory)
-  pub put : OnOk r (ChangesName old name (Some c) new)
+  pub name_changed : OnOk r (ChangesName old name (Some c) new)
   pub same : OnErr r (new ≡ old)
 
 put_served : (old new : SessionState) (command : Command) (name : Text) (c : Position) (r : Answer) → ((bs : Branches) → Represents old bs → GivesPosition old command name c bs) → c.table ≡ old.table → DidPut old new name c r → IsServed old command new r
-put_served old new command name c r gives is did = put_case old new command name c r gives is did.reply did.fault did.put did.same
+put_served old new command name c r gives is did = put_case old new command name c r gives is did.reply did.fault did.name_changed did.same
 
 pub begin_served : (old new : SessionState) (name : Text) (start : ℕ) (c : Position) (r : Answer) → at_name name old.held ≡ None → c ≡ initial_position old.table start [] → DidPut old new name c r → IsServed old (commands.Begin name start) new r
 begin_served old new name start c r free is did =
     put_served old new (commands.Begin name start) name c r
     (λ bs all. record {
       branch = new_branch start;
-      stands = subst (HasPosition (new_branch start)) (sym is) (HasPosition-start old.table start);
-      theirs = ap (λ (o : Option Branch). if_name_free o (phase_answer old.table (new_branch start))) (free_name_has_no_branch old bs name all free) ∙ ap (λ (p : Position). Ok (replies.Phase (phase_of p))) (sym is);
+      has_position = subst (HasPosition (new_branch start)) (sym is) (HasPosition-start old.table start);
+      answer_is = ap (λ (o : Option Branch). if_name_free o (phase_answer old.table (new_branch start))) (free_name_has_no_branch old bs name all free) ∙ ap (λ (p : Position). Ok (replies.Phase (phase_of p))) (sym is);
       change = refl;
     }) (ap (λ (p : Position). p.table) is) did
 
@@ -87,8 +87,8 @@ offer_served old new name z s c d r has of asks is did =
     let table_is : d.table ≡ old.table = ap (λ (p : Position). p.table) is ∙ of in
     record {
       branch = with_token b z;
-      stands = at;
-      theirs =
+      has_position = at;
+      answer_is =
           ap (λ (o : Option Branch). if_name_held o (λ b. answer_to_offer old.table b z (phase_at old.table b))) f.1 ∙ ap (answer_to_offer old.table b z) (phase_is old.table b c f.2 of ∙ asks)
           ∙ ap (λ (p : Phase). Ok (replies.Phase p)) (phase_is old.table (with_token b z) d at table_is);
       change = ap (λ (o : Option Branch). with_changed_branch name o (λ b. with_token b z) bs) f.1;
@@ -120,8 +120,8 @@ resume_served old new name c d r has of g is fits did =
     let b : Branch = f.0 in
     record {
       branch = with_step b;
-      stands = subst (HasPosition (with_step b)) (sym is) (HasPosition-step b c f.2 g);
-      theirs =
+      has_position = subst (HasPosition (with_step b)) (sym is) (HasPosition-step b c f.2 g);
+      answer_is =
           resume_theirs old bs name b c f.1 f.2 of g ∙ ap (λ (x : Bool). cond x (Err faults.TooDeep) (Ok (replies.Phase (phase_of (resumed c))))) fits
           ∙ ap (λ (p : Position). Ok (replies.Phase (phase_of p))) (sym is);
       change = ap (λ (o : Option Branch). with_changed_branch name o with_step bs) f.1;
@@ -140,8 +140,8 @@ fork_served old new name fresh c d r has of free is did =
     let b : Branch = f.0 in
     record {
       branch = b;
-      stands = subst (HasPosition b) (sym is) f.2;
-      theirs =
+      has_position = subst (HasPosition b) (sym is) f.2;
+      answer_is =
           ap (λ (o : Option Branch). if_name_held o (λ b. if_name_free (at_name fresh bs) (phase_answer old.table b))) f.1 ∙ ap (λ (o : Option Branch). if_name_free o (phase_answer old.table b)) (free_name_has_no_branch old bs fresh all free)
           ∙ ap (λ (p : Phase). Ok (replies.Phase p)) (phase_is old.table b c f.2 of ∙ ap phase_of (sym is));
       change = ap (λ (o : Option Branch). with_changed_branch fresh o (λ b. b) bs) f.1;

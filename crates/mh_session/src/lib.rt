@@ -18,4 +18,3 @@ pub use mh_session_branches::{
 pub use reading::read_command;
 pub use run::answer_all;
 pub use session::Session;
-pub use texts::write_names;

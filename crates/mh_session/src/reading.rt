@@ -78,9 +78,9 @@ fn first_word(line: &[u8]) -> Option<(&[u8], &[u8])>
 {
     match first_piece(line) {
         None => None,
-        Some((word, behind)) => {
+        Some((word, rest)) => {
             if is_word(word) {
-                Some((word, behind))
+                Some((word, rest))
             } else {
                 None
             }
@@ -107,10 +107,10 @@ fn with_rest<'a>(verb: &[u8], name: &'a [u8], rest: &'a [u8]) -> Option<LineForm
 fn form_in(line: &[u8]) -> Option<LineForm<'_>>
     ensures { as_forms result ≡ form_of line.now }
 {
-    let Some((verb, behind)) = first_word(line) else {
+    let Some((verb, after_verb)) = first_word(line) else {
         return None;
     };
-    let Some((name, rest)) = first_word(behind) else {
+    let Some((name, rest)) = first_word(after_verb) else {
         return None;
     };
     with_rest(verb, name, rest)

@@ -142,7 +142,7 @@ impl<'t> Session<'t> {
             return Err(SessionFault::UnknownName);
         };
         let phase = checkpoint.phase();
-        if !can_go_on(phase) {
+        if !can_resume(phase) {
             return Err(SessionFault::WrongPhase { phase });
         }
         let resumed = match checkpoint.resume(self.alloc) {
@@ -216,7 +216,7 @@ impl<'t> Session<'t> {
 }
 
 /// True if the run may be resumed in this phase.
-fn can_go_on(phase: Phase) -> bool
+fn can_resume(phase: Phase) -> bool
     ensures { IsTrue result ↔ CanResume phase }
 {
     match phase {

@@ -1,13 +1,13 @@
 //! The texts of replies and faults. Each `write_` function appends to a text.
 ghost use Rattle.std.specs.Prelude.{◌≡◌, ◌++◌, IfOk, OnOk, codes};
-ghost use Rattle.mh_msgfile.specs.FileTexts.{names_after};
 ghost use Rattle.mh_session_branches.specs.Replies.{phase_word as word_of, phase_details, reply_text, fault_text};
 ghost use Rattle.mh_session.specs.code.AnswerTexts.{IsAnswerText};
 ghost use Rattle.mh_session_branches.specs.declared.reply.SessionFault.TheVariants as faults;
 
 use mh_engine::Phase;
-use mh_grammar::{Grammar, Memory, Token, token_name};
+use mh_grammar::{Grammar, Memory, token_name};
 use mh_grammar_texts::{write_number, write_production};
+use mh_msgfile::write_names;
 use mh_session_branches::{Reply, SessionFault};
 use mh_tree::print_tree;
 use std::alloc::Global;
@@ -60,17 +60,6 @@ fn write_phase_details(
         Phase::Accepted => Ok(()),
         Phase::Rejected => Ok(()),
     }
-}
-
-/// Appends the names of the tokens, each after one space. Fails only if memory runs out.
-pub fn write_names(text: &mut Vec<u8>, grammar: &Grammar, tokens: &[Token]) -> Result<(), Memory>
-    ensures { OnOk result (text.new.items ≡ text.old.items ++ names_after grammar.now tokens.now) }
-{
-    for token in tokens {
-        text.push(b' ')?;
-        text.extend_from_slice(token_name(grammar, *token))?;
-    }
-    Ok(())
 }
 
 /// Appends the name of the branch, and then the reply.

@@ -12,8 +12,9 @@ use Rattle.mh_sets.specs.BitWords.{looks_of, AreBitWords}
 use Rattle.mh_sets.proofs.LooksOf.{words_same}
 
 module _ (W : ℕ) (v w : List ℕ) (e d : Bool) (xs ys : List Look) (is : looks_of v e ≡ xs) (are : looks_of w d ≡ ys) (hv : AreBitWords W v) (hw : AreBitWords W w) (F : Look → Look → Bool) (decides : (a b : Look) → Decides (F a b) (a ≡ b)) where
-  pub eq_is : (r : Bool) → r ≡ pointwise nat_eq v w → (r && beq e d) ≡ pointwise F xs ys
-  eq_is r h =
+  -- To compare the words and the flags of two sets is to compare their lists of lookaheads element by element.
+  pub set_eq-pointwise : (r : Bool) → r ≡ pointwise nat_eq v w → (r && beq e d) ≡ pointwise F xs ys
+  set_eq-pointwise r h =
       let words = slice_eq-Decides {E = nat_eq} unsigned_Decides v w r h in
       let end = booleans_Decides e d in
       same_from_decides (r && beq e d) (pointwise F xs ys) (

@@ -1,4 +1,5 @@
--- Lemmas on words as the list of the lookaheads that they contain.
+-- Lemmas on `looks_of`, the list of the lookaheads of a set: the tokens whose bits are set in its machine words, and
+-- the end of the stream if its flag is set.
 use Rattle.std.proofs.Common.{◌≡◌, ℕ, zero, suc, ◌+◌, ◌*◌, ◌/◌, ◌%◌, ◌^◌, ◌<◌, ◌⊎◌, ◌==◌, Bool, true, if◌then◌else◌, List, [], ◌∷◌, length, get_or, refl, sym, ap, ap₂, subst, ◌∙◌, arith, inl, inr}
 use Rattle.std.specs.List.{Contains, list_any}
 use Rattle.std.specs.Int.{bit_at}

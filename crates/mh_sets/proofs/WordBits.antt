@@ -112,8 +112,8 @@ module _ (words : List ℕ) (a v : ℕ) (within : a < 64 * length words) where
         | inr o ↦ (let ne : a ≡ b → ⊥ = λ eq. o (ap (λ x. x / 64) (sym eq)) in clear_test_there (bit new b) (bit words b) a b ne (there b o))
       ]
 
-  pub each_set : All (λ w. w < 2 ^ 64) words → v < 2 ^ 64 → All (λ w. w < 2 ^ 64) new
-  each_set each l = All-set (λ w. w < 2 ^ 64) words (a / 64) v l each
+  pub set_keeps_bound : All (λ w. w < 2 ^ 64) words → v < 2 ^ 64 → All (λ w. w < 2 ^ 64) new
+  set_keeps_bound each l = All-set (λ w. w < 2 ^ 64) words (a / 64) v l each
 
 pub or_fits : (words : List ℕ) (a : ℕ) → a < 64 * length words → All (λ w. w < 2 ^ 64) words → bit_or (get_or words (a / 64) 0) (1 * 2 ^ (a % 64) % 2 ^ 64) < 2 ^ 64
 or_fits words a within each =

@@ -9,5 +9,5 @@ use Rattle.mh_grammar.specs.contracts.types.LookPartialEq.TheImpl.{eq-value}
 look_Decides : (a b : Look) → Decides (eq-value.it a b) (a ≡ b)
 look_Decides a b = search rules
 
-pub sets_Decides : (xs ys : List Look) → Decides (pointwise eq-value.it xs ys) (xs ≡ ys)
-sets_Decides xs ys = slice_eq-Decides {E = eq-value.it} look_Decides xs ys (pointwise eq-value.it xs ys) refl
+pub looks_Decides : (xs ys : List Look) → Decides (pointwise eq-value.it xs ys) (xs ≡ ys)
+looks_Decides xs ys = slice_eq-Decides {E = eq-value.it} look_Decides xs ys (pointwise eq-value.it xs ys) refl

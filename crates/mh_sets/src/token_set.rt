@@ -9,7 +9,7 @@ ghost use Rattle.mh_grammar.specs.contracts.types.LookEq.TheImpl.Laws.{laws-law 
 ghost use Rattle.mh_grammar.specs.Plain.{IsLookBelow};
 ghost use Rattle.mh_sets.specs.Sets.{IsSet};
 ghost use Rattle.mh_sets.specs.BitWords.{bit_words_of, has_stream_end};
-ghost use Rattle.mh_sets.specs.LookEquality.{sets_Decides};
+ghost use Rattle.mh_sets.specs.LookEquality.{looks_Decides};
 
 use crate::bits::{are_within, clear_bit, has_bit, join, least, set_bit, share};
 use mh_grammar::Look;
@@ -186,7 +186,7 @@ impl<const W: usize> Eq for TokenSet<W> {
 impl<const W: usize> Hash for TokenSet<W> {
     ghost hash_input = { λ looks. fed.slice fed.u64 (bit_words_of W looks) ++ fed.bool (has_stream_end looks) };
 
-    ghost respects_eq = { (fed.same_Alike (λ looks. fed.slice fed.u64 (bit_words_of W looks) ++ fed.bool (has_stream_end looks)) sets_Decides).fed };
+    ghost respects_eq = { (fed.same_Alike (λ looks. fed.slice fed.u64 (bit_words_of W looks) ++ fed.bool (has_stream_end looks)) looks_Decides).fed };
 
     fn hash<H: Hasher>(&self, state: &mut H) {
         self.words.hash(state);

@@ -53,8 +53,8 @@ module _ (g : Grammar) where
     start_core = λ i p d lt m. absurd (no_core i p d m);
     starts = λ i lt. absurd (no_start i lt);
     filled = λ s lt. absurd (omega arith);
-    other_core = λ s p d le m. absurd (no_core s p d m);
-    behind = λ r x u p d e m. absurd (no_edge r u x e);
+    other_cores_moved = λ s p d le m. absurd (no_core s p d m);
+    moved_from = λ r x u p d e m. absurd (no_edge r u x e);
     ordinary = λ s p r. absurd (no_reduction s p r);
     complete = λ s p r. absurd (no_reduction s p r);
     shifts = λ s z j e. absurd (let refuses = no_action s z in cc);

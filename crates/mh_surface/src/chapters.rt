@@ -1,22 +1,13 @@
 //! The chapters in order. The grammar, the automaton and the table are made once, and each chapter borrows those that
 //! it uses.
 ghost use Rattle.mh_grammar.specs.Costs.{HaveCosts};
-ghost use Rattle.mh_grammar.specs.Plain.{plain_of, IsInRange};
+ghost use Rattle.mh_grammar.specs.Plain.{plain_of};
 ghost use Rattle.mh_items_kernels.specs.Automaton.{IsAutomaton};
-ghost use Rattle.mh_resolve_cells.specs.States.{IsTableOf};
-ghost use Rattle.mh_resolve_cells.specs.declared.kinds.Mode.TheVariants.{Merged};
 ghost use Rattle.mh_items.specs.Fitting.{FitsSets};
 
-use crate::catalogue_and_messages::{compiled, lines, messages_files, refused, rows, search};
-use crate::checkpoints_and_sessions::{
-    checkpoints, lines_of_a_session, unknown_token, whole_session,
-};
-use crate::from_text_to_verdict::{automaton_of, grammar_of, is_small, table_of, traces, verdicts};
-use crate::small_rooms::{derivations, sentences};
-use crate::tables_and_validation::{
-    automata, automaton_as_text, cells, items, read_and_tested, warnings, written,
-};
-use crate::trees::{made_by_a_run, made_by_hand};
+use crate::automata_and_tables::{automata, cells, items};
+use crate::from_text_to_verdict::{traces, verdicts};
+use crate::making::{automaton_of, grammar_of, is_small, table_of};
 use mh_grammar::Grammar;
 use mh_items::Automaton;
 use mh_tables::Halting;
@@ -26,31 +17,10 @@ use std::process::Abort;
 use std::test::Fail;
 
 /// The chapters that use the table.
-fn with_table(
-    rt: &impl Abort,
-    alloc: Global,
-    grammar: &Grammar,
-    automaton: &Automaton<1>,
-    table: &Halting,
-) -> Result<(), Fail>
-    requires range { IsInRange (plain_of grammar.now) }
-    requires automaton { IsAutomaton (plain_of grammar.now) automaton.now }
-    requires table { IsTableOf grammar.now automaton.now Merged table.now }
-{
-    verdicts(rt, alloc, table)?;
-    traces(rt, alloc, table)?;
-    made_by_a_run(rt, alloc, grammar, table)?;
-    checkpoints(rt, alloc, table)?;
-    lines_of_a_session(rt, alloc, grammar, table)?;
-    whole_session(rt, alloc, grammar, table)?;
-    search(rt, alloc, grammar, automaton, table)?;
-    rows(rt, alloc, table)?;
-    messages_files(rt, alloc, grammar, automaton, table)?;
-    compiled(rt, alloc, grammar, table)?;
-    refused(rt, alloc, grammar, table)?;
+fn with_table(rt: &impl Abort, alloc: Global, table: &Halting) -> Result<(), Fail> {
     cells(rt, table)?;
-    automaton_as_text(rt, alloc, grammar, automaton, table)?;
-    written(rt, alloc, grammar, automaton, table)
+    verdicts(rt, alloc, table)?;
+    traces(rt, alloc, table)
 }
 
 /// The chapters that use the automaton.
@@ -66,7 +36,7 @@ fn with_automaton(
 {
     automata(rt, alloc, grammar, automaton)?;
     let table = table_of(alloc, grammar, automaton)?;
-    let result = with_table(rt, alloc, grammar, automaton, &table);
+    let result = with_table(rt, alloc, &table);
     drop(table);
     result
 }
@@ -76,14 +46,7 @@ fn with_grammar(rt: &impl Abort, alloc: Global, grammar: &Grammar) -> Result<(),
     requires fits { FitsSets 1 grammar.now }
     requires costs { HaveCosts grammar.now.tokens }
 {
-    derivations(rt, alloc, grammar)?;
-    sentences(rt, alloc, grammar)?;
-    made_by_hand(rt, alloc, grammar)?;
-    unknown_token(rt, alloc, grammar)?;
-    lines(rt, alloc, grammar)?;
-    warnings(rt, alloc, grammar)?;
     items(rt, alloc, grammar)?;
-    read_and_tested(rt, alloc, grammar)?;
     let automaton = automaton_of(alloc, grammar)?;
     let result = with_automaton(rt, alloc, grammar, &automaton);
     drop(automaton);

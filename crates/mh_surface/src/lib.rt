@@ -1,22 +1,25 @@
-//! A first look at the libraries, for readers. Each file is one way to use them, and all files use one small grammar,
-//! whose only sentence is `A EOF`. Each compared value was worked out by hand. Begin with `from_text_to_verdict`.
+//! A first look at the libraries, for readers: from the text of a grammar file to its table and a verdict. The crates
+//! `mh_surface_runs`, `mh_surface_files` and `mh_surface_rooms` go on. Each file is one way to use the libraries, and all
+//! files use one small grammar, whose only sentence is `A EOF`. Each compared value was worked out by hand. Begin with
+//! `making` and `from_text_to_verdict`.
 #![tactic(auto)]
 
+mod example;
+mod making;
+
+pub use example::{has_counts, has_edges};
+pub use making::{
+    A, EOF, automaton_of, can_run, expanded_of, grammar_of, is_small, joined_of, module_of,
+    modules_of, table_of,
+};
+
 #[cfg(test)]
-mod catalogue_and_messages;
+mod automata_and_tables;
 #[cfg(test)]
 mod chapters;
-#[cfg(test)]
-mod checkpoints_and_sessions;
 #[cfg(test)]
 mod from_text_to_verdict;
 #[cfg(test)]
 mod refused_grammars;
 #[cfg(test)]
-mod small_rooms;
-#[cfg(test)]
-mod tables_and_validation;
-#[cfg(test)]
 mod tables_by_hand;
-#[cfg(test)]
-mod trees;

@@ -5,7 +5,7 @@ ghost use Rattle.mh_items_kernels.specs.Automaton.{IsAutomaton};
 ghost use Rattle.mh_rules.specs.Ready.{IsExpandedReady, IsJoinedReady};
 ghost use Rattle.mh_items.specs.Fitting.{FitsSets};
 
-use crate::from_text_to_verdict::{automaton_of, grammar_of, is_small, modules_of};
+use crate::making::{automaton_of, grammar_of, is_small, modules_of};
 use mh_expand::{ExpandFault, Expanded, expand};
 use mh_grammar::Grammar;
 use mh_inline::{InlineFault, inline_rules};

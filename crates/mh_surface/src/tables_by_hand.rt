@@ -1,12 +1,12 @@
 //! A table that is made by hand from a grammar that is made by hand. The grammar has no start, so its table needs no
-//! state.
+//! state. Also the parts of a state, of which a table has one for each state.
 ghost use Rattle.std.specs.Prelude.{◌≡◌, []};
 ghost use Rattle.mh_grammar.specs.Costs.{HaveCosts};
 ghost use Rattle.mh_grammar.specs.Plain.{plain_of, IsInRange};
 
-use crate::from_text_to_verdict::{A, EOF, is_small};
-use mh_grammar::{Grammar, NontermInfo, Production, Sequence, Symbol, TokenInfo, from_bytes};
-use mh_tables::{Table, table_of};
+use crate::making::{A, EOF, is_small};
+use mh_grammar::{Edge, Grammar, NontermInfo, Production, Sequence, Symbol, TokenInfo, from_bytes};
+use mh_tables::{Action, Place, StateParts, Table, table_of};
 use std::alloc::Global;
 use std::process::Abort;
 use std::test::Fail;
@@ -92,5 +92,47 @@ fn a_table_by_hand(rt: HostRuntime) -> Result<(), Fail> {
         Err(fail) => Err(fail),
     };
     drop(grammar);
+    result
+}
+
+/// The parts of state 1 of the examples, whose only item is `s -> A . EOF`.
+fn parts_of_state_1(alloc: Global) -> Result<StateParts, Fail> {
+    let mut cells = Sequence::new(alloc);
+    cells.push(Action::Refuse)?;
+    cells.push(Action::Shift(3))?;
+    let mut edges = Sequence::new(alloc);
+    edges.push(Edge {
+        symbol: Symbol::T(EOF),
+        target: 3,
+    })?;
+    let mut core = Sequence::new(alloc);
+    core.push(Place {
+        production: 1,
+        dot: 1,
+    })?;
+    Ok(StateParts {
+        cells,
+        fallback: None,
+        edges,
+        core,
+    })
+}
+
+/// The state has one cell for each token, no default, and one item without its lookaheads.
+fn check_parts(rt: &impl Abort, parts: &StateParts) -> Result<(), Fail> {
+    let place: &Place = parts.core.get(0).ok_or("no item")?;
+    let cells = [Action::Refuse, Action::Shift(3)];
+    assert!(rt;
+        (place.production, place.dot) == (1, 1) && parts.cells.as_slice() == cells.as_slice()
+    );
+    assert!(rt; parts.fallback.is_none() && parts.core.len() == 1 && parts.edges.len() == 1);
+    Ok(())
+}
+
+#[test]
+fn a_state_by_hand(rt: HostRuntime) -> Result<(), Fail> {
+    let parts = parts_of_state_1(rt.alloc())?;
+    let result = check_parts(&rt, &parts);
+    drop(parts);
     result
 }

@@ -32,8 +32,8 @@ module _ (bytes : List ℕ) where
     early begins nothing (b ∷ bs) some = open_end b bs some begins
 
     stuck : (rest : List Line) → Stuck (lines_in parts) rest → FileOrBad
-    stuck [] s = early (subst Begins (sym (s.whole ∙ append-nil s.before)) s.begins) s.nothing last refl
-    stuck (x ∷ xs) s = inr (length s.before + 1, cut_misplaced bytes parts last cut (length s.before + 1) (record { before = s.before; line = x; rest = xs; whole = s.whole; begins = s.begins; first = s.first x xs refl; number = refl }))
+    stuck [] s = early (subst Begins (sym (s.split ∙ append-nil s.before)) s.begins) s.nothing last refl
+    stuck (x ∷ xs) s = inr (length s.before + 1, cut_misplaced bytes parts last cut (length s.before + 1) (record { before = s.before; line = x; rest = xs; split = s.split; begins = s.begins; first = s.first x xs refl; number = refl }))
 
     by_outcome : (o : Outcome) → run initial_reader (lines_in parts) ≡ o → FileOrBad
     by_outcome (Reads raw) e = whole raw (exact_reads (lines_in parts) raw e) last refl

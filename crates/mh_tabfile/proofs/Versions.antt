@@ -25,7 +25,7 @@ valid_but_for_costs g raw other a parts e v = subst (λ (r : RawTable). IsValidF
   kernels = record { count = v.kernels.count; each = λ s l. let k = v.kernels.each s l in record { spelled = k.spelled; kernel = k.kernel } };
   rows = v.rows;
   count = v.count;
-  right = λ s l. let r = v.right s l in record { has_edges = record { spelled = r.has_edges.spelled; are = r.has_edges.are }; resolved = r.resolved; has_cells = r.has_cells };
+  each_state = λ s l. let r = v.each_state s l in record { has_edges = record { spelled = r.has_edges.spelled; are_edges = r.has_edges.are_edges }; resolved = r.resolved; has_cells = r.has_cells };
 })
 
 pub valid_with_costs : (g : Grammar) (raw : RawTable) (a : Automaton) (parts : List StateParts) → IsValidFor g raw a parts → IsValidFor g (with_costs g raw) a parts
@@ -38,7 +38,7 @@ valid_without_costs g raw a parts e v = record {
   kernels = record { count = v.kernels.count; each = λ s l. let k = v.kernels.each s l in record { spelled = k.spelled; kernel = k.kernel } };
   rows = v.rows;
   count = v.count;
-  right = λ s l. let r = v.right s l in record { has_edges = record { spelled = r.has_edges.spelled; are = r.has_edges.are }; resolved = r.resolved; has_cells = r.has_cells };
+  each_state = λ s l. let r = v.each_state s l in record { has_edges = record { spelled = r.has_edges.spelled; are_edges = r.has_edges.are_edges }; resolved = r.resolved; has_cells = r.has_cells };
 }
 
 -- A state is the one that is written of a kernel, edges and parts, if its items, edges and cells are.
@@ -66,7 +66,7 @@ states_are g (k ∷ ks) (row ∷ rows) (p ∷ parts) (s ∷ states) e f d at =
 pub valid_is_written : (g : Grammar) (raw : RawTable) (a : Automaton) (parts : List StateParts) → IsValidFor g raw a parts → with_costs g raw ≡ raw_of g a raw.mode parts
 valid_is_written g raw a parts v =
     let at : (s : ℕ) → s < length raw.states → raw_state raw s ≡ raw_state_of g (slice_index_or a.kernels s no_kernel) (slice_index_or a.edges s []) (slice_index_or parts s no_state) =
-    λ s l. state_is g (raw_state raw s) (slice_index_or a.kernels s no_kernel) (slice_index_or a.edges s []) (slice_index_or parts s no_state) (v.kernels.each s l).spelled (v.right s l).has_edges.spelled (v.right s l).has_cells in
+    λ s l. state_is g (raw_state raw s) (slice_index_or a.kernels s no_kernel) (slice_index_or a.edges s []) (slice_index_or parts s no_state) (v.kernels.each s l).spelled (v.each_state s l).has_edges.spelled (v.each_state s l).has_cells in
     let states : raw.states ≡ raw_states g a.kernels a.edges parts = states_are g a.kernels a.edges parts raw.states v.kernels.count v.rows v.count at in
     let tokens = v.header.tokens in
     let starts = v.header.starts in

@@ -166,7 +166,7 @@ table_text raw = text (lines_of raw)
 pub record IsFileOf (bytes : List ℕ) (raw : RawTable) : Type 0 where
   pub spelled : IsRawTable raw
   pub words : AllByRecursion IsLine (lines_of raw)
-  pub whole : bytes ≡ table_text raw
+  pub bytes_are : bytes ≡ table_text raw
 
 -- Some table file begins with these lines.
 abbrev pub Begins : List Line → Type 0

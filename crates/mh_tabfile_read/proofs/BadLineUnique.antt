@@ -34,7 +34,7 @@ data Kind (before tail : List Line) (n : ℕ) : Type 0 where
 record Bad (bytes : List ℕ) (n : ℕ) : Type 0 where
   before : List Line
   tail : List Line
-  whole : view bytes ≡ before ++ tail
+  split : view bytes ≡ before ++ tail
   begins : Begins before
   kind : Kind before tail n
 
@@ -44,7 +44,7 @@ bad bytes n (IsBadLine.misplaced before line rest e hb hl b never k) =
     record {
       before = before;
       tail = line ∷ view rest;
-      whole = ap view e ∙ view_of_text before (line_text line ++ rest) hb ∙ ap (λ l. before ++ l) here;
+      split = ap view e ∙ view_of_text before (line_text line ++ rest) hb ∙ ap (λ l. before ++ l) here;
       begins = b;
       kind = Blocked line (view rest) refl (map_some words_of (slice_split (λ c. c == 10) rest) (split_some (λ c. c == 10) rest)) never k;
     }
@@ -53,12 +53,12 @@ bad bytes n (IsBadLine.unended before last e hb hl some b k) =
     record {
       before = before;
       tail = words_of last ∷ [];
-      whole = ap view e ∙ view_of_text before last hb ∙ ap (λ l. before ++ l) alone;
+      split = ap view e ∙ view_of_text before last hb ∙ ap (λ l. before ++ l) alone;
       begins = b;
       kind = Unended (words_of last) refl (λ same. some (sym (join_with_byte-slice_split 32 last) ∙ ap (join_with_byte 32) same)) k;
     }
 bad bytes n (IsBadLine.early lines e hl b never k) =
-    record { before = lines; tail = ([] ∷ []) ∷ []; whole = ap view e ∙ view_whole lines hl; begins = b; kind = Early refl k }
+    record { before = lines; tail = ([] ∷ []) ∷ []; split = ap view e ∙ view_whole lines hl; begins = b; kind = Early refl k }
 
 -- In each of the three cases at least one line remains.
 tail_some : (before tail : List Line) (n : ℕ) → Kind before tail n → 0 < length tail
@@ -66,7 +66,7 @@ tail_some before tail n (Blocked line more e some never k) = rw e (omega arith)
 tail_some before tail n (Unended words e some k) = rw e (omega arith)
 tail_some before tail n (Early e k) = rw e (omega arith)
 
--- If only one line remains, no other proper prefix of the lines is longer than the part before this line.
+-- If only one line remains, the part before it is the longest proper prefix of the lines.
 last_first : (before tail other behind : List Line) (x : Line) → tail ≡ x ∷ [] → before ++ tail ≡ other ++ behind → 0 < length behind → length other ≤ length before
 last_first before tail other behind x e same some =
     let lengths = ap length same in
@@ -111,7 +111,7 @@ pub one_bad_line : (bytes : List ℕ) (n m : ℕ) → IsBadLine bytes n → IsBa
 one_bad_line bytes n m h k =
     let x = bad bytes n h in
     let y = bad bytes m k in
-    let same : x.before ++ x.tail ≡ y.before ++ y.tail = sym x.whole ∙ y.whole in
+    let same : x.before ++ x.tail ≡ y.before ++ y.tail = sym x.split ∙ y.split in
     let up : length y.before ≤ length x.before = not_longer x.before x.tail y.before y.tail n x.kind same y.begins (tail_some y.before y.tail m y.kind) in
     let down : length x.before ≤ length y.before = not_longer y.before y.tail x.before x.tail m y.kind (sym same) x.begins (tail_some x.before x.tail n x.kind) in
     numbers x.before x.tail y.before y.tail n m (omega (arith, up, down)) same x.kind y.kind

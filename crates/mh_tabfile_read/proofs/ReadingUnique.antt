@@ -67,22 +67,22 @@ pub no_lf_bool : (last : List ℕ) → AllByRecursion (λ b. b ≢ 10) last → 
 no_lf_bool [] h = tt
 no_lf_bool (b ∷ bs) (h, hs) = (ne_eqb b 10 h, no_lf_bool bs hs)
 
-pub same_file : (bytes : List ℕ) (one two : RawTable) → IsFileOf bytes one → IsFileOf bytes two → one ≡ two
-same_file bytes one two f g =
-    let same = same_from_push (lines_of one) (lines_of two) ([] ∷ []) ([] ∷ []) (sym (view_whole (lines_of one) f.words) ∙ ap view (sym f.whole ∙ g.whole) ∙ view_whole (lines_of two) g.words) in
+pub same_table : (bytes : List ℕ) (one two : RawTable) → IsFileOf bytes one → IsFileOf bytes two → one ≡ two
+same_table bytes one two f g =
+    let same = same_from_push (lines_of one) (lines_of two) ([] ∷ []) ([] ∷ []) (sym (view_whole (lines_of one) f.words) ∙ ap view (sym f.bytes_are ∙ g.bytes_are) ∙ view_whole (lines_of two) g.words) in
     spelled_once (lines_of two) one two (f.spelled, sym same.0) (g.spelled, refl)
 
 pub no_bad : (bytes : List ℕ) (raw : RawTable) (n : ℕ) → IsFileOf bytes raw → IsBadLine bytes n → ⊥
 no_bad bytes raw n f (IsBadLine.misplaced before line rest e hb hl b never k) =
     let here : view (line_text line ++ rest) ≡ line ∷ view rest = ap (λ l. view (l ++ rest)) (sym (append-nil (line_text line))) ∙ view_of_text (line ∷ []) rest (hl, tt) in
-    let (more, m) = front_of (lines_of raw) before (view rest) ([] ∷ []) line (sym (view_whole (lines_of raw) f.words) ∙ ap view (sym f.whole ∙ e) ∙ view_of_text before (line_text line ++ rest) hb ∙ ap (λ l. before ++ l) here) (map_some words_of (slice_split (λ b. b == 10) rest) (split_some (λ b. b == 10) rest)) in
+    let (more, m) = front_of (lines_of raw) before (view rest) ([] ∷ []) line (sym (view_whole (lines_of raw) f.words) ∙ ap view (sym f.bytes_are ∙ e) ∙ view_of_text before (line_text line ++ rest) hb ∙ ap (λ l. before ++ l) here) (map_some words_of (slice_split (λ b. b == 10) rest) (split_some (λ b. b == 10) rest)) in
     never (more, raw, (f.spelled, sym m))
 no_bad bytes raw n f (IsBadLine.unended before last e hb hl some b k) =
     let alone : view last ≡ words_of last ∷ [] = ap (map words_of) (slice_split_none (λ b. b == 10) last (All-from_recursion (λ b. (b == 10) ≡ false) last (no_lf_bool last hl))) in
-    let same = same_from_push (lines_of raw) before ([] ∷ []) (words_of last) (sym (view_whole (lines_of raw) f.words) ∙ ap view (sym f.whole ∙ e) ∙ view_of_text before last hb ∙ ap (λ l. before ++ l) alone) in
+    let same = same_from_push (lines_of raw) before ([] ∷ []) (words_of last) (sym (view_whole (lines_of raw) f.words) ∙ ap view (sym f.bytes_are ∙ e) ∙ view_of_text before last hb ∙ ap (λ l. before ++ l) alone) in
     some (sym (join_with_byte-slice_split 32 last) ∙ ap (join_with_byte 32) (sym same.1))
 no_bad bytes raw n f (IsBadLine.early lines e hl b never k) =
-    let same = same_from_push (lines_of raw) lines ([] ∷ []) ([] ∷ []) (sym (view_whole (lines_of raw) f.words) ∙ ap view (sym f.whole ∙ e) ∙ view_whole lines hl) in
+    let same = same_from_push (lines_of raw) lines ([] ∷ []) ([] ∷ []) (sym (view_whole (lines_of raw) f.words) ∙ ap view (sym f.bytes_are ∙ e) ∙ view_whole lines hl) in
     never raw (f.spelled, sym same.0)
 
 other_line : (n : ℕ) (m : Mode) → n < 2 ^ 32 → IsLine (head_line n m)
@@ -109,7 +109,7 @@ pub no_other : (bytes : List ℕ) (raw : RawTable) → IsFileOf bytes raw → Is
 no_other bytes raw f h =
     let is = other_line h.version h.mode h.number in
     let ws = head_line h.version h.mode in
-    let spelled : lines_of raw ++ ([] ∷ []) ∷ [] ≡ view bytes = sym (view_whole (lines_of raw) f.words) ∙ ap view (sym f.whole) in
+    let spelled : lines_of raw ++ ([] ∷ []) ∷ [] ≡ view bytes = sym (view_whole (lines_of raw) f.words) ∙ ap view (sym f.bytes_are) in
     elim h.ends [
       | inl e ↦
           let alone : view bytes ≡ ws ∷ [] = ap view (h.first ∙ ap (λ r. join_with_byte 32 ws ++ r) e ∙ append-nil (join_with_byte 32 ws)) ∙ ap (map words_of) (slice_split_none (λ b. b == 10) (join_with_byte 32 ws) (All-from_recursion (λ b. (b == 10) ≡ false) (join_with_byte 32 ws) (line_clean ws is.1))) ∙ ap (λ l. l ∷ []) (words_parsed ws is) in
@@ -121,7 +121,7 @@ no_other bytes raw f h =
 
 -- If the bytes are a file of a table, then any reading of them is this table, or memory ran out.
 pub only_reading : (bytes : List ℕ) (result : Result RawTable TabFault) → IsReading bytes result → (raw : RawTable) → IsFileOf bytes raw → (result ≡ Ok raw) ⊎ (result ≡ Err faults.Memory)
-only_reading bytes (Ok other) h raw f = inl (ap Ok (same_file bytes other raw h f))
+only_reading bytes (Ok other) h raw f = inl (ap Ok (same_table bytes other raw h f))
 only_reading bytes (Err faults.Version) h raw f = absurd (no_other bytes raw f h)
 only_reading bytes (Err (faults.TabShape n)) h raw f = absurd (no_bad bytes raw n f h)
 only_reading bytes (Err faults.Memory) h raw f = inr refl

@@ -45,18 +45,18 @@ Blocked t (x ∷ xs) = next t x ≡ None
 pub record Stopped (r : Reader) (ls rest : List Line) : Type 0 where
   pub before : List Line
   pub at : Reader
-  pub good : IsSoundReader at
-  pub whole : ls ≡ before ++ rest
-  pub goes : (ys : List Line) → run r (before ++ ys) ≡ run at ys
+  pub sound : IsSoundReader at
+  pub split : ls ≡ before ++ rest
+  pub runs : (ys : List Line) → run r (before ++ ys) ≡ run at ys
   pub blocked : Blocked at rest
 
 stopped_later : (s t : Reader) (x : Line) (xs rest : List Line) → next s x ≡ Some t → Stopped t xs rest → Stopped s (x ∷ xs) rest
 stopped_later s t x xs rest e h = record {
   before = x ∷ h.before;
   at = h.at;
-  good = h.good;
-  whole = ap (λ l. x ∷ l) h.whole;
-  goes = λ ys. ap (λ o. go_on o x (h.before ++ ys) (λ u. run u (h.before ++ ys))) e ∙ h.goes ys;
+  sound = h.sound;
+  split = ap (λ l. x ∷ l) h.split;
+  runs = λ ys. ap (λ o. go_on o x (h.before ++ ys) (λ u. run u (h.before ++ ys))) e ∙ h.runs ys;
   blocked = h.blocked;
 }
 
@@ -69,18 +69,18 @@ ended_stops (Some raw) rest e = cc
 
 stops_at : (x : Line) (xs : List Line) (s : Reader) (rest : List Line) (o : Option Reader) → IsSoundReader s → ((t : Reader) → IsSoundReader t → run t xs ≡ Stops rest → Stopped t xs rest) →
     next s x ≡ o → go_on o x xs (λ t. run t xs) ≡ Stops rest → Stopped s (x ∷ xs) rest
-stops_at x xs s rest None g h f e = subst (λ k. Stopped s (x ∷ xs) k) (same_rest (x ∷ xs) rest e) (record { before = []; at = s; good = g; whole = refl; goes = λ ys. refl; blocked = f })
+stops_at x xs s rest None g h f e = subst (λ k. Stopped s (x ∷ xs) k) (same_rest (x ∷ xs) rest e) (record { before = []; at = s; sound = g; split = refl; runs = λ ys. refl; blocked = f })
 stops_at x xs s rest (Some t) g h f e = let k = next_sound s t x g f in stopped_later s t x xs rest f (h t (record { parts = k.parts; holds = k.holds }) e)
 
 pub stops : (ls : List Line) (s : Reader) (rest : List Line) → IsSoundReader s → run s ls ≡ Stops rest → Stopped s ls rest
-stops [] s rest g e = subst (λ k. Stopped s [] k) (ended_stops (finish s) rest e) (record { before = []; at = s; good = g; whole = refl; goes = λ ys. refl; blocked = tt })
+stops [] s rest g e = subst (λ k. Stopped s [] k) (ended_stops (finish s) rest e) (record { before = []; at = s; sound = g; split = refl; runs = λ ys. refl; blocked = tt })
 stops (x ∷ xs) s rest g e = stops_at x xs s rest (next s x) g (λ t k f. stops xs t rest k f) refl e
 
 -- The lines before `rest` begin some file, but with the first line of `rest` they do not. If `rest` is empty, the lines
 -- are not a whole file.
 pub record Stuck (ls rest : List Line) : Type 0 where
   pub before : List Line
-  pub whole : ls ≡ before ++ rest
+  pub split : ls ≡ before ++ rest
   pub begins : Begins before
   pub first : (x : Line) (xs : List Line) → rest ≡ x ∷ xs → Begins (before ++ x ∷ []) → ⊥
   pub nothing : (raw : RawTable) → Spells ls raw → ⊥
@@ -95,13 +95,13 @@ stopped_first : (ls rest : List Line) (h : Stopped initial_reader ls rest) (x : 
 stopped_first ls rest h x xs e (ys, raw, b) =
     let blocked = subst (λ k. Blocked h.at k) e h.blocked in
     let spelled = subst (λ k. run initial_reader k ≡ Reads raw) (append_assoc h.before (x ∷ []) ys) (exact_spelled ((h.before ++ x ∷ []) ++ ys) raw b) in
-    not_both (run initial_reader (h.before ++ x ∷ ys)) raw (x ∷ ys) spelled (h.goes (x ∷ ys) ∙ blocked_run h.at x xs ys blocked)
+    not_both (run initial_reader (h.before ++ x ∷ ys)) raw (x ∷ ys) spelled (h.runs (x ∷ ys) ∙ blocked_run h.at x xs ys blocked)
 
 pub exact_stops : (ls rest : List Line) → run initial_reader ls ≡ Stops rest → Stuck ls rest
-exact_stops ls rest e = let h = stops ls initial_reader rest sound_start e in let l = live h.at h.good in record {
+exact_stops ls rest e = let h = stops ls initial_reader rest sound_start e in let l = live h.at h.sound in record {
   before = h.before;
-  whole = h.whole;
-  begins = (l.0, l.1, exact_reads (h.before ++ l.0) l.1 (h.goes l.0 ∙ l.2));
+  split = h.split;
+  begins = (l.0, l.1, exact_reads (h.before ++ l.0) l.1 (h.runs l.0 ∙ l.2));
   first = stopped_first ls rest h;
   nothing = λ raw b. not_both (run initial_reader ls) raw rest (exact_spelled ls raw b) e;
 }
@@ -118,12 +118,12 @@ refused_part parts r at d x e h i n =
     let more = lines_in (map (λ x. x.now) (drop (suc at) parts)) in
     let split : lines_in (map (λ x. x.now) (drop at parts)) ≡ x ∷ more = ap (λ l. lines_in (map (λ x. x.now) l)) (drop-cons parts at d h) ∙ ap (λ y. y ∷ more) (sym i) in
     let s = exact_stops ls (x ∷ more) (e ∙ ap (λ l. run r l) split ∙ blocked_run r x more more n) in
-    let whole : length ls ≡ length s.before + length (x ∷ more) = ap length s.whole ∙ length-append s.before (x ∷ more) in
+    let whole : length ls ≡ length s.before + length (x ∷ more) = ap length s.split ∙ length-append s.before (x ∷ more) in
     record {
       before = s.before;
       line = x;
       rest = more;
-      whole = s.whole;
+      split = s.split;
       begins = s.begins;
       first = s.first x more refl;
       number = omega (arith, whole, lines_length parts, lines_length (drop (suc at) parts), length-drop (suc at) parts, h);
@@ -132,7 +132,7 @@ refused_part parts r at d x e h i n =
 -- If all lines are accepted, some file begins with them.
 begin_at : (o : Option RawTable) (ls : List Line) → run initial_reader ls ≡ ended o → Begins ls
 begin_at (Some raw) ls f = ([], raw, subst (λ l. Spells l raw) (sym (append-nil ls)) (exact_reads ls raw f))
-begin_at None ls f = let s = exact_stops ls [] f in subst Begins (sym (s.whole ∙ append-nil s.before)) s.begins
+begin_at None ls f = let s = exact_stops ls [] f in subst Begins (sym (s.split ∙ append-nil s.before)) s.begins
 
 pub read_lines_begin : (ls : List Line) (r : Reader) → run initial_reader ls ≡ run r [] → Begins ls
 read_lines_begin ls r e = begin_at (finish r) ls e

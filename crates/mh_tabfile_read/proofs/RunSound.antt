@@ -40,11 +40,11 @@ head_lines_read r = head_lines (table_of r)
 abbrev pub production_lines_read : Reader → ℕ → List Line
 production_lines_read r count = (codes "starts" ∷ r.starts) ∷ count_line (codes "productions") count ∷ map production_line r.productions
 
-abbrev pub states_listed : Reader → ℕ → List Line
-states_listed r count = count_line (codes "states") count ∷ states_lines 0 r.states
+abbrev pub closed_state_lines : Reader → ℕ → List Line
+closed_state_lines r count = count_line (codes "states") count ∷ states_lines 0 r.states
 
 abbrev pub open_state_lines : Reader → ℕ → List Line
-open_state_lines r left = head_lines_read r ++ (production_lines_read r (length r.productions) ++ (states_listed r (length r.states + 1 + left) ++ state_lines (length r.states) (open_state_read r)))
+open_state_lines r left = head_lines_read r ++ (production_lines_read r (length r.productions) ++ (closed_state_lines r (length r.states + 1 + left) ++ state_lines (length r.states) (open_state_read r)))
 
 -- The lines that lead to a place of the reader.
 abbrev pub written_at : ExpectedLine → Reader → List Line
@@ -54,7 +54,7 @@ written_at places.Costs r = head_line (version_of r.costs) r.mode ∷ (codes "to
 written_at places.Starts r = head_lines_read r
 written_at places.Productions r = head_lines_read r ++ (codes "starts" ∷ r.starts) ∷ []
 written_at (places.Listing left) r = head_lines_read r ++ production_lines_read r (length r.productions + left)
-written_at (places.Between left) r = head_lines_read r ++ (production_lines_read r (length r.productions) ++ states_listed r (length r.states + left))
+written_at (places.Between left) r = head_lines_read r ++ (production_lines_read r (length r.productions) ++ closed_state_lines r (length r.states + left))
 written_at (places.Items left) r = open_state_lines r left
 written_at (places.Edges left) r = open_state_lines r left
 written_at (places.Cells left) r = open_state_lines r left
@@ -246,9 +246,9 @@ opened_case r t left m few small some p (inl (b, f)) x is =
     subst (IsSoundStep (written_at (places.Between left) r) x) (same_Some (record r { items = []; edges = []; cells = []; place = places.Items (left - 1) }) t f) (record {
       parts = record { tokens = p.tokens; costs = p.costs; starts = p.starts; productions = p.productions; states = p.states; items = tt; edges = tt; cells = tt };
       holds = (few, subst IsNumber (sym count) small, refl, refl);
-      written = ap (λ k. head_lines_read r ++ (production_lines_read r (length r.productions) ++ (states_listed r k ++ count_line (codes "state") (length r.states) ∷ []))) count
-          ∙ snoc3 (head_lines_read r) (production_lines_read r (length r.productions)) (states_listed r (length r.states + left)) (count_line (codes "state") (length r.states) ∷ [])
-          ∙ ap (λ y. (head_lines_read r ++ (production_lines_read r (length r.productions) ++ states_listed r (length r.states + left))) ++ y ∷ []) (sym (is ∙ ap (count_line (codes "state")) (eqb-true m (length r.states) b)));
+      written = ap (λ k. head_lines_read r ++ (production_lines_read r (length r.productions) ++ (closed_state_lines r k ++ count_line (codes "state") (length r.states) ∷ []))) count
+          ∙ snoc3 (head_lines_read r) (production_lines_read r (length r.productions)) (closed_state_lines r (length r.states + left)) (count_line (codes "state") (length r.states) ∷ [])
+          ∙ ap (λ y. (head_lines_read r ++ (production_lines_read r (length r.productions) ++ closed_state_lines r (length r.states + left))) ++ y ∷ []) (sym (is ∙ ap (count_line (codes "state")) (eqb-true m (length r.states) b)));
     })
 
 state_case : (k : LineKind) (r t : Reader) (left : ℕ) (w : List ℕ) (ws : Line) → PartsHaveForm r → InvariantAt (places.Between left) r → 0 < left → Named k w → at_state r left k ws ≡ Some t → IsSoundStep (written_at (places.Between left) r) (w ∷ ws) t
@@ -264,9 +264,9 @@ end_case kinds.End r t w [] p (few, small) n e =
     subst (IsSoundStep (written_at (places.Between 0) r) (w ∷ [])) (same_Some (record r { place = places.Ended }) t e) (record {
       parts = at_place r places.Ended p;
       holds = (few, subst IsNumber none small);
-      written = snoc3 (head_lines_read r) (production_lines_read r (length r.productions)) (states_listed r (length r.states)) (end_line ∷ [])
-          ∙ ap (λ k. (head_lines_read r ++ (production_lines_read r (length r.productions) ++ states_listed r k)) ++ end_line ∷ []) (sym none)
-          ∙ ap (λ v. (head_lines_read r ++ (production_lines_read r (length r.productions) ++ states_listed r (length r.states + 0))) ++ (v ∷ []) ∷ []) (sym n);
+      written = snoc3 (head_lines_read r) (production_lines_read r (length r.productions)) (closed_state_lines r (length r.states)) (end_line ∷ [])
+          ∙ ap (λ k. (head_lines_read r ++ (production_lines_read r (length r.productions) ++ closed_state_lines r k)) ++ end_line ∷ []) (sym none)
+          ∙ ap (λ v. (head_lines_read r ++ (production_lines_read r (length r.productions) ++ closed_state_lines r (length r.states + 0))) ++ (v ∷ []) ∷ []) (sym n);
     })
 end_case kinds.End r t w (v ∷ ws) p h n e = absurd (none_some _ e)
 end_case _ r t w ws p h n e = absurd (none_some _ e)
@@ -287,7 +287,7 @@ closing r left c more e =
     let count : length (r.states ++ s ∷ []) + left ≡ length r.states + 1 + left = omega (arith, length-append r.states (s ∷ [])) in
     ap (λ k. head_lines_read r ++ (production_lines_read r (length r.productions) ++ (count_line (codes "states") k ∷ states_lines 0 (r.states ++ s ∷ [])))) count
     ∙ ap (λ ls. head_lines_read r ++ (production_lines_read r (length r.productions) ++ (count_line (codes "states") (length r.states + 1 + left) ∷ ls))) (states_snoc r.states 0 (length r.states) s (sym (zero-add (length r.states))) ∙ ap (λ k. states_lines 0 r.states ++ k) e)
-    ∙ snoc4 (head_lines_read r) (production_lines_read r (length r.productions)) (states_listed r (length r.states + 1 + left)) (state_lines (length r.states) (open_state_read r)) more
+    ∙ snoc4 (head_lines_read r) (production_lines_read r (length r.productions)) (closed_state_lines r (length r.states + 1 + left)) (state_lines (length r.states) (open_state_read r)) more
 
 closed_parts : (r : Reader) (c : RawCells) (place : ExpectedLine) → PartsHaveForm r → AreRawCells c → PartsHaveForm (state_ended_by r c place)
 closed_parts r c place p h = record { tokens = p.tokens; costs = p.costs; starts = p.starts; productions = p.productions; states = recursion-push IsRawState r.states (record { items = r.items; edges = r.edges; cells = c }) p.states (p.items, p.edges, h); items = tt; edges = tt; cells = tt }
@@ -303,10 +303,10 @@ ends_case k r t left w ws p few small n e =
 
 -- One more line of the open state.
 grown : (r : Reader) (left : ℕ) (s : RawState) (x : Line) → state_lines (length r.states) s ≡ state_lines (length r.states) (open_state_read r) ++ x ∷ [] →
-    head_lines_read r ++ (production_lines_read r (length r.productions) ++ (states_listed r (length r.states + 1 + left) ++ state_lines (length r.states) s)) ≡ open_state_lines r left ++ x ∷ []
+    head_lines_read r ++ (production_lines_read r (length r.productions) ++ (closed_state_lines r (length r.states + 1 + left) ++ state_lines (length r.states) s)) ≡ open_state_lines r left ++ x ∷ []
 grown r left s x e =
-    ap (λ k. head_lines_read r ++ (production_lines_read r (length r.productions) ++ (states_listed r (length r.states + 1 + left) ++ k))) e
-    ∙ snoc4 (head_lines_read r) (production_lines_read r (length r.productions)) (states_listed r (length r.states + 1 + left)) (state_lines (length r.states) (open_state_read r)) (x ∷ [])
+    ap (λ k. head_lines_read r ++ (production_lines_read r (length r.productions) ++ (closed_state_lines r (length r.states + 1 + left) ++ k))) e
+    ∙ snoc4 (head_lines_read r) (production_lines_read r (length r.productions)) (closed_state_lines r (length r.states + 1 + left)) (state_lines (length r.states) (open_state_read r)) (x ∷ [])
 
 cells_case : (k : LineKind) (r t : Reader) (left : ℕ) (w : List ℕ) (ws : Line) → PartsHaveForm r → IsNumber (length r.productions) → IsNumber (length r.states + 1 + left) → Named k w → at_cells r left k ws ≡ Some t → IsSoundStep (open_state_lines r left) (w ∷ ws) t
 cells_case kinds.Cell r t left w ws p few small n e =

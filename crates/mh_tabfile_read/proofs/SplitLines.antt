@@ -98,37 +98,37 @@ joined (p ∷ []) last = ap (λ l. l ++ 10 ∷ last) (sym (join_with_byte-slice_
 joined (p ∷ q ∷ ps) last = ap (λ l. l ++ 10 ∷ join_with_byte 10 (q ∷ ps ++ last ∷ [])) (sym (join_with_byte-slice_split 32 p)) ∙ ap (λ l. join_with_byte 32 (words_of p) ++ 10 ∷ l) (joined (q ∷ ps) last) ∙ regroup (join_with_byte 32 (words_of p)) (text (lines_in (q ∷ ps))) last
 
 pub record IsCut (bytes : List ℕ) (parts : List (List ℕ)) (tail : List ℕ) : Type 0 where
-  pub whole : bytes ≡ text (lines_in parts) ++ tail
-  pub are : AllByRecursion IsLine (lines_in parts)
+  pub split : bytes ≡ text (lines_in parts) ++ tail
+  pub are_lines : AllByRecursion IsLine (lines_in parts)
   pub last : AllByRecursion (λ b. b ≢ 10) tail
 
 pub is_cut : (bytes : List ℕ) (parts : List (List ℕ)) (last : List ℕ) → parts ++ last ∷ [] ≡ slice_split (λ b. b == 10) bytes → IsCut bytes parts last
 is_cut bytes parts last e =
     let all = all_front (AllByRecursion (λ b. (b == 10) ≡ false)) parts (last ∷ []) (subst (AllByRecursion (AllByRecursion (λ b. (b == 10) ≡ false))) (sym e) (split_parts_clean (λ b. b == 10) bytes)) in
     record {
-      whole = sym (join_with_byte-slice_split 10 bytes) ∙ ap (join_with_byte 10) (sym e) ∙ joined parts last;
-      are = lines_are parts all.0;
+      split = sym (join_with_byte-slice_split 10 bytes) ∙ ap (join_with_byte 10) (sym e) ∙ joined parts last;
+      are_lines = lines_are parts all.0;
       last = recursion-weaker (λ b. (b == 10) ≡ false) (λ b. b ≢ 10) (λ b k. other_byte b 10 k) last all.1.0;
     }
 
 -- From the lines to the answer: a whole file, or the kind of bad line.
 
 pub cut_whole : (bytes : List ℕ) (parts : List (List ℕ)) (last : List ℕ) (raw : RawTable) → IsCut bytes parts last → length last ≡ 0 → Spells (lines_in parts) raw → IsFileOf bytes raw
-cut_whole bytes parts [] raw c e (s, same) = record { spelled = s; words = subst (AllByRecursion IsLine) same c.are; whole = c.whole ∙ append-nil (text (lines_in parts)) ∙ ap text same }
+cut_whole bytes parts [] raw c e (s, same) = record { spelled = s; words = subst (AllByRecursion IsLine) same c.are_lines; bytes_are = c.split ∙ append-nil (text (lines_in parts)) ∙ ap text same }
 cut_whole bytes parts (b ∷ bs) raw c e s = absurd (omega (arith, e))
 
 pub cut_early : (bytes : List ℕ) (parts : List (List ℕ)) (last : List ℕ) → IsCut bytes parts last → length last ≡ 0 → Begins (lines_in parts) → ((raw : RawTable) → Spells (lines_in parts) raw → ⊥) → (n : ℕ) → n ≡ max 1 (length parts) → IsBadLine bytes n
-cut_early bytes parts [] c e b s n h = IsBadLine.early (lines_in parts) (c.whole ∙ append-nil (text (lines_in parts))) c.are b s (h ∙ ap (max 1) (sym (length-map parts words_of)))
+cut_early bytes parts [] c e b s n h = IsBadLine.early (lines_in parts) (c.split ∙ append-nil (text (lines_in parts))) c.are_lines b s (h ∙ ap (max 1) (sym (length-map parts words_of)))
 cut_early bytes parts (x ∷ xs) c e b s n h = absurd (omega (arith, e))
 
 pub cut_unended : (bytes : List ℕ) (parts : List (List ℕ)) (last : List ℕ) → IsCut bytes parts last → 0 < length last → Begins (lines_in parts) → (n : ℕ) → n ≡ length parts + 1 → IsBadLine bytes n
-cut_unended bytes parts last c e b n h = IsBadLine.unended (lines_in parts) last c.whole c.are c.last (λ f. omega (arith, e, ap length f)) b (h ∙ ap (λ k. k + 1) (sym (length-map parts words_of)))
+cut_unended bytes parts last c e b n h = IsBadLine.unended (lines_in parts) last c.split c.are_lines c.last (λ f. omega (arith, e, ap length f)) b (h ∙ ap (λ k. k + 1) (sym (length-map parts words_of)))
 
 pub cut_misplaced : (bytes : List ℕ) (parts : List (List ℕ)) (last : List ℕ) → IsCut bytes parts last → (n : ℕ) → IsMisplaced (lines_in parts) n → IsBadLine bytes n
 cut_misplaced bytes parts last c n m =
-    let all = all_front IsLine m.before (m.line ∷ m.rest) (subst (AllByRecursion IsLine) m.whole c.are) in
+    let all = all_front IsLine m.before (m.line ∷ m.rest) (subst (AllByRecursion IsLine) m.split c.are_lines) in
     IsBadLine.misplaced m.before m.line (text m.rest ++ last)
-    (c.whole ∙ ap (λ l. text l ++ last) m.whole ∙ ap (λ l. l ++ last) (flat_map-append line_text m.before (m.line ∷ m.rest)) ∙ append_assoc (text m.before) (line_text m.line ++ text m.rest) last ∙ ap (λ l. text m.before ++ l) (append_assoc (line_text m.line) (text m.rest) last))
+    (c.split ∙ ap (λ l. text l ++ last) m.split ∙ ap (λ l. l ++ last) (flat_map-append line_text m.before (m.line ∷ m.rest)) ∙ append_assoc (text m.before) (line_text m.line ++ text m.rest) last ∙ ap (λ l. text m.before ++ l) (append_assoc (line_text m.line) (text m.rest) last))
     all.0 all.1.0 m.begins m.first m.number
 
 fault_reading : (f : TabFault) (bytes : List ℕ) (parts : List (List ℕ)) (last : List ℕ) → IsCut bytes parts last → ReadsLines (lines_in parts) (Err f) → IsReading bytes (Err f)

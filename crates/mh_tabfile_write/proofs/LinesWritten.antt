@@ -1,4 +1,4 @@
--- Proves that lines that are written word by word are the lines of the form.
+-- Proves that the lines that are written word by word are the lines that the definition of table files gives.
 use Rattle.std.proofs.Common.{◌≡◌, ◌+◌, ◌<◌, ◌≤◌, ℕ, suc, length, drop, get_or, List, [], ◌∷◌, ◌++◌, map, Some, codes, decimal, arith, refl, append-nil, append_assoc, sym, ap, ◌∙◌}
 use Rattle.std.specs.List.{join_with_byte}
 use Rattle.std.specs.Prelude.{slice_index_or}

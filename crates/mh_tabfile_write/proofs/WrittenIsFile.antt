@@ -58,7 +58,8 @@ mapped : {X Y : Type 0} (P : X → Type 0) (Q : Y → Type 0) (f : X → Y) → 
 mapped P Q f h [] all = tt
 mapped P Q f h (x ∷ xs) (one, all) = (h x one, mapped P Q f h xs all)
 
--- If each value has the form and its line is a line, then so it is for the whole list.
+-- If each value of the list satisfies `IsRawX` and its line is well formed, then all values satisfy `IsRawX` and all
+-- their lines are well formed.
 legible : {X : Type 0} (IsRawX : X → Type 0) (line : X → Line) (xs : List X) → AllByRecursion (λ x. IsRawX x × IsLine (line x)) xs → AllByRecursion IsRawX xs × AllByRecursion IsLine (map line xs)
 legible IsRawX line xs h = (recursion-weaker (λ x. IsRawX x × IsLine (line x)) IsRawX (λ x both. both.0) xs h, mapped (λ x. IsRawX x × IsLine (line x)) IsLine line (λ x both. both.1) xs h)
 
@@ -142,7 +143,7 @@ module _ (g : Grammar) (h : HasWordNames g) (range : IsInRange (plain_of g)) whe
 
     -- States.
 
-    -- The content of a state has the form, and its lines are lines.
+    -- The state has the content that a table file needs (`IsRawState`), and its lines are well formed.
     abbrev pub Legible : RawState → Type 0
     Legible s = IsRawState s × AllByRecursion IsLine (map item_line s.items ++ (map edge_line s.edges ++ cells_lines s.cells))
 
@@ -248,7 +249,7 @@ module _ (g : Grammar) (h : HasWordNames g) (range : IsInRange (plain_of g)) whe
             ),
           ),
         );
-        whole = refl;
+        bytes_are = refl;
       }
 
 -- The written file of an automaton and its table is a table file with their content.

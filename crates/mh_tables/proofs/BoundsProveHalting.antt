@@ -109,8 +109,8 @@ ends : (t : TableData) (s : ℕ) (look : Option ℕ) (r n : ℕ) → EndsAlone t
 ends t s look r n e makes =
     let few = e.stops.few in
     elim (cases_lt e.count n) [
-      | inl l ↦ absurd (no_more_reductions t (look_list look) e.count n (r ∷ s ∷ []) (r ∷ e.stack) makes.0 (reductions_above t (look_list look) r e.count (s ∷ []) e.stack (omega arith) e.stops.made)
-          (over_above t (look_list look) r e.stack e.begun e.goes) l makes.1)
+      | inl l ↦ absurd (no_more_reductions t (look_list look) e.count n (r ∷ s ∷ []) (r ∷ e.stack) makes.0 (reductions_above t (look_list look) r e.count (s ∷ []) e.stack (omega arith) e.stops.stack_is)
+          (over_above t (look_list look) r e.stack e.not_empty e.continues) l makes.1)
       | inr l ↦ omega arith
     ]
 
@@ -129,10 +129,10 @@ passes t s look r n count to a makes =
       | inl l ↦ (
           let j : ℕ = n - count - 1 in
           let e : count + suc j ≡ n = omega arith in
-          let rest = reductions_rest t (look_list look) count (suc j) (r ∷ s ∷ []) (r ∷ a.stack) makes.0 (reductions_above t (look_list look) r count (s ∷ []) a.stack (omega arith) a.stops.made) (rw e makes.1) in
+          let rest = reductions_rest t (look_list look) count (suc j) (r ∷ s ∷ []) (r ∷ a.stack) makes.0 (reductions_above t (look_list look) r count (s ∷ []) a.stack (omega arith) a.stops.stack_is) (rw e makes.1) in
           let split = reductions_split t (look_list look) (r ∷ a.stack) makes.0 j rest in
-          let goes = along t (look_list look) r a.goes.0 a.stack split.0 (rw (top_above r a.stack a.begun) a.goes.1) a.goes.2 split.1 in
-          inr (record { rest = j; sum = omega arith; target = goes.target; edge = rw (← a.goes.3) goes.edge; makes = (makes.0, rw goes.is at split.2) }))
+          let goes = along t (look_list look) r a.continues.0 a.stack split.0 (rw (top_above r a.stack a.not_empty) a.continues.1) a.continues.2 split.1 in
+          inr (record { rest = j; sum = omega arith; target = goes.target; edge = rw (← a.continues.3) goes.edge; makes = (makes.0, rw goes.is at split.2) }))
       | inr l ↦ inl (omega arith)
     ]
 
@@ -154,7 +154,7 @@ module _ (t : TableData) (f : Facts t) (ps : List Passage) (bounds : List ℕ) (
       let by = reduces_from_move t u left p move in
       let range = f.ordinary u p by in
       elim (f.complete u p by) [
-        | inl core ↦ all.units p range.0 range.1 x one (f.behind r x u p 1 edge (rw one at core)).symbol
+        | inl core ↦ all.units p range.0 range.1 x one (f.moved_from r x u p 1 edge (rw one at core)).symbol
         | inr none ↦ absurd (let zero_long = none.0 in omega arith)
       ]
 

@@ -1,4 +1,5 @@
--- Lemmas on the search for the first relative run that loops, for each of its loops.
+-- Lemmas on the search for the first relative run that makes more than `MAX_REDUCTIONS` reductions (that loops), for
+-- each loop of the search.
 use Rattle.std.proofs.Common.{◌≡◌, ℕ, zero, suc, ◌+◌, ◌<◌, ◌≤◌, ◌⊎◌, inl, inr, List, [], ◌∷◌, ◌++◌, length, get_or, Some, None, Option, Bool, true, false, cond, refl, ap, sym, arith, ◌∙◌, below_more}
 use Rattle.std.proofs.lemmas.Bool.{cases_lt, cases_eq}
 use Rattle.std.proofs.lemmas.List.{get_or_default}
@@ -42,7 +43,7 @@ here_or e es x u true h rest = (0, e, omega arith, refl, cc)
 here_or e es x u false h rest = let r = rest h in (suc r.0, r.1, (let l = r.2 in omega arith), r.3, r.4)
 
 -- An edge that is found is in the list.
-found_at : (es : List Edge) (x : Symbol) (u : ℕ) → find_edge es x ≡ Some u → FoundAt es u
+pub found_at : (es : List Edge) (x : Symbol) (u : ℕ) → find_edge es x ≡ Some u → FoundAt es u
 found_at [] x u h = cc
 found_at (e ∷ es) x u h = here_or e es x u (same_symbol e.symbol x) h (found_at es x u)
 
@@ -55,7 +56,7 @@ pub target_added : (t : TableData) (r u : ℕ) (old new : List ℕ) → IsBeginn
 target_added t r u old new begins is = record {
   each = λ h. rw is (All-push (IsBeginning t (Some r)) old u h begins);
   kept = λ v there. rw is (Contains-append_left old (u ∷ []) v there);
-  here = inl (rw is (Contains-push old u));
+  added_or_halts = inl (rw is (Contains-push old u));
 }
 
 -- The list of targets is complete after all edges were visited and the list was sorted.
@@ -84,7 +85,7 @@ targets_more t r n es old new e at adds before k d l is = elim (cases_eq k n) [
   | inl same ↦ (
       let one : Some d ≡ Some e = sym is ∙ ap (slice_get es) same ∙ at in
       let edge : d ≡ e = cc in
-      rw edge adds.here)
+      rw edge adds.added_or_halts)
   | inr other ↦ elim (before k d (omega arith) is) [ inl c ↦ inl (adds.kept d.target c) | inr clear ↦ inr clear ]
 ]
 
@@ -94,7 +95,7 @@ first_looping_alone t s look lt before found = record { begins = lt; first = fou
 pub none_loops_alone_more : (t : TableData) (s : ℕ) → ((s' : ℕ) → s' < s → NeverLoops t None s') → NeverLoops t None s → (s' : ℕ) → s' < s + 1 → NeverLoops t None s'
 none_loops_alone_more t s before here = below_more (λ k. NeverLoops t None k) s before here
 
--- The first target with a relative run that loops.
+-- The first target above which a relative run loops.
 pub first_looping_above : (t : TableData) (r : ℕ) (targets : List ℕ) (i s : ℕ) (look : Option ℕ) → AreTargets t r targets → i < length targets → s ≡ get_or targets i 0 → ((k : ℕ) → k < i → NeverLoops t (Some r) (get_or targets k 0))
     → IsFirstLoopingLook t (Some r) s look → IsFirstLoopingState t (Some r) s look
 first_looping_above t r targets i s look h lt is before found = record {

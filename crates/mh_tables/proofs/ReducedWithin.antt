@@ -46,7 +46,7 @@ pub StackReduced-result : (t : TableData) (f : Facts t) (p : ℕ) (stack : List 
     → IsReductionResult t p stack (length stack - m) g
 StackReduced-result t f p stack m l g e_m e_l lt e = record {
   is = reduce_by t p stack m l (Some g) e_m e_l lt e;
-  begun = omega arith;
+  keeps_some = omega arith;
   within = omega arith;
   known = f.each_target _ _ g e;
 }

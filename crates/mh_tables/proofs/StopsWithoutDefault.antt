@@ -7,7 +7,7 @@ use Rattle.mh_tables_core.specs.declared.parts.Fallback.{Fallback}
 use Rattle.mh_tables_core.specs.declared.parts.Fallback.TheVariants as fallbacks
 use Rattle.mh_tables_core.specs.Table.{TableData, fallback_of, cell_of}
 use Rattle.mh_tables_core.specs.Run.{RunMove, Reduces, run_move_of, move_by_default, move_of_next, top_of, reduced_by, reduction, reductions}
-use Rattle.mh_tables_core.specs.declared.halting.TheConstants.{MAX_REDUCTIONS}
+use Rattle.mh_tables_core.specs.Limits.{max_reductions}
 use Rattle.mh_tables_core.specs.Halting.{RunLoops, NeverLoops, look_list, beginning}
 use Rattle.mh_tables.specs.code.Relative.{StopsWithinLimit, StopsWithoutDefault, IsReducedWithinResult, LoopsOrNot, LoopsOrStops}
 use Rattle.mh_tables_core.proofs.Reductions.{action_reduces, reduction_some, reduction_is, reductions_zero, reductions_none, reductions_split, reductions_before}
@@ -42,28 +42,28 @@ same_by_default t left stack f e = rw e (ap (reduced_by t stack) (by_default f (
 pub stops_not_loops : (t : TableData) (below : Option ℕ) (s : ℕ) (look : Option ℕ) (stack : List ℕ) → StopsWithinLimit t below s look stack → RunLoops t below s look → ⊥
 stops_not_loops t below s look stack out loops =
     let few = out.few in
-    no_more_reductions t (look_list look) out.count 10001 (beginning below s) stack loops.0 out.made out.over (omega arith) loops.1
+    no_more_reductions t (look_list look) out.count 10001 (beginning below s) stack loops.0 out.stack_is out.stops (omega arith) loops.1
 
 -- A relative run that was tried loops exactly if it did not stop within the limit.
 module _ (t : TableData) (below : Option ℕ) (s : ℕ) (look : Option ℕ) (stack : List ℕ) where
-  pub loops_or : (stopped : Option ℕ) (found : Bool) → is_some stopped ≡ not found → IsReducedWithinResult t below s look MAX_REDUCTIONS stack stopped → LoopsOrNot t below s look found
+  pub loops_or : (stopped : Option ℕ) (found : Bool) → is_some stopped ≡ not found → IsReducedWithinResult t below s look max_reductions stack stopped → LoopsOrNot t below s look found
   loops_or None true e made = (stack, made)
   loops_or None false e made = cc
   loops_or (Some count) true e stops = cc
-  loops_or (Some count) false e stops = stops_not_loops t below s look stack (record { count = count; few = stops.few; made = stops.made; over = stops.over })
+  loops_or (Some count) false e stops = stops_not_loops t below s look stack (record { count = count; few = stops.few; stack_is = stops.stack_is; stops = stops.stops })
 
-  pub tried_or : (stopped : Option ℕ) (found : Bool) → is_some stopped ≡ not found → IsReducedWithinResult t below s look MAX_REDUCTIONS stack stopped → LoopsOrStops t below s look stack found
+  pub tried_or : (stopped : Option ℕ) (found : Bool) → is_some stopped ≡ not found → IsReducedWithinResult t below s look max_reductions stack stopped → LoopsOrStops t below s look stack found
   tried_or None true e made = (stack, made)
   tried_or None false e made = cc
   tried_or (Some count) true e stops = cc
-  tried_or (Some count) false e stops = record { count = count; few = stops.few; made = stops.made; over = stops.over }
+  tried_or (Some count) false e stops = record { count = count; few = stops.few; stack_is = stops.stack_is; stops = stops.stops }
 
 -- A relative run that stops in a state with a default does not loop with any token.
 pub not_loops_by_default : (t : TableData) (below : Option ℕ) (s top : ℕ) (stack : List ℕ) (f : Fallback) → StopsWithinLimit t below s None stack → top ≡ top_of stack → fallback_of t top ≡ Some f → NeverLoops t below s
 not_loops_by_default t below s top stack f out is e look known loops =
     let few = out.few in
-    no_more_reductions t (look_list look) out.count 10001 (beginning below s) stack loops.0 (reductions_first t (look_list look) (beginning below s) stack out.count out.made)
-    (same_by_default t (look_list look) stack f (rw is at e) ∙ out.over) (omega arith) loops.1
+    no_more_reductions t (look_list look) out.count 10001 (beginning below s) stack loops.0 (reductions_first t (look_list look) (beginning below s) stack out.count out.stack_is)
+    (same_by_default t (look_list look) stack f (rw is at e) ∙ out.stops) (omega arith) loops.1
 
 bare_reduces : (t : TableData) (s z : ℕ) (left : List ℕ) (p : ℕ) → fallback_of t s ≡ None → run_move_of t s (z ∷ left) ≡ Reduces p → cell_of t s z ≡ actions.Reduce p
 unfolding run_move_of
@@ -72,6 +72,6 @@ bare_reduces t s z left p bare e = action_reduces (cell_of t s z) p (rw bare at 
 -- A relative run does not loop with a token whose cell is not a reduction.
 pub not_loops_without_reduce : (t : TableData) (below : Option ℕ) (s top z : ℕ) (a : Action) → StopsWithoutDefault t below s top → a ≡ cell_of t top z → ((p : ℕ) → a ≡ actions.Reduce p → ⊥) → RunLoops t below s (Some z) → ⊥
 not_loops_without_reduce t below s top z a w is none loops =
-    let few = w.out.few in
-    no_more_reductions t (z ∷ []) w.out.count 10001 (beginning below s) w.stack loops.0 (reductions_first t (z ∷ []) (beginning below s) w.stack w.out.count w.out.made)
-    (no_reduction t (z ∷ []) w.stack (λ p e. none p (is ∙ (bare_reduces t top z [] p w.bare (rw (← w.stands) at e))))) (omega arith) loops.1
+    let few = w.stops.few in
+    no_more_reductions t (z ∷ []) w.stops.count 10001 (beginning below s) w.stack loops.0 (reductions_first t (z ∷ []) (beginning below s) w.stack w.stops.count w.stops.stack_is)
+    (no_reduction t (z ∷ []) w.stack (λ p e. none p (is ∙ (bare_reduces t top z [] p w.no_default (rw (← w.top_is) at e))))) (omega arith) loops.1

@@ -5,7 +5,8 @@ use Rattle.mh_tables_core.specs.Halting.{AlwaysHalts, LoopsAt}
 use Rattle.mh_tables.specs.declared.checking.HaltFault.{HaltFault}
 use Rattle.mh_tables.specs.declared.checking.HaltFault.TheVariants as faults
 
--- The fault names the first relative run that loops. `Memory` says nothing about the table.
+-- The fault names the first relative run that makes more than `MAX_REDUCTIONS` reductions. `Memory` says nothing about
+-- the table.
 abbrev pub FaultOf : TableData → HaltFault → Type 0
 FaultOf t (faults.Loops below s look) = LoopsAt t below s look
 FaultOf t faults.Memory = Unit {0}

@@ -1,8 +1,9 @@
 //! Upper bounds on the reductions of relative runs above an edge, computed once for each symbol instead of once for
 //! each edge. At first such a run makes the reductions of its upper state alone, which are the same above every lower
-//! state. If the next reduction takes off exactly the states above the lower one, the run continues above the edge of
-//! the lower state on the left side. So a bound for one symbol follows from the bounds of other symbols. If the graph
-//! of these passages has no cycle, no run above an edge has to be tried.
+//! state. If the next reduction removes exactly the states above the lower one, the run continues above the edge of the
+//! lower state on the left side: a passage from the symbol of the first edge to this left side. So a bound for one
+//! symbol follows from the bounds of other symbols. If the graph of the passages has no cycle, no run above an edge has
+//! to be tried.
 ghost use Rattle.std.specs.Prelude.{◌≡◌, ◌<◌, ◌≤◌, ◌+◌, ℕ, true, false, length, vec_len, slice_index, All, Contains, IfOk, OnOk};
 ghost use Rattle.mh_grammar.specs.Plain.{production_count, rhs_of, IsSymbolBelow};
 ghost use Rattle.mh_tables_core.specs.Halting.{IsLook, look_list};
@@ -211,8 +212,8 @@ fn passage_of(
     }
 }
 
-/// Appends the passage of a state with this next token, if there is one and if the last passage does not give up the
-/// symbol already.
+/// Appends the passage of a state with this next token, if there is one, unless the last passage already shows that the
+/// symbol has no useful bound.
 fn add_passage(
     table: &Table,
     stack: &mut Vec<u32>,
@@ -317,7 +318,7 @@ fn raise(bounds: &mut Vec<u32>, passage: Passage, patient: bool) -> bool
     requires to { passage.to < vec_len bounds.old }
     ensures size { vec_len bounds.new ≡ vec_len bounds.old }
     ensures same { result ≡ false → bounds.new.items ≡ bounds.old.items }
-    ensures lifted { result ≡ false → IsBoundHighEnough bounds.old.items passage }
+    ensures high_enough { result ≡ false → IsBoundHighEnough bounds.old.items passage }
 {
     let asked = needed_bound(passage.count, bounds[passage.to as usize]);
     if asked <= bounds[passage.from as usize] {
@@ -342,7 +343,7 @@ fn raise_backward(bounds: &mut Vec<u32>, passages: &[Passage], patient: bool)
 fn raise_forward(bounds: &mut Vec<u32>, passages: &[Passage], patient: bool) -> bool
     requires { All (λ p. (p.from < vec_len bounds.old) × (p.to < vec_len bounds.old)) passages.now }
     ensures size { vec_len bounds.new ≡ vec_len bounds.old }
-    ensures lifted { result ≡ false → All (IsBoundHighEnough bounds.new.items) passages.now }
+    ensures high_enough { result ≡ false → All (IsBoundHighEnough bounds.new.items) passages.now }
 {
     let mut lower = false;
     for passage in passages {
@@ -355,7 +356,7 @@ fn raise_forward(bounds: &mut Vec<u32>, passages: &[Passage], patient: bool) -> 
 fn raise_until_stable(bounds: &mut Vec<u32>, passages: &[Passage]) -> bool
     requires { All (λ p. (p.from < vec_len bounds.old) × (p.to < vec_len bounds.old)) passages.now }
     ensures size { vec_len bounds.new ≡ vec_len bounds.old }
-    ensures lifted { result ≡ true → All (IsBoundHighEnough bounds.new.items) passages.now }
+    ensures high_enough { result ≡ true → All (IsBoundHighEnough bounds.new.items) passages.now }
 {
     'rounds: for round in 0..MAX_ROUNDS {
         let patient = round < PATIENCE;
@@ -372,7 +373,7 @@ fn raise_until_stable(bounds: &mut Vec<u32>, passages: &[Passage]) -> bool
 fn lifted(alloc: Global, passages: &[Passage], count: usize) -> Result<Vec<u32>, AllocError>
     requires { All (λ p. (p.from < count) × (p.to < count)) passages.now }
     ensures size { IfOk result (λ bounds. length bounds.items ≡ count) }
-    ensures lifted { IfOk result (λ bounds. All (IsBoundHighEnough bounds.items) passages.now) }
+    ensures high_enough { IfOk result (λ bounds. All (IsBoundHighEnough bounds.items) passages.now) }
 {
     let mut bounds = vec![in alloc; 0u32; count]?;
     if raise_until_stable(&mut bounds, passages) {
@@ -382,7 +383,7 @@ fn lifted(alloc: Global, passages: &[Passage], count: usize) -> Result<Vec<u32>,
 }
 
 /// Returns upper bounds on the reductions of relative runs above an edge, by the index of the edge's symbol. If the
-/// bound of the symbol is at most `MAX_BOUND`, no run above the edge loops.
+/// bound of the symbol is at most `MAX_BOUND`, no run above the edge makes more than `MAX_REDUCTIONS` reductions.
 pub(crate) fn bounds_of(
     alloc: Global,
     table: &Table,

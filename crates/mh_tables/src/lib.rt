@@ -4,9 +4,11 @@
 
 mod bounds;
 mod checking;
+mod laws;
 mod relative_runs;
 
 pub use checking::{HaltFault, check_halts};
+pub use laws::halts_or_loops;
 pub use mh_tables_core::{
     Action, Fallback, Halting, MAX_REDUCTIONS, NextAction, Place, StateParts, Table, choose,
     halting_of, table_of,

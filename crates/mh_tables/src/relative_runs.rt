@@ -8,13 +8,15 @@ ghost use Rattle.mh_tables_core.specs.Run.{top_of as top};
 ghost use Rattle.mh_tables_core.specs.Halting.{IsLook, look_list, IsBeginning, beginning};
 ghost use Rattle.mh_tables.specs.code.Relative.{IsReduceOnceResult, ReducesNext, StackReduced, IsReducedWithinResult, LoopsOrStops, LoopsOrNot, StopsWithoutDefault, LookFound, TokenFound, StateFound, AddsTarget, AreTargets, TestFound};
 ghost use Rattle.mh_tables.specs.code.Passages.{symbol_count, BoundsProveHalting};
+ghost use Rattle.mh_tables_core.specs.Limits.{max_reductions};
 
 use crate::bounds::{MAX_BOUND, bounds_of, place_of};
 use mh_grammar::{Edge, Token};
 use mh_tables_core::{Action, MAX_REDUCTIONS, NextAction, Table, choose};
 use std::alloc::{AllocError, Global};
 
-/// A relative run: it begins in a state, alone or above another state, with this next token or none.
+/// A relative run: reductions with this next token or none, which begin in a state alone or above another state, and
+/// end before one removes the lowest state.
 #[derive(Clone, Copy)]
 pub(crate) struct RelativeRun {
     /// The lower state, if there is one.
@@ -123,8 +125,8 @@ pub(crate) fn reduced_within(
     requires look { IsLook table.now look }
     requires below { ForSome below (λ r. r < length table.now.states) }
     requires state { state < length table.now.states }
-    requires most { most ≤ MAX_REDUCTIONS }
-    ensures made { IfOk result (λ count. IsReducedWithinResult table.now below state look most stack.new.items count) }
+    requires most { most ≤ max_reductions }
+    ensures value { IfOk result (λ count. IsReducedWithinResult table.now below state look most stack.new.items count) }
     ensures begun { OnOk result (0 < length stack.new.items) }
     ensures known { OnOk result (All (λ s. s < length table.now.states) stack.new.items) }
 {
@@ -171,7 +173,7 @@ fn loops_on(
     requires below { ForSome below (λ r. r < length table.now.states) }
     requires state { state < length table.now.states }
     requires top { top < length table.now.states }
-    requires waits { StopsWithoutDefault table.now below state top }
+    requires no_default { StopsWithoutDefault table.now below state top }
     ensures { IfOk result (λ found. LoopsOrNot table.now below state (Some token) found) }
 {
     match table.action(top, token) {
@@ -192,7 +194,7 @@ fn first_token(
     requires below { ForSome below (λ r. r < length table.now.states) }
     requires state { state < length table.now.states }
     requires top { top < length table.now.states }
-    requires waits { StopsWithoutDefault table.now below state top }
+    requires no_default { StopsWithoutDefault table.now below state top }
     ensures { IfOk result (λ found. TokenFound table.now below state found) }
 {
     'tokens: for token in 0..table.tokens() {
@@ -247,7 +249,7 @@ fn first_start(table: &Table, stack: &mut Vec<u32>) -> Result<Option<RelativeRun
 }
 
 /// Appends the target of an edge of state `from`, unless the bound of its symbol shows that no relative run above the
-/// edge loops.
+/// edge makes more than `MAX_REDUCTIONS` reductions.
 fn add_target(
     table: &Table,
     bounds: &[u32],

@@ -16,7 +16,7 @@ pub no_dot_at_beginning : (t : TableData) (f : Facts t) (s p : ℕ) → length t
 no_dot_at_beginning t f s p ordinary there =
     elim (cases_lt s (length t.grammar.starts)) [
       | inl l ↦ omega (arith, (f.start_core s p 0 l there).0)
-      | inr r ↦ omega (arith, f.other_core s p 0 r there)
+      | inr r ↦ omega (arith, f.other_cores_moved s p 0 r there)
     ]
 
 -- The claim about the pair (p, d) in the core of the state at index k of the stack.
@@ -33,8 +33,8 @@ walks_back t f stack h p (suc d) zero ordinary inside there = absurd (omega (ari
 walks_back t f stack h p (suc d) (suc k) ordinary inside there =
     let lt : k + 1 < length stack = omega arith in
     let edge = h.path.edges k lt in
-    let back = f.behind (get_or stack k 0) edge.0 (get_or stack (k + 1) 0) p (suc d) edge.1 (let e : k + 1 ≡ suc k = omega arith in rw e there) in
-    elim back.begun [
+    let back = f.moved_from (get_or stack k 0) edge.0 (get_or stack (k + 1) 0) p (suc d) edge.1 (let e : k + 1 ≡ suc k = omega arith in rw e there) in
+    elim back.source [
       | inl before ↦ back_on t stack p d k (walks_back t f stack h p d k ordinary (omega arith) (let e : suc d - 1 ≡ d = omega arith in rw e at before))
       | inr first ↦ (omega arith, omega (arith, first.0), let e : suc k - suc d ≡ k = omega (arith, first.0) in rw e first.2)
     ]
@@ -52,15 +52,15 @@ pub finds_states_and_edge : (t : TableData) (f : Facts t) (stack : List ℕ) (h 
 finds_states_and_edge t f stack h p r =
     elim (f.complete (top_of stack) p r) [
       | inl full ↦ (
-          let back = walks_back t f stack h p (length (rhs_of t.grammar p)) (length stack - 1) (f.ordinary (top_of stack) p r).0 (let b = h.path.begun in omega arith) full in
-          let b = h.path.begun in
+          let back = walks_back t f stack h p (length (rhs_of t.grammar p)) (length stack - 1) (f.ordinary (top_of stack) p r).0 (let b = h.path.not_empty in omega arith) full in
+          let b = h.path.not_empty in
           record {
             states = omega (arith, back.1);
             goto = rw (top_of_take stack (length stack - length (rhs_of t.grammar p)) (omega (arith, back.1)) (omega arith))
                 (let e : length stack - length (rhs_of t.grammar p) - 1 ≡ length stack - 1 - length (rhs_of t.grammar p) = omega arith in rw e back.2);
           })
       | inr empty ↦ (
-          let b = h.path.begun in
+          let b = h.path.not_empty in
           record {
             states = omega (arith, empty.0);
             goto = rw (top_of_take stack (length stack - length (rhs_of t.grammar p)) (omega (arith, empty.0)) (omega arith))
@@ -71,7 +71,7 @@ finds_states_and_edge t f stack h p r =
 -- A path with an edge appended is a path.
 pub IsPath-push : (t : TableData) (stack : List ℕ) (x : Symbol) (u : ℕ) → IsPath t stack → edge_of t (top_of stack) x ≡ Some u → IsPath t (stack ++ u ∷ [])
 IsPath-push t stack x u h e = record {
-  begun = rw length-append (omega arith);
+  not_empty = rw length-append (omega arith);
   edges = λ k lt.
       let lt' : k + 1 < length stack + 1 = let l = length-append stack (u ∷ []) in omega arith in
       elim (cases_lt (k + 1) (length stack)) [
@@ -79,7 +79,7 @@ IsPath-push t stack x u h e = record {
             let edge = h.edges k inside in
             (edge.0, rw (get_or-append stack (u ∷ []) 0 k (omega arith), get_or-append stack (u ∷ []) 0 (k + 1) inside) edge.1))
         | inr past ↦ (
-            let b = h.begun in
+            let b = h.not_empty in
             let at : k + 1 ≡ length stack = omega arith in
             let last : length stack - 1 ≡ k = omega arith in
             (x, rw (get_or-append stack (u ∷ []) 0 k (omega arith), at, get_or-append_seam stack u [] 0) (rw last at e)))
@@ -89,7 +89,7 @@ IsPath-push t stack x u h e = record {
 -- A prefix of a path is a path.
 pub IsPath-take : (t : TableData) (stack : List ℕ) (n : ℕ) → 0 < n → n ≤ length stack → IsPath t stack → IsPath t (take n stack)
 IsPath-take t stack n pos le h = record {
-  begun = rw (length-take-le n stack le) pos;
+  not_empty = rw (length-take-le n stack le) pos;
   edges = λ k lt.
       let lt' : k + 1 < n = let l = length-take-le n stack le in omega arith in
       let edge = h.edges k (omega arith) in
@@ -99,7 +99,7 @@ IsPath-take t stack n pos le h = record {
 pub IsRunStack-push : (t : TableData) (stack : List ℕ) (x : Symbol) (u : ℕ) → IsRunStack t stack → edge_of t (top_of stack) x ≡ Some u → IsRunStack t (stack ++ u ∷ [])
 IsRunStack-push t stack x u h e = record {
   path = IsPath-push t stack x u h.path e;
-  start = rw (get_or-append stack (u ∷ []) 0 0 h.path.begun) h.start;
+  start = rw (get_or-append stack (u ∷ []) 0 0 h.path.not_empty) h.start;
 }
 
 pub IsRunStack-take : (t : TableData) (stack : List ℕ) (n : ℕ) → 0 < n → n ≤ length stack → IsRunStack t stack → IsRunStack t (take n stack)

@@ -120,7 +120,7 @@ module _ (t : TableData) (f : Facts t) (start : ℕ) (w : List ℕ) (read n : �
   accepts =
       let c : Config = after t n (initial start w) in
       let m = step_accepts t c read e in
-      accepts_one t f c.stack (trees_after t n (initial start w) []) (TreesMatchRun-start t f start n w lt).grown (accepts_by_default t (top_of c.stack) c.left m.0)
+      accepts_one t f c.stack (trees_after t n (initial start w) []) (TreesMatchRun-start t f start n w lt).match_stack (accepts_by_default t (top_of c.stack) c.left m.0)
 
   -- The run leaves one tree.
   pub accepted_one : trees_after t n (initial start w) [] ≡ get_or (trees_after t n (initial start w) []) 0 (Leaf 0) ∷ []

@@ -19,7 +19,7 @@ LexLe-antisym (x ∷ u) (y ∷ v) (inl a) (inr b) = absurd (let e = b.0 in omega
 LexLe-antisym (x ∷ u) (y ∷ v) (inr a) (inl b) = absurd (let e = a.0 in omega arith)
 LexLe-antisym (x ∷ u) (y ∷ v) (inr a) (inr b) = let tail = LexLe-antisym u v a.1 b.1 in rw (a.0, tail) refl
 
--- The trichotomy of numbers.
+-- Of two numbers, one is less than the other, or they are equal.
 three_ways : (a b : ℕ) → (a < b) ⊎ ((a ≡ b) ⊎ (b < a))
 three_ways a b = elim (cases_lt a b) [
   | inl less ↦ inl less

@@ -1,4 +1,4 @@
--- Proves that the first relative run that loops is unique.
+-- Proves that the first relative run that makes more than `MAX_REDUCTIONS` reductions is unique.
 use Rattle.std.proofs.Common.{◌≡◌, ℕ, ◌<◌, ◌⊎◌, inl, inr, Some, None, Option, refl, ap, arith}
 use Rattle.std.proofs.lemmas.Bool.{cases_lt}
 use Rattle.mh_tables_core.specs.Table.{TableData}
@@ -48,7 +48,7 @@ same_look t below s look look' h h' =
       ])
     ]
 
--- A table has at most one first relative run that loops.
+-- A table has at most one first relative run that makes more than `MAX_REDUCTIONS` reductions.
 pub loop_unique : (t : TableData) (below : Option ℕ) (s : ℕ) (look below' : Option ℕ) (s' : ℕ) (look' : Option ℕ) → LoopsAt t below s look → LoopsAt t below' s' look' → (below ≡ below') × (s ≡ s') × (look ≡ look')
 loop_unique t below s look below' s' look' h h' =
     let b : below ≡ below' = same_below t below s look below' s' look' h h' in

@@ -157,7 +157,7 @@ pub step_reduces : (t : TableData) (c : Config) (new : List ℕ) → reduction t
 unfolding step
 step_reduces t c new e = let r = reduction_some t c.left c.stack new e in rw (r.1, r.2) refl
 
--- Reductions are as many steps.
+-- If a run can make n reductions, they are its next n steps.
 pub after_reductions : (t : TableData) (read : ℕ) (left stack new : List ℕ) (n : ℕ) → reductions t left n stack ≡ Some new
     → after t n (record { stack = stack; read = read; left = left }) ≡ record { stack = new; read = read; left = left }
 after_reductions t read left stack new zero e = ap (λ (s : List ℕ). record { stack = s; read = read; left = left }) (reductions_zero t left stack new e)

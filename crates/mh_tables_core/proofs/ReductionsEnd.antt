@@ -10,17 +10,18 @@ use Rattle.mh_tables_core.specs.Halting.{AlwaysHalts, IsBeginning, beginning, Is
 use Rattle.mh_tables_core.proofs.IsPath.{FindsStatesAndEdge, finds_states_and_edge, reduce_is, IsRunStack-reduce}
 use Rattle.mh_tables_core.proofs.Reductions.{reduces_from_move, reduced, reduction_is, reduction-drop, reductions_more, reductions_before, reductions_none}
 
--- The stack from index `floor` on is the result of `count` reductions of a relative run.
+-- The stack from index `floor` on is the result of `count` reductions of a relative run, whose lowest state is at that
+-- index.
 pub record Relative (t : TableData) (look : Option ℕ) (stack : List ℕ) (floor count : ℕ) : Type 0 where
   pub below : Option ℕ
   pub state : ℕ
   pub begins : IsBeginning t below state
   pub within : floor < length stack
-  pub made : reductions t (look_list look) count (beginning below state) ≡ Some (drop floor stack)
+  pub stack_is : reductions t (look_list look) count (beginning below state) ≡ Some (drop floor stack)
 
 -- There are at most `MAX_REDUCTIONS` such reductions.
 pub Relative-few : (t : TableData) (h : AlwaysHalts t) (look : Option ℕ) (l : IsLook t look) (stack : List ℕ) (floor count : ℕ) → Relative t look stack floor count → count ≤ 10000
-Relative-few t h look l stack floor count r = h r.below r.state look count r.begins l (drop floor stack, r.made)
+Relative-few t h look l stack floor count r = h r.below r.state look count r.begins l (drop floor stack, r.stack_is)
 
 -- A stack of length 1 consists of its last state. The end of a longer stack consists of its last two states.
 last_state : (stack : List ℕ) → length stack ≡ 1 → stack ≡ get_or stack 0 0 ∷ []
@@ -36,13 +37,13 @@ last_two stack le =
 
 begins_low : (t : TableData) (look : Option ℕ) (stack : List ℕ) → IsRunStack t stack → length stack < 2 → Relative t look stack (length stack - 2) 0
 begins_low t look stack run low =
-    let b = run.path.begun in
+    let b = run.path.not_empty in
     record {
       below = None;
       state = get_or stack 0 0;
       begins = run.start;
       within = omega arith;
-      made = reductions_none t (look_list look) (get_or stack 0 0 ∷ []) ∙
+      stack_is = reductions_none t (look_list look) (get_or stack 0 0 ∷ []) ∙
           ap (λ (l : List ℕ). Some l) (let e : length stack - 2 ≡ 0 = omega arith in rw e (sym (last_state stack (omega arith))));
     }
 
@@ -52,7 +53,7 @@ begins_high t look stack run high = record {
   state = get_or stack (length stack - 2 + 1) 0;
   begins = run.path.edges (length stack - 2) (omega arith);
   within = omega arith;
-  made = reductions_none t (look_list look) (get_or stack (length stack - 2) 0 ∷ get_or stack (length stack - 2 + 1) 0 ∷ []) ∙
+  stack_is = reductions_none t (look_list look) (get_or stack (length stack - 2) 0 ∷ get_or stack (length stack - 2 + 1) 0 ∷ []) ∙
       ap (λ (l : List ℕ). Some l) (sym (last_two stack high));
 }
 
@@ -69,7 +70,7 @@ Relative-step t look stack new floor count p r m lt e = record {
   state = r.state;
   begins = r.begins;
   within = let d = reduced t p stack new e in rw d.is (rw length-append (rw (length-take-le (length stack - length (rhs_of t.grammar p)) stack (omega arith)) (omega arith)));
-  made = reductions_more t (look_list look) (beginning r.below r.state) (drop floor stack) (drop floor new) count r.made (reduction-drop t (look_list look) stack new floor p m lt e);
+  stack_is = reductions_more t (look_list look) (beginning r.below r.state) (drop floor stack) (drop floor new) count r.stack_is (reduction-drop t (look_list look) stack new floor p m lt e);
 }
 
 -- The next move is not a reduction.

@@ -55,7 +55,7 @@ stuck_not t n c how e h = let both : Ends how ≡ Stuck = sym h ∙ ap (step t) 
 abbrev Earlier : TableData → ℕ → ℕ → ℕ → Type 0
 Earlier t n at s = (stack : List ℕ) (read : ℕ) (left : List ℕ) → step t (after t n (at_left stack read left)) ≡ Ends (Rejected at s) → Cut t n stack read left at s
 
--- An end of the run at the first step is the refusal.
+-- If the run ends at its first step, this end is the refusal, and the run with fewer tokens is refused too.
 cut_ended : (t : TableData) (n : ℕ) (stack : List ℕ) (read : ℕ) (left : List ℕ) (at s : ℕ) (m : RunMove) (how : Ending) → run_move_of t (top_of stack) left ≡ m → step_by t (at_left stack read left) m ≡ Ends how
     → step t (after t n (at_left stack read left)) ≡ Ends (Rejected at s) → Cut t (suc n) stack read left at s
 cut_ended t n stack read left at s m how e ended h =

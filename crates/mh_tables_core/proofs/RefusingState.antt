@@ -27,11 +27,11 @@ module _ (t : TableData) where
   reached f start w at s lt (n, is) =
       let c = after t n (initial start w) in
       let stands = TreesMatchRun-start t f start n w lt in
-      let grown = stands.grown in
+      let grown = stands.match_stack in
       record {
         stack = c.stack;
         run = record {
-          path = record { begun = let l = grown.len in omega arith; edges = λ k within. let l = grown.len in let edge = grown.each k (omega arith) in (edge.0, edge.1) };
+          path = record { not_empty = let l = grown.len in omega arith; edges = λ k within. let l = grown.len in let edge = grown.each k (omega arith) in (edge.0, edge.1) };
           start = grown.start;
         };
         top = refused_in c (run_move_of t (top_of c.stack) c.left) at s (sym (step_moves t c (run_move_of t (top_of c.stack) c.left) refl) ∙ is);
@@ -39,7 +39,7 @@ module _ (t : TableData) where
 
   last_known : Facts t → (s : ℕ) → Reached s → s < length t.states
   last_known f s r =
-      let begun = r.run.path.begun in
+      let begun = r.run.path.not_empty in
       let top = r.top in
       rw top (IsRunStack-in_range t f r.stack r.run (length r.stack - 1) (omega arith))
 

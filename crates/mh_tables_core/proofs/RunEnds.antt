@@ -85,7 +85,7 @@ ending_unique t c a b (n, x) (m, y) =
     let both : Ends a ≡ Ends b = sym x ∙ ap (step t) same ∙ y in cc
 
 pub IsRunStack-start : (t : TableData) (start : ℕ) → start < length t.grammar.starts → IsRunStack t (start ∷ [])
-IsRunStack-start t start lt = record { path = record { begun = omega arith; edges = λ k l. absurd (omega arith) }; start = lt }
+IsRunStack-start t start lt = record { path = record { not_empty = omega arith; edges = λ k l. absurd (omega arith) }; start = lt }
 
 -- Each sentence has a verdict.
 pub has_verdict : (t : TableData) (h : HaltingFacts t) (start : ℕ) (w : List ℕ) → start < length t.grammar.starts → AllByRecursion (λ z. z < t.grammar.tokens) w → (how : Ending) × VerdictOf t start w how

@@ -34,8 +34,8 @@ spelled t f stack trees g p zero k ordinary inside there = (omega arith, λ j lt
 spelled t f stack trees g p (suc d) zero ordinary inside there = absurd (omega (arith, (f.start_core (get_or stack 0 0) p (suc d) g.start there).1))
 spelled t f stack trees g p (suc d) (suc k) ordinary inside there =
     let edge = g.each k (omega arith) in
-    let back = f.behind (get_or stack k 0) edge.0 (get_or stack (k + 1) 0) p (suc d) edge.1 (let e : k + 1 ≡ suc k = omega arith in rw e there) in
-    elim back.begun [
+    let back = f.moved_from (get_or stack k 0) edge.0 (get_or stack (k + 1) 0) p (suc d) edge.1 (let e : k + 1 ≡ suc k = omega arith in rw e there) in
+    elim back.source [
       | inl before ↦ (
           let rest = spelled t f stack trees g p d k ordinary (omega arith) (let e : suc d - 1 ≡ d = omega arith in rw e at before) in
           let le : d ≤ k = rest.0 in (
@@ -107,12 +107,12 @@ TreesMatchStack-take t stack trees n le g =
 
 -- No edge leads to a start state.
 no_edge_to_start : (t : TableData) (f : Facts t) (r u : ℕ) (x : Symbol) → u < length t.grammar.starts → edge_of t r x ≡ Some u → ⊥
-no_edge_to_start t f r u x lt e = let b = f.behind r x u u 0 e (f.starts u lt) in let m = b.moved in omega arith
+no_edge_to_start t f r u x lt e = let b = f.moved_from r x u u 0 e (f.starts u lt) in let m = b.moved in omega arith
 
 -- A start production with the dot 0 is only in the core of its start state.
 start_of : (t : TableData) (f : Facts t) (s i : ℕ) → InCore t s i 0 → (s < length t.grammar.starts) × (i ≡ s)
 start_of t f s i there =
-    elim (cases_lt s (length t.grammar.starts)) [ inl lt ↦ (lt, (f.start_core s i 0 lt there).0) | inr le ↦ absurd (let m = f.other_core s i 0 le there in omega arith) ]
+    elim (cases_lt s (length t.grammar.starts)) [ inl lt ↦ (lt, (f.start_core s i 0 lt there).0) | inr le ↦ absurd (let m = f.other_cores_moved s i 0 le there in omega arith) ]
 
 -- An accepting run leaves one tree, for the start symbol.
 pub record AcceptsOne (t : TableData) (stack : List ℕ) (trees : List SyntaxTree) : Type 0 where
@@ -133,8 +133,8 @@ accepts_at : (t : TableData) (f : Facts t) (stack : List ℕ) (trees : List Synt
 accepts_at t f stack trees g zero i n lt there = absurd (omega (arith, (f.start_core (get_or stack 0 0) i 1 g.start there).1))
 accepts_at t f stack trees g (suc k) i n lt there =
     let edge = g.each k (omega arith) in
-    let back = f.behind (get_or stack k 0) edge.0 (get_or stack (k + 1) 0) i 1 edge.1 (let e : k + 1 ≡ suc k = omega arith in rw e there) in
-    elim back.begun [
+    let back = f.moved_from (get_or stack k 0) edge.0 (get_or stack (k + 1) 0) i 1 edge.1 (let e : k + 1 ≡ suc k = omega arith in rw e there) in
+    elim back.source [
       | inr first ↦ absurd (omega (arith, first.1))
       | inl before ↦ (
           let at = start_of t f (get_or stack k 0) i (let e : 1 - 1 ≡ 0 = refl in rw e at before) in
@@ -208,7 +208,7 @@ yields_leaf trees z left = rw (yields-append trees (Leaf z ∷ [])) (append_asso
 -- A stack with matching trees is a stack of a run.
 pub IsRunStack-of_trees : (t : TableData) (stack : List ℕ) (trees : List SyntaxTree) → TreesMatchStack t stack trees → IsRunStack t stack
 IsRunStack-of_trees t stack trees g = record {
-  path = record { begun = let l = g.len in omega arith; edges = λ k lt. let l = g.len in let e = g.each k (omega arith) in (e.0, e.1) };
+  path = record { not_empty = let l = g.len in omega arith; edges = λ k lt. let l = g.len in let e = g.each k (omega arith) in (e.0, e.1) };
   start = g.start;
 }
 
@@ -219,21 +219,21 @@ TreesMatchRun-move t f w stack read left trees Asks e h = h
 TreesMatchRun-move t f w stack read left trees Refuses e h = h
 TreesMatchRun-move t f w stack read [] trees (Shifts j) e h = absurd (no_shift_at_end t (top_of stack) j e)
 TreesMatchRun-move t f w stack read (z ∷ left) trees (Shifts j) e h =
-    let l = h.grown.len in
+    let l = h.match_stack.len in
     let at : top_of stack ≡ get_or stack (length trees) 0 = ap (λ (k : ℕ). get_or stack k 0) (omega arith) in
     record {
-      grown = TreesMatchStack-push t stack trees (T z) j (Leaf z) h.grown (ap (λ (u : ℕ). edge_of t u (T z)) (sym at) ∙ f.shifts (top_of stack) z j (shifts_from_move t (top_of stack) z left j e)) refl;
+      match_stack = TreesMatchStack-push t stack trees (T z) j (Leaf z) h.match_stack (ap (λ (u : ℕ). edge_of t u (T z)) (sym at) ∙ f.shifts (top_of stack) z j (shifts_from_move t (top_of stack) z left j e)) refl;
       spells = yields_leaf trees z left ∙ h.spells;
       count = let c = h.count in rw (yields-append trees (Leaf z ∷ []), length-append) (omega arith);
     }
 TreesMatchRun-move t f w stack read left trees (Reduces p) e h =
-    let run = IsRunStack-of_trees t stack trees h.grown in
+    let run = IsRunStack-of_trees t stack trees h.match_stack in
     let can = reduces_from_move t (top_of stack) left p e in
     let found = finds_states_and_edge t f stack run p can in
     let is = reduce_is t p stack found in
     let r = reduced t p stack _ is in
     rw is (record {
-      grown = TreesMatchStack-reduce t f stack _ trees p h.grown can r;
+      match_stack = TreesMatchStack-reduce t f stack _ trees p h.match_stack can r;
       spells = ap (λ (l : List ℕ). l ++ left) (yields_node trees p (length trees - length (rhs_of t.grammar p))) ∙ h.spells;
       count = ap length (yields_node trees p (length trees - length (rhs_of t.grammar p))) ∙ h.count;
     })
@@ -249,7 +249,7 @@ TreesMatchRun-after t f w (suc n) c trees h =
 -- The trees match at the beginning of the run.
 TreesMatchRun-initial : (t : TableData) (start : ℕ) (w : List ℕ) → start < length t.grammar.starts → TreesMatchRun t w (initial start w) []
 TreesMatchRun-initial t start w lt = record {
-  grown = record { start = lt; len = refl; each = λ k l. absurd (omega arith) };
+  match_stack = record { start = lt; len = refl; each = λ k l. absurd (omega arith) };
   spells = refl;
   count = refl;
 }

@@ -29,7 +29,7 @@ pub record IsMovedFrom (t : TableData) (r : ℕ) (x : Symbol) (p d : ℕ) : Type
   pub moved : 0 < d
   pub symbol : slice_get (rhs_of t.grammar p) (d - 1) ≡ Some x
   -- The pair with the dot one symbol earlier is in the core of r, or the production begins in r.
-  pub begun : InCore t r p (d - 1) ⊎ ((d ≡ 1) × (length t.grammar.starts ≤ p) × HasGoto t r p)
+  pub source : InCore t r p (d - 1) ⊎ ((d ≡ 1) × (length t.grammar.starts ≤ p) × HasGoto t r p)
 
 -- The numbers are in range, and each row has its length.
 pub record AreInRange (t : TableData) : Type 0 where
@@ -51,9 +51,9 @@ pub record Facts (t : TableData) : Type 0 where
   pub start_core : (i p d : ℕ) → i < length t.grammar.starts → InCore t i p d → (p ≡ i) × (d ≡ 0)
   pub starts : (i : ℕ) → i < length t.grammar.starts → InCore t i i 0
   pub filled : (s : ℕ) → s < length t.states → 0 < length (state_at t s).core
-  pub other_core : (s p d : ℕ) → length t.grammar.starts ≤ s → InCore t s p d → 0 < d
+  pub other_cores_moved : (s p d : ℕ) → length t.grammar.starts ≤ s → InCore t s p d → 0 < d
   -- An edge moves the dot over its symbol.
-  pub behind : (r : ℕ) (x : Symbol) (u p d : ℕ) → edge_of t r x ≡ Some u → InCore t u p d → IsMovedFrom t r x p d
+  pub moved_from : (r : ℕ) (x : Symbol) (u p d : ℕ) → edge_of t r x ≡ Some u → InCore t u p d → IsMovedFrom t r x p d
   -- A production that a state reduces is complete in it.
   pub ordinary : (s p : ℕ) → ReducesBy t s p → (length t.grammar.starts ≤ p) × (p < production_count t.grammar)
   pub complete : (s p : ℕ) → ReducesBy t s p → InCore t s p (length (rhs_of t.grammar p)) ⊎ ((length (rhs_of t.grammar p) ≡ 0) × HasGoto t s p)

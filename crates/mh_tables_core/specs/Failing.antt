@@ -69,5 +69,5 @@ FailsWithinMaxCost t s = (start : ℕ) × (w : List ℕ) × Fails t start w s ×
 -- The lowest state in which some sentence fails, but none within the greatest cost.
 pub record TooLongAt (t : TableData) (s : ℕ) : Type 0 where
   pub failing : Failing t s
-  pub dear : (start : ℕ) (w : List ℕ) → Fails t start w s → max_sentence_cost < cost_of_word t w
+  pub all_too_long : (start : ℕ) (w : List ℕ) → Fails t start w s → max_sentence_cost < cost_of_word t w
   pub lowest : (s' : ℕ) → s' < s → Failing t s' → FailsWithinMaxCost t s'

@@ -1,11 +1,11 @@
--- The tables on which no run reduces forever. The test by relative runs of at most `MAX_REDUCTIONS` reductions is this
--- project's own.
+-- The tables on which no run reduces forever. The test by relative runs of at most `max_reductions` reductions is this
+-- project's own. A relative run makes reductions only, as long as they do not remove its lowest state.
 use Rattle.std.specs.Prelude.{◌≡◌, ℕ, suc, List, [], ◌∷◌, length, Option, Some, None, ◌<◌, ◌≤◌}
 use Rattle.mh_grammar.specs.declared.types.Symbol.{Symbol}
 use Rattle.mh_tables_core.specs.Table.{TableData, edge_of}
 use Rattle.mh_tables_core.specs.Facts.{Facts}
 use Rattle.mh_tables_core.specs.Run.{reductions}
-use Rattle.mh_tables_core.specs.declared.halting.TheConstants.{MAX_REDUCTIONS}
+use Rattle.mh_tables_core.specs.Limits.{max_reductions}
 
 -- A relative run begins with a start state alone, or with two states that are joined by an edge.
 abbrev pub IsBeginning : TableData → Option ℕ → ℕ → Type 0
@@ -31,18 +31,18 @@ look_list (Some z) = z ∷ []
 abbrev pub MakesReductions : TableData → Option ℕ → ℕ → Option ℕ → ℕ → Type 0
 MakesReductions t below s look n = (stack : List ℕ) × (reductions t (look_list look) n (beginning below s) ≡ Some stack)
 
--- No relative run makes more than `MAX_REDUCTIONS` reductions.
+-- No relative run makes more than `max_reductions` reductions.
 abbrev pub AlwaysHalts : TableData → Type 0
-AlwaysHalts t = (below : Option ℕ) (s : ℕ) (look : Option ℕ) (n : ℕ) → IsBeginning t below s → IsLook t look → MakesReductions t below s look n → n ≤ MAX_REDUCTIONS
+AlwaysHalts t = (below : Option ℕ) (s : ℕ) (look : Option ℕ) (n : ℕ) → IsBeginning t below s → IsLook t look → MakesReductions t below s look n → n ≤ max_reductions
 
 -- The invariant of tables that passed the halting test.
 pub record HaltingFacts (t : TableData) : Type 0 where
   pub facts : Facts t
   pub halts : AlwaysHalts t
 
--- The relative run makes more than `MAX_REDUCTIONS` reductions.
+-- The relative run loops: it makes more than `max_reductions` reductions.
 abbrev pub RunLoops : TableData → Option ℕ → ℕ → Option ℕ → Type 0
-RunLoops t below s look = MakesReductions t below s look (suc MAX_REDUCTIONS)
+RunLoops t below s look = MakesReductions t below s look (suc max_reductions)
 
 -- No relative run with this beginning loops, for any next token.
 abbrev pub NeverLoops : TableData → Option ℕ → ℕ → Type 0
@@ -55,7 +55,7 @@ IsOptionBefore None (Some b) = Unit {0}
 IsOptionBefore (Some a) None = ⊥
 IsOptionBefore (Some a) (Some b) = a < b
 
--- The first relative run that makes more than `MAX_REDUCTIONS` reductions: start states alone come first, then edges by
+-- The first relative run that makes more than `max_reductions` reductions: start states alone come first, then edges by
 -- their source and then by their target; with no token first, then with the tokens rising.
 pub record LoopsAt (t : TableData) (below : Option ℕ) (s : ℕ) (look : Option ℕ) : Type 0 where
   pub begins : IsBeginning t below s

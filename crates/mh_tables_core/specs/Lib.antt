@@ -1,3 +1,4 @@
+pub mod Limits
 pub mod TooDeep
 pub mod Facts
 pub mod Failing

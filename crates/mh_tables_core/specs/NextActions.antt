@@ -1,4 +1,4 @@
--- The move that a choice of the code denotes.
+-- The move of a run that a value of the Rust type `NextAction` denotes.
 use Rattle.mh_tables_core.specs.Run.{RunMove, Accepts, Asks, Refuses, Shifts, Reduces}
 use Rattle.mh_tables_core.specs.declared.moves.NextAction.{NextAction}
 use Rattle.mh_tables_core.specs.declared.moves.NextAction.TheVariants as choices

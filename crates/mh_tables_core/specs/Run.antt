@@ -66,7 +66,9 @@ reduce t p stack =
     let kept = take (length stack - length (rhs_of t.grammar p)) stack in
     if nat_lt (length (rhs_of t.grammar p)) (length stack) then push_goto kept (edge_of t (top_of kept) (N (lhs_of t.grammar p))) else None
 
--- The end of a run: its verdict.
+-- The end of a run, which is its verdict. `Accepted`: the run accepts after `read` tokens. `Overshot`: all tokens are
+-- read, and the run asks for one more in `state` (the run overshoots). `Rejected`: the token with index `at` is refused
+-- in `state`.
 pub data Ending : Type 0 where
   Accepted : (read : ℕ) → Ending
   Overshot : (state : ℕ) → Ending
@@ -134,7 +136,7 @@ reductions t left (suc n) stack = option_and_then (reductions t left n) (reducti
 
 -- The stack is a path of edges.
 pub record IsPath (t : TableData) (stack : List ℕ) : Type 0 where
-  pub begun : 0 < length stack
+  pub not_empty : 0 < length stack
   pub edges : (k : ℕ) → k + 1 < length stack → (x : Symbol) × (edge_of t (slice_index stack k) x ≡ Some (slice_index stack (k + 1)))
 
 -- The stack is a path of edges from a start state, as each stack of a run is.

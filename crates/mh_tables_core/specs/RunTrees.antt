@@ -35,6 +35,6 @@ yields (tree ∷ trees) = yield_of tree ++ yields trees
 
 -- A configuration of the run on w: its trees match its stack, and spell the tokens that were read.
 pub record TreesMatchRun (t : TableData) (w : List ℕ) (c : Config) (trees : List SyntaxTree) : Type 0 where
-  pub grown : TreesMatchStack t c.stack trees
+  pub match_stack : TreesMatchStack t c.stack trees
   pub spells : yields trees ++ c.left ≡ w
   pub count : length (yields trees) ≡ c.read

@@ -7,10 +7,13 @@ ghost use Rattle.mh_tables_core.specs.Run.{VerdictOf, Ending};
 use crate::table::Table;
 use std::marker::Model;
 
-/// The greatest number of reductions that a relative run may make (this project's own limit).
+/// The greatest number of reductions that a relative run may make (this project's own limit). A relative run has one
+/// next token or none. It begins with a start state alone, or with a state above a state with an edge to it, and makes
+/// reductions as long as they do not remove the lowest state.
 pub const MAX_REDUCTIONS: u32 = 10_000;
 
-/// A table on which no relative run makes more than `MAX_REDUCTIONS` reductions, so that every run ends.
+/// A table on which no relative run (see `MAX_REDUCTIONS`) makes more than `MAX_REDUCTIONS` reductions. So every run on
+/// the table ends.
 #[derive(Drop)]
 pub struct Halting {
     table: Table,

@@ -1,10 +1,8 @@
 //! The work after the warnings: the refusal under `--strict`, or the mode.
-ghost use Rattle.std.specs.Prelude.{◌≡◌, ◌≤◌};
-ghost use Rattle.std.specs.List.{All};
+ghost use Rattle.std.specs.Prelude.{◌≡◌};
 ghost use Rattle.mh_top_drive.specs.code.ModeCalls.{InputAndOutCounts, ModeShelfCounts};
-ghost use Rattle.mh_top_plans.specs.Files.{files_of_mode};
 ghost use Rattle.mh_top_plans.specs.code.Modes.{OpenedAndRan};
-ghost use Rattle.mh_top_types.specs.code.Prepared.{IsConsistent};
+ghost use Rattle.mh_top.specs.code.Premises.{MayRunMode};
 ghost use Rattle.mh_top_claims.specs.Run.{IsNextAfterWarnings};
 ghost use Rattle.mh_top_claims.specs.Work.{IsPlanOf};
 
@@ -23,11 +21,7 @@ pub(crate) fn run_unless_refused<F: Shelf, I: Source, O: Sink, const W: usize>(
     input: &mut I,
     out: &mut O,
 ) -> Result<(), Stop>
-    requires few { W ≤ 8 }
-    requires fit { IsConsistent prepared.now }
-    requires asked { All (F.MayAsk shelf.old) (files_of_mode prepared.now.order) }
-    requires may_read { I.MayRead input.old }
-    requires may_write { O.MayWrite out.old }
+    requires { MayRunMode W prepared.now (F.MayAsk shelf.old) (I.MayRead input.old) (O.MayWrite out.old) }
     ensures ran { OpenedAndRan (IsPlanOf (F.files shelf.old) prepared.now) (IsNextAfterWarnings (F.files shelf.old) prepared.now)
         (I.left input.old) (I.left input.new) (O.written out.old) (O.written out.new) result }
     ensures counts { InputAndOutCounts (I.faults input.old) (I.faults input.new)

@@ -1,19 +1,18 @@
 //! Runs the mode of each job.
-ghost use Rattle.std.specs.Prelude.{◌≡◌, ◌≤◌};
-ghost use Rattle.std.specs.List.{All};
+ghost use Rattle.std.specs.Prelude.{◌≡◌};
 ghost use Rattle.mh_top_drive.specs.code.ModeCalls.{InputAndOutCounts, ModeShelfCounts};
-ghost use Rattle.mh_top_plans.specs.Files.{IsNextFileOfJob, files_of_mode};
+ghost use Rattle.mh_top_plans.specs.Files.{IsNextFileOfJob};
 ghost use Rattle.mh_top_plans.specs.code.Modes.{OpenedAndRan};
 ghost use Rattle.mh_top_plans.specs.Plan.{IsPlanOfJob};
-ghost use Rattle.mh_top_types.specs.code.Prepared.{IsConsistent};
+ghost use Rattle.mh_top.specs.code.Premises.{MayRunMode};
 
 use mh_opts::Job;
 use mh_outside::{Shelf, Sink, Source};
 use mh_top_drive::Stop;
-use mh_top_lists::{ErrorList, SampleCounts};
+use mh_top_lists::{ErrorList, SampleCounts, rebase_errors};
 use mh_top_modes::{
-    AutomatonText, RandomSentence, ShortestWords, TableFile, compare_errors, compile_errors,
-    echo_errors, explain, interpret, run_session, update_errors,
+    AutomatonText, FileText, RandomSentence, ShortestWords, TableFile, compare_errors, explain,
+    interpret, run_session, text_from_file,
 };
 use mh_top_plans::{write_at_end, write_made};
 use mh_top_types::Prepared;
@@ -27,11 +26,7 @@ pub(crate) fn run_mode<F: Shelf, I: Source, O: Sink, const W: usize>(
     input: &mut I,
     out: &mut O,
 ) -> Result<(), Stop>
-    requires few { W ≤ 8 }
-    requires fit { IsConsistent prepared.now }
-    requires asked { All (F.MayAsk shelf.old) (files_of_mode prepared.now.order) }
-    requires may_read { I.MayRead input.old }
-    requires may_write { O.MayWrite out.old }
+    requires { MayRunMode W prepared.now (F.MayAsk shelf.old) (I.MayRead input.old) (O.MayWrite out.old) }
     ensures ran { OpenedAndRan (IsPlanOfJob prepared.now.order.job (F.files shelf.old) prepared.now)
         (IsNextFileOfJob prepared.now.order.job (F.files shelf.old) prepared.now)
         (I.left input.old) (I.left input.new) (O.written out.old) (O.written out.new) result }
@@ -62,7 +57,7 @@ pub(crate) fn run_mode<F: Shelf, I: Source, O: Sink, const W: usize>(
             write_at_end(alloc, writer, input, out)
         }
         Job::CompileErrors { file } => {
-            let made = compile_errors(alloc, prepared, shelf, file.as_slice());
+            let made = text_from_file(alloc, prepared, shelf, FileText::Compiled, file.as_slice());
             write_made(alloc, made, input, out)
         }
         Job::CompareErrors { first, second } => {
@@ -70,12 +65,15 @@ pub(crate) fn run_mode<F: Shelf, I: Source, O: Sink, const W: usize>(
             write_made(alloc, made, input, out)
         }
         Job::EchoErrors { file } => {
-            let made = echo_errors(alloc, prepared, shelf, file.as_slice());
+            let made = text_from_file(alloc, prepared, shelf, FileText::Echoed, file.as_slice());
             write_made(alloc, made, input, out)
         }
         Job::UpdateErrors { file } => {
-            let made = update_errors(alloc, prepared, shelf, file.as_slice());
+            let made = text_from_file(alloc, prepared, shelf, FileText::Updated, file.as_slice());
             write_made(alloc, made, input, out)
+        }
+        Job::RebaseErrors { file } => {
+            rebase_errors(alloc, prepared, shelf, file.as_slice(), input, out)
         }
     }
 }

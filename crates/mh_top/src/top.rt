@@ -1,26 +1,22 @@
 //! The top call: the whole tool as one function.
-ghost use Rattle.std.specs.Prelude.{◌≡◌, ◌<◌, ◌≤◌, List, length, map, string_bytes};
-ghost use Rattle.std.specs.List.{All};
-ghost use Rattle.mh_grammar.specs.Costs.{HaveCosts};
+ghost use Rattle.std.specs.Prelude.{◌≡◌, ◌≤◌, List, length, map, string_bytes};
 ghost use Rattle.mh_grammar.specs.Plain.{plain_of, IsInRange};
-ghost use Rattle.mh_opts.specs.Orders.{IsWithinLimits};
-ghost use Rattle.mh_rules.specs.declared.joined.TheConstants.{MAX_TOKENS};
-ghost use Rattle.mh_validate_valid.specs.Valid.{AreTokenNamesDistinct};
 ghost use Rattle.mh_grammar.specs.Text.{Text};
 ghost use Rattle.mh_top_drive.specs.StageResults.{Go};
 ghost use Rattle.mh_top_claims.specs.Claims.{MeetsClaims};
 ghost use Rattle.mh_top_claims.specs.ErrorLists.{ListsErrorsExactly};
+ghost use Rattle.mh_top_claims.specs.Headline.{ListsErrorsOfTable, TakesSoundFiles, GivesMessages};
+ghost use Rattle.mh_top_claims.specs.RebasedFiles.{RebasesSoundly};
 ghost use Rattle.mh_top_claims.specs.VerdictClaims.{AcceptIsExact, RejectIsSound, OvershootIsSound, AcceptIsSound, TooDeepIsExact};
-ghost use Rattle.mh_top_plans.specs.Files.{files_of_mode};
-ghost use Rattle.mh_top_tables.specs.MayAskForTables.{MayAskForTables};
 ghost use Rattle.mh_top_claims.specs.MayAskForFiles.{MayAskForFiles};
 ghost use Rattle.mh_top_claims.specs.Run.{world, Ran};
 ghost use Rattle.mh_top_claims.specs.code.WorkBeforeLastLine.{IsWorkBeforeLastLine};
-ghost use Rattle.mh_top_types.specs.code.Prepared.{IsConsistent};
+ghost use Rattle.mh_top.specs.code.Premises.{AllowsWork, MayRunMode};
 ghost use Rattle.mh_top_load.specs.OrderAndGrammar.{IsOrderAndGrammar};
 ghost use Rattle.mh_top_claims.specs.Preparing.{IsPrepared};
 ghost use Rattle.mh_items.specs.Fitting.{FitsSets};
 ghost use Rattle.mh_top_drive.specs.code.MayWriteAfter.{MayWriteAfter};
+ghost use Rattle.mh_rules.specs.Limits.{max_tokens};
 
 use crate::following::run_unless_refused;
 use mh_outside::{Shelf, Sink, Source};
@@ -41,11 +37,7 @@ fn work_with<F: Shelf, I: Source, O: Sink, E: Sink, const W: usize>(
     out: &mut O,
     err: &mut E,
 ) -> Result<(), Stop>
-    requires few { W ≤ 8 }
-    requires fit { IsConsistent prepared.now }
-    requires asked { All (F.MayAsk shelf.old) (files_of_mode prepared.now.order) }
-    requires may_read { I.MayRead input.old }
-    requires may_write { O.MayWrite out.old }
+    requires mode { MayRunMode W prepared.now (F.MayAsk shelf.old) (I.MayRead input.old) (O.MayWrite out.old) }
     requires may_warn { E.MayWrite err.old }
     ensures kept { F.files shelf.new ≡ F.files shelf.old }
     ensures ran { (words : List Text) → IsPrepared words (F.files shelf.old) (Go prepared.now) → IsWorkBeforeLastLine words
@@ -73,12 +65,7 @@ fn work_on<F: Shelf, I: Source, O: Sink, E: Sink, const W: usize>(
     err: &mut E,
 ) -> Result<(), Stop>
     requires fits { FitsSets W front.grammar }
-    requires start { 0 < length front.grammar.starts }
-    requires limits { IsWithinLimits front.order.job }
-    requires costs { HaveCosts front.grammar.tokens }
-    requires apart { AreTokenNamesDistinct front.grammar }
-    requires tables { MayAskForTables front.order (F.MayAsk shelf.old) }
-    requires asked { All (F.MayAsk shelf.old) (files_of_mode front.order) }
+    requires front { AllowsWork front (F.MayAsk shelf.old) }
     requires may_read { I.MayRead input.old }
     requires may_write { O.MayWrite out.old }
     requires may_warn { E.MayWrite err.old }
@@ -110,14 +97,9 @@ fn work_at_width<F: Shelf, I: Source, O: Sink, E: Sink>(
     out: &mut O,
     err: &mut E,
 ) -> Result<(), Stop>
-    requires tokens { length front.grammar.tokens ≤ MAX_TOKENS }
+    requires tokens { length front.grammar.tokens ≤ max_tokens }
     requires range { IsInRange (plain_of front.grammar) }
-    requires start { 0 < length front.grammar.starts }
-    requires limits { IsWithinLimits front.order.job }
-    requires costs { HaveCosts front.grammar.tokens }
-    requires apart { AreTokenNamesDistinct front.grammar }
-    requires tables { MayAskForTables front.order (F.MayAsk shelf.old) }
-    requires asked { All (F.MayAsk shelf.old) (files_of_mode front.order) }
+    requires front { AllowsWork front (F.MayAsk shelf.old) }
     requires may_read { I.MayRead input.old }
     requires may_write { O.MayWrite out.old }
     requires may_warn { E.MayWrite err.old }
@@ -214,8 +196,33 @@ pub fn menhir<F: Shelf, I: Source, O: Sink, E: Sink>(
         shelf.old input.old out.old err.old)
         (world F.files F.faults I.left I.faults O.written O.faults E.written E.faults
         shelf.new input.new out.new err.new) result }
-    // The headline: the list of errors is complete and least.
-    ensures errors { ListsErrorsExactly (map string_bytes words.now)
+    // The headline, in three clauses that speak of success alone. A list of errors has an entry for a state exactly if
+    // some sentence is refused in this state.
+    ensures errors { ListsErrorsOfTable (map string_bytes words.now)
+        (world F.files F.faults I.left I.faults O.written O.faults E.written E.faults
+        shelf.old input.old out.old err.old)
+        (world F.files F.faults I.left I.faults O.written O.faults E.written E.faults
+        shelf.new input.new out.new err.new) result }
+    // A messages file compiles exactly if each of its sentences is refused at its last token, no two in one state.
+    ensures takes { TakesSoundFiles (map string_bytes words.now)
+        (world F.files F.faults I.left I.faults O.written O.faults E.written E.faults
+        shelf.old input.old out.old err.old)
+        (world F.files F.faults I.left I.faults O.written O.faults E.written E.faults
+        shelf.new input.new out.new err.new) result }
+    // A line that is refused is answered with the message of its state, if the messages file names the state.
+    ensures messages { GivesMessages (map string_bytes words.now)
+        (world F.files F.faults I.left I.faults O.written O.faults E.written E.faults
+        shelf.old input.old out.old err.old)
+        (world F.files F.faults I.left I.faults O.written O.faults E.written E.faults
+        shelf.new input.new out.new err.new) result }
+    // Each accepted grammar has a list of errors, or a state in which only sentences of too high a cost fail.
+    ensures lists { ListsErrorsExactly (map string_bytes words.now)
+        (world F.files F.faults I.left I.faults O.written O.faults E.written E.faults
+        shelf.old input.old out.old err.old)
+        (world F.files F.faults I.left I.faults O.written O.faults E.written E.faults
+        shelf.new input.new out.new err.new) result }
+    // A rebased messages file is sound and complete, and has the old messages of the kept sentences.
+    ensures rebases { RebasesSoundly (map string_bytes words.now)
         (world F.files F.faults I.left I.faults O.written O.faults E.written E.faults
         shelf.old input.old out.old err.old)
         (world F.files F.faults I.left I.faults O.written O.faults E.written E.faults

@@ -1,4 +1,5 @@
--- The answer to each line in the text for several lines, and the existence of the work.
+-- Lemmas on the answer to each line in a text for several lines. Also proves that for each result of the preparation
+-- there is some work that the definitions allow.
 use Rattle.std.proofs.Common.{◌≡◌, Bool, true, false, ◌&&◌, List, [], ◌∷◌, ◌++◌, Option, refl, sym, ◌∙◌, ap, subst, append_assoc}
 use Rattle.mh_outside.specs.Shelf.{Files}
 use Rattle.mh_grammar.specs.Text.{Text}
@@ -16,19 +17,19 @@ use Rattle.mh_top_claims.proofs.EachMode.{facts_of}
 use Rattle.mh_top_claims.proofs.VerdictClaims.{prepared_runs}
 
 pub answered_at : (plan last : Plan) (before : List Text) (line : Text) (after : List Text) (text : Text) → AnswersAll plan_behavior plan (before ++ line ∷ after) text last → IsAnsweredAt plan before line after text last
-answered_at plan last [] line after text all = record { front = []; answer = all.0; rest = all.1; mid = plan; next = all.2; all_before = (refl, refl); answers = all.3; all_after = all.4; text_is = all.5 }
+answered_at plan last [] line after text all = record { text_before = []; answer = all.0; text_after = all.1; plan_at_line = plan; next = all.2; all_before = (refl, refl); answers = all.3; all_after = all.4; text_is = all.5 }
 answered_at plan last (first ∷ before) line after text all =
     let at = answered_at all.2 last before line after all.1 all.4 in
     record {
-      front = all.0 ++ at.front;
+      text_before = all.0 ++ at.text_before;
       answer = at.answer;
-      rest = at.rest;
-      mid = at.mid;
+      text_after = at.text_after;
+      plan_at_line = at.plan_at_line;
       next = at.next;
-      all_before = (all.0, at.front, all.2, all.3, at.all_before, refl);
+      all_before = (all.0, at.text_before, all.2, all.3, at.all_before, refl);
       answers = at.answers;
       all_after = at.all_after;
-      text_is = all.5 ∙ ap (λ (t : Text). all.0 ++ t) at.text_is ∙ sym (append_assoc all.0 at.front (at.answer ++ at.rest));
+      text_is = all.5 ∙ ap (λ (t : Text). all.0 ++ t) at.text_is ∙ sym (append_assoc all.0 at.text_before (at.answer ++ at.text_after));
     }
 
 still_judges : (by : VerdictContext) (lines : List Text) (text : Text) (last : Plan) → AnswersAll plan_behavior (Judges by) lines text last → last ≡ Judges by
@@ -38,12 +39,12 @@ still_judges by (line ∷ lines) text last all = still_judges by lines all.1 las
 pub verdict_at : (by : VerdictContext) (last : Plan) (before : List Text) (line : Text) (after : List Text) (text : Text) → AnswersAll plan_behavior (Judges by) (before ++ line ∷ after) text last → HasVerdictAt by before line after text
 verdict_at by last before line after text all =
     let at = answered_at (Judges by) last before line after text all in
-    let same : at.mid ≡ Judges by = still_judges by before at.front at.mid at.all_before in
+    let same : at.plan_at_line ≡ Judges by = still_judges by before at.text_before at.plan_at_line at.all_before in
     record {
-      front = at.front;
+      text_before = at.text_before;
       answer = at.answer;
-      rest = at.rest;
-      all_before = subst (λ (m : Plan). AnswersAll plan_behavior (Judges by) before at.front m) same at.all_before;
+      text_after = at.text_after;
+      all_before = subst (λ (m : Plan). AnswersAll plan_behavior (Judges by) before at.text_before m) same at.all_before;
       answers = (subst (λ (m : Plan). Answers m line at.answer at.next) same at.answers).0;
       text_is = at.text_is;
     }

@@ -13,24 +13,24 @@ use Rattle.mh_top_drive.specs.NextFile.{HasContent}
 use Rattle.mh_top_drive.proofs.ReadFilesLoop.{turn_first}
 use Rattle.mh_top_types.specs.Shapes.{Prepared}
 use Rattle.mh_top_plans.specs.MessagesFiles.{AreMessagesOfBoth, Messages}
-use Rattle.mh_top_plans.proofs.MessagesFileLines.{checking, some_checked}
+use Rattle.mh_top_plans.proofs.MessagesFileLines.{messages_facts, some_checked}
 use Rattle.mh_top_plans.proofs.AreMessagesOfBoth.{Next, Stage, second_turn}
 use Rattle.mh_top_plans.proofs.FilesOfMode.{ReadFacts, ContentFacts, PreparedFacts, StopsAllowed, file_once, file_right, some_file, unread_halts}
 use Rattle.mh_top_plans.proofs.IsNextFileOfJob.{IsNextOfMode, nil_not_split, one_is}
 
 module _ (p : Prepared) (first second : Text) where
   checked : ContentFacts (Stage p)
-  checked = checking p.grammar p.tabled.halting
+  checked = messages_facts p.grammar p.tabled.halting
 
   some_next : (files : Option Files) → PreparedFacts p → (left : Messages) → (s : StageResult (Messages × Messages)) × Next p files second left s
-  some_next files runs left = at (some_file (Stage p) checked (some_checked p.grammar p.tabled.halting runs.halts runs.fit.table.grammar) files second).0 (some_file (Stage p) checked (some_checked p.grammar p.tabled.halting runs.halts runs.fit.table.grammar) files second).1
+  some_next files runs left = at (some_file (Stage p) checked (some_checked p.grammar p.tabled.halting runs.halts runs.consistent.table.grammar) files second).0 (some_file (Stage p) checked (some_checked p.grammar p.tabled.halting runs.halts runs.consistent.table.grammar) files second).1
     where
       at : (s : StageResult Messages) → IsFileContent files (Stage p) second s → (t : StageResult (Messages × Messages)) × Next p files second left t
       at (Go right) is = (Go (left, right), (Go right, is, refl))
       at (Halt cause) is = (Halt cause, (Halt cause, is, refl))
 
   some_both : (files : Option Files) → PreparedFacts p → (s : StageResult (Messages × Messages)) × AreMessagesOfBoth files p first second s
-  some_both files runs = at (some_file (Stage p) checked (some_checked p.grammar p.tabled.halting runs.halts runs.fit.table.grammar) files first).0 (some_file (Stage p) checked (some_checked p.grammar p.tabled.halting runs.halts runs.fit.table.grammar) files first).1
+  some_both files runs = at (some_file (Stage p) checked (some_checked p.grammar p.tabled.halting runs.halts runs.consistent.table.grammar) files first).0 (some_file (Stage p) checked (some_checked p.grammar p.tabled.halting runs.halts runs.consistent.table.grammar) files first).1
     where
       at : (s : StageResult Messages) → IsFileContent files (Stage p) first s → (t : StageResult (Messages × Messages)) × AreMessagesOfBoth files p first second t
       at (Go left) is = let next = some_next files runs left in (next.0, (Go left, is, next.1))
@@ -88,7 +88,7 @@ module _ (p : Prepared) (first second : Text) where
   pub two_files : ReadFacts p (first ∷ second ∷ []) (λ files. AreMessagesOfBoth files p first second)
   two_files = record {
     some = some_both;
-    once = both_once;
+    unique = both_once;
     unread = λ files name what cause s turn found halt is. both_unread files what cause s name turn found halt is;
-    right = both_right;
+    allowed = both_right;
   }

@@ -183,7 +183,7 @@ module _ (words : List Text) (files : Option Files) where
 
   plan_right : (refused : Bool) (p : Prepared) (plan : Plan) → IsPrepared words files (Go p) → refused ≡ (p.order.strict && has_warning p.tabled.conflicts) → IsPlanUnlessRefused refused files p plan → EndsAllowed Accounts plan
   plan_right true p plan prepared test is = subst (EndsAllowed Accounts) (sym is) tt
-  plan_right false p plan prepared test is = (facts_of p.order.job p).right Accounts (λ line. tt) files plan (λ name what cause turn found halt. of_mode p name what cause prepared (subst (λ (b : Bool). IsNextUnlessRefused b files p name) test turn) found halt) is
+  plan_right false p plan prepared test is = (facts_of p.order.job p).allowed Accounts (λ line. tt) files plan (λ name what cause turn found halt. of_mode p name what cause prepared (subst (λ (b : Bool). IsNextUnlessRefused b files p name) test turn) found halt) is
 
   work_right : (s : StageResult Prepared) (w : Work) → IsPrepared words files s → IsWorkOf files s w → EndsAllowed Accounts w.plan
   work_right (Go p) w prepared is = plan_right (p.order.strict && has_warning p.tabled.conflicts) p w.plan prepared refl is.1
@@ -224,7 +224,7 @@ module _ (words : List Text) (files : Option Files) where
 
   pub ended : (w : Work) (input : Option Text) (o : Outcome) → IsWork words files w → HasOutcome plan_behavior w.plan input o → AccountsOn w input o.cause
   ended w input o asked yields =
-      outcome_right w input yields.lines yields.whole yields.text yields.last o.cause o.out yields.asks
+      outcome_right w input yields.lines yields.complete yields.text yields.last o.cause o.out yields.asks
       (answers_right w.plan yields.lines yields.text yields.last yields.answers (work_right asked.0 w asked.1 asked.2)) yields.ends
 
   -- If the words are misused, there are no warnings before the line that says so.
@@ -255,7 +255,7 @@ halts_gives cause input [] false text last given out asks all ends = let same : 
 halts_gives cause input (line ∷ lines) whole text last given out asks all ends = let same : line ∷ lines ≡ [] = asks.0 in absurd (cc)
 
 yields_halts : (cause : Cause) (input : Option Text) (o : Outcome) → HasOutcome plan_behavior (halts cause) input o → o.cause ≡ Some cause
-yields_halts cause input o y = halts_gives cause input y.lines y.whole y.text y.last o.cause o.out y.asks y.answers y.ends
+yields_halts cause input o y = halts_gives cause input y.lines y.complete y.text y.last o.cause o.out y.asks y.answers y.ends
 
 module _ (words : List Text) (files : Files) where
   told : Option Files

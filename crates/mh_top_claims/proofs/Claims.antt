@@ -79,7 +79,7 @@ past_false EachLine input lines whole some past asks = sym asks.1 ∙ past
 
 past_cause : (plan : Plan) (input : Text) (o : Outcome) → HasOutcome plan_behavior plan (Some input) o → AsksLines plan → IsInputOverLimit (asks_of plan) (Some input) → o.cause ≡ Some LongInput
 past_cause plan input o yields some past =
-    let cut : yields.whole ≡ false = past_false (asks_of plan) input yields.lines yields.whole some past yields.asks in
+    let cut : yields.complete ≡ false = past_false (asks_of plan) input yields.lines yields.complete some past yields.asks in
     let ends : EndsAfterAnswers plan_behavior false yields.last yields.text o.cause o.out = subst (λ (w : Bool). EndsAfterAnswers plan_behavior w yields.last yields.text o.cause o.out) cut yields.ends in ends.0
 
 -- ---- The text on out.
@@ -89,19 +89,19 @@ module _ (plan : Plan) (old new out0 out1 : Option Text) where
   Part = (text : Text) × Appends out0 out1 text × IsOutputPrefix plan old text
 
   got_part : IsPartialRun plan_behavior plan old out0 out1 (ReadFailsAt plan_behavior plan old new) → Part
-  got_part h = (h.text ++ h.front, h.on_out, record { lines = h.lines; answers = h.text; next = h.next; front = h.front; stands = h.stands; is_front = inl h.at.0; text_is = refl })
+  got_part h = (h.text ++ h.prefix, h.on_out, record { lines = h.lines; answers = h.text; next = h.next; prefix = h.prefix; answered = h.answered; is_prefix = inl h.at.0; text_is = refl })
 
   cut_part : IsPartialRun plan_behavior plan old out0 out1 (WriteFailsAt plan_behavior plan old new) → Part
-  cut_part h = (h.text ++ h.front, h.on_out, record { lines = h.lines; answers = h.text; next = h.next; front = h.front; stands = h.stands; is_front = is h.at; text_is = refl })
+  cut_part h = (h.text ++ h.prefix, h.on_out, record { lines = h.lines; answers = h.text; next = h.next; prefix = h.prefix; answered = h.answered; is_prefix = is h.at; text_is = refl })
     where
-      is : WriteFailsAt plan_behavior plan old new h.lines h.next h.front → (h.front ≡ []) ⊎ IsAnswerPrefix plan_behavior plan old h.lines h.next h.front ⊎ IsEndPrefix plan_behavior plan old h.lines h.next h.front
+      is : WriteFailsAt plan_behavior plan old new h.lines h.next h.prefix → (h.prefix ≡ []) ⊎ IsAnswerPrefix plan_behavior plan old h.lines h.next h.prefix ⊎ IsEndPrefix plan_behavior plan old h.lines h.next h.prefix
       is (inl at) = inr (inl at.0)
       is (inr at) = inr (inr at.0)
 
   want_part : IsPartialRun plan_behavior plan old out0 out1 (LacksMemoryAt plan_behavior plan old new) → Part
-  want_part h = (h.text ++ h.front, h.on_out, record { lines = h.lines; answers = h.text; next = h.next; front = h.front; stands = h.stands; is_front = is h.at; text_is = refl })
+  want_part h = (h.text ++ h.prefix, h.on_out, record { lines = h.lines; answers = h.text; next = h.next; prefix = h.prefix; answered = h.answered; is_prefix = is h.at; text_is = refl })
     where
-      is : LacksMemoryAt plan_behavior plan old new h.lines h.next h.front → (h.front ≡ []) ⊎ IsAnswerPrefix plan_behavior plan old h.lines h.next h.front ⊎ IsEndPrefix plan_behavior plan old h.lines h.next h.front
+      is : LacksMemoryAt plan_behavior plan old new h.lines h.next h.prefix → (h.prefix ≡ []) ⊎ IsAnswerPrefix plan_behavior plan old h.lines h.next h.prefix ⊎ IsEndPrefix plan_behavior plan old h.lines h.next h.prefix
       is (inl at) = inl at.0
       is (inr at) = inr (inr at.0)
 
@@ -117,23 +117,23 @@ module _ (plan : Plan) (input : Option Text) (lines : List Text) (text : Text) (
     lines = lines;
     answers = text;
     next = last;
-    front = ends.0.out;
-    stands = record { answers = answers; first = first_all (asks_of plan) input lines true asks };
-    is_front = inr (inr (record { all = asks; ending = ends.0; ends = ends.1; is_front = ([], sym (append-nil ends.0.out)) }));
+    prefix = ends.0.out;
+    answered = record { answers = answers; first = first_all (asks_of plan) input lines true asks };
+    is_prefix = inr (inr (record { all = asks; ending = ends.0; ends = ends.1; is_prefix = ([], sym (append-nil ends.0.out)) }));
     text_is = ends.3;
   }
   all_part false asks ends = record {
     lines = lines;
     answers = text;
     next = last;
-    front = [];
-    stands = record { answers = answers; first = first_all (asks_of plan) input lines false asks };
-    is_front = inl refl;
+    prefix = [];
+    answered = record { answers = answers; first = first_all (asks_of plan) input lines false asks };
+    is_prefix = inl refl;
     text_is = ends.1 ∙ sym (append-nil text);
   }
 
 yields_part : (plan : Plan) (input : Option Text) (o : Outcome) → HasOutcome plan_behavior plan input o → IsOutputPrefix plan input o.out
-yields_part plan input o y = all_part plan input y.lines y.text y.last o.cause o.out y.answers y.whole y.asks y.ends
+yields_part plan input o y = all_part plan input y.lines y.text y.last o.cause o.out y.answers y.complete y.asks y.ends
 
 module _ (words : List Text) (b a : World) where
   still_part : LeavesInputAndOut b a → WritesOutputPrefix words b a
@@ -303,7 +303,7 @@ module _ (words : List Text) (b a : World) (status : ℕ) where
   part_claim (Finished quiet does) = inr (does.work, does.is_asked, (does.outcome.out, does.on_out, yields_part does.work.plan b.left does.outcome does.yields))
   part_claim (CannotReadFile is rose could front name due still at) = still_part words b a still
   part_claim (CannotReadInput is rose could h) = behind_part words b a _ _ (λ w at. got_part w.plan b.left a.left b.out a.out at) h
-  part_claim (CannotWarn is rose cut) = still_part words b a cut.still
+  part_claim (CannotWarn is rose cut) = still_part words b a cut.unchanged
   part_claim (CannotWrite is rose input err h) = behind_part words b a _ _ (λ w at. cut_part w.plan b.left a.left b.out a.out at) h
   part_claim (CannotSay is out rose says) = says_part words b a _ says
   part_claim (NoMemory is could input done) = done_part words b a _ done
@@ -326,7 +326,7 @@ module _ (words : List Text) (b a : World) (status : ℕ) where
   pub keeps : Run → MeetsClaims words b a status
   keeps ran = record {
     complete = completes ran;
-    done = finishes ran;
+    finishes = finishes ran;
     known = status_claim ran;
     misuse = misuse_claim ran;
     read_fault = read_claim ran;
@@ -334,10 +334,10 @@ module _ (words : List Text) (b a : World) (status : ℕ) where
     write_fault = write_claim ran;
     write_fault_said = write_said_claim ran;
     write_fault_stops = stops_claim ran;
-    want = want_claim ran;
+    out_of_memory = want_claim ran;
     too_big = big_claim ran;
     long_file = long_file_claim ran;
     long_input = long_input_claim ran;
-    part = part_claim ran;
-    each_part = each_claim (part_claim ran);
+    output_prefix = part_claim ran;
+    prefix_of_any_work = each_claim (part_claim ran);
   }

@@ -3,7 +3,7 @@ use Rattle.std.proofs.Common.{◌≡◌, ◌∷◌, ℕ, List, Option, None, Som
 use Rattle.std.specs.Bool.{⊤}
 use Rattle.mh_grammar.specs.declared.types.Grammar.{Grammar}
 use Rattle.mh_opts.specs.declared.jobs.Job.{Job}
-use Rattle.mh_opts.specs.declared.jobs.Job.TheVariants.{Interpret, InterpretError, Session, ShowAutomaton, WriteTables, ListErrors, CompareErrors, CompileErrors, EchoErrors, UpdateErrors, Sample, ShortestSentences, RandomSentence}
+use Rattle.mh_opts.specs.declared.jobs.Job.TheVariants.{Interpret, InterpretError, Session, ShowAutomaton, WriteTables, ListErrors, CompareErrors, CompileErrors, EchoErrors, UpdateErrors, RebaseErrors, Sample, ShortestSentences, RandomSentence}
 use Rattle.mh_outside.specs.Shelf.{Files, FileFound}
 use Rattle.mh_report.proofs.OneAutomatonText.{text_once}
 use Rattle.mh_session_branches.proofs.OneAnswer.{answer_once as line_once}
@@ -12,6 +12,7 @@ use Rattle.mh_tables_core.specs.Table.{TableData}
 use Rattle.mh_check.specs.Compiling.{missing}
 use Rattle.mh_check.specs.Texts.{compiled_text}
 use Rattle.mh_msgfile.specs.FileTexts.{echo_text}
+use Rattle.mh_msgfile.specs.declared.loose.LooseFile.{LooseFile}
 use Rattle.mh_sample.proofs.ShortestTextUnique.{shortest_text_once}
 use Rattle.mh_grammar.specs.Text.{Text}
 use Rattle.mh_top_drive.specs.StageResults.{StageResult, Go, Halt}
@@ -25,19 +26,21 @@ use Rattle.mh_top_plans.specs.FinalText.{end_of_final_text}
 use Rattle.mh_top_plans.specs.Compared.{comparison_result}
 use Rattle.mh_top_plans.specs.Files.{files_of_job, optional_file}
 use Rattle.mh_top_plans.specs.Listing.{ListsErrors, Lists, TooLong, too_long}
-use Rattle.mh_top_plans.specs.MessagesFiles.{AreMessagesOfBoth, AreMessages, IsMessagesFile, IsUpdatedFile, Messages}
-use Rattle.mh_top_plans.specs.Plan.{Answers, Automaton, FinalOutput, Ends, IsFinalOutput, EndsWith, Errors, Explains, IsPlanOfJob, Judges, Known, AreOptionalMessages, Plan, Serves, halts, judging_plan, plan_of_stage, table_file_text, writing_plan, Sampled, Shortest, Random}
+use Rattle.mh_top_plans.specs.MessagesFiles.{AreMessagesOfBoth, AreMessages, IsLooseFile, IsMessagesFile, IsUpdatedFile, Messages}
+use Rattle.mh_top_plans.proofs.LooseFiles.{loose_facts, some_loose}
+use Rattle.mh_top_plans.specs.Plan.{Answers, Automaton, FinalOutput, Ends, IsFinalOutput, EndsWith, Errors, Explains, IsPlanOfJob, Judges, Known, AreOptionalMessages, Plan, Serves, halts, judging_plan, plan_of_stage, table_file_text, writing_plan, Rebased, Sampled, Shortest, Random}
 use Rattle.mh_top_plans.specs.Verdicts.{VerdictContext}
 use Rattle.mh_top_plans.specs.declared.at_end.FinalText.{FinalText}
 use Rattle.mh_top_plans.specs.declared.at_end.FinalText.TheVariants.{Written, Refusal}
 use Rattle.mh_top_claims.proofs.IsAnswerToLine.{answer_to_line_once}
-use Rattle.mh_top_plans.proofs.MessagesFileLines.{checking, for_unread_halts, messages_for_once, messages_for_right, named_turn, some_checked, some_messages_for, some_spelled, spelling}
+use Rattle.mh_top_plans.proofs.MessagesFileLines.{messages_facts, messages_halt_if_unread, messages_for_once, messages_stop_allowed, named_turn, some_checked, some_messages_for, some_spelled, messages_file_facts}
 use Rattle.mh_top_claims.proofs.AreMessagesOfBoth.{two_files}
 use Rattle.mh_top_claims.proofs.IsUpdatedFile.{one_updated}
 use Rattle.mh_top_plans.proofs.FilesOfMode.{ReadFacts, PreparedFacts, StopsAllowed, one_file}
 use Rattle.mh_top_plans.proofs.IsNextFileOfJob.{IsNextOfMode, no_turn, turn_of_named}
 use Rattle.mh_top_claims.proofs.ErrorListUnique.{list_cause_once, list_out_once}
 use Rattle.mh_top_claims.proofs.IsDrawn.{drawn_once}
+use Rattle.mh_top_claims.proofs.RebasesFile.{rebased_cause_once, rebased_out_once, rebased_right}
 use Rattle.mh_top_claims.proofs.IsExplained.{final_once}
 use Rattle.mh_top_claims.proofs.CountsSample.{counts_cause_once, counts_out_once, counts_right}
 
@@ -62,23 +65,23 @@ final_right Right may (Refusal line) = may line
 -- The facts on the plans of a job that reads these files.
 pub record Facts (p : Prepared) (names : List Text) (Is : Option Files → Plan → Type 0) : Type 1 where
   pub some : (files : Option Files) → PreparedFacts p → (plan : Plan) × Is files plan
-  pub once : (files : Files) → IsOne (Is (Some files))
+  pub unique : (files : Files) → IsOne (Is (Some files))
   -- If the next file to read is missing or too long, the plan ends at once with this cause.
   pub unread : (files : Files) (name : Text) (what : FileFound) (cause : Cause) (plan : Plan) → IsNextOfMode p names (Some files) name → IsFound (Some files) name what → loaded name what ≡ Halt cause → Is (Some files) plan → plan ≡ halts cause
   -- A plan that answers lines with verdicts does so by the prepared grammar and table.
   pub judged : (Has : Grammar → TableData → Type 0) (files : Option Files) (by : VerdictContext) → Has p.grammar p.tabled.halting → Is files (Judges by) → Has by.grammar by.table
   -- The causes of the plan are allowed, if refusals are, and the causes of files that cannot be read.
-  pub right : (Right : Cause → Type 0) → ((line : Text) → Right (Refused line)) → (files : Option Files) (plan : Plan) → ((name : Text) (what : FileFound) (cause : Cause) → IsNextOfMode p names files name → IsFound files name what → loaded name what ≡ Halt cause → Right cause) → Is files plan → EndsAllowed Right plan
+  pub allowed : (Right : Cause → Type 0) → ((line : Text) → Right (Refused line)) → (files : Option Files) (plan : Plan) → ((name : Text) (what : FileFound) (cause : Cause) → IsNextOfMode p names files name → IsFound files name what → loaded name what ≡ Halt cause → Right cause) → Is files plan → EndsAllowed Right plan
 
 module _ (p : Prepared) where
   -- The facts for a plan that reads no file and gives no verdicts.
   fixed : (plan : Plan) → ((by : VerdictContext) → Judges by ≡ plan → ⊥) → ((Right : Cause → Type 0) → EndsAllowed Right plan) → Facts p [] (λ files other. other ≡ plan)
   fixed plan never ends = record {
     some = λ files runs. (plan, refl);
-    once = λ files x y is so. is ∙ sym so;
+    unique = λ files x y is so. is ∙ sym so;
     unread = λ files name what cause other turn found halt is. absurd (no_turn p (Some files) name turn);
     judged = λ Has files by has is. absurd (never by is);
-    right = λ Right may files other of_file is. subst (EndsAllowed Right) (sym is) (ends Right);
+    allowed = λ Right may files other of_file is. subst (EndsAllowed Right) (sym is) (ends Right);
   }
 
   -- The facts for a plan that reads files and gives no verdicts.
@@ -94,10 +97,10 @@ module _ (p : Prepared) where
     reading : Facts p names (λ files other. (s : StageResult A) × Has files s × (other ≡ plan_of_stage plan s))
     reading = record {
       some = λ files runs. let s = read.some files runs in (plan_of_stage plan s.0, (s.0, s.1, refl));
-      once = λ files x y is so. is.2 ∙ ap (plan_of_stage plan) (read.once files is.0 so.0 is.1 so.1) ∙ sym so.2;
+      unique = λ files x y is so. is.2 ∙ ap (plan_of_stage plan) (read.unique files is.0 so.0 is.1 so.1) ∙ sym so.2;
       unread = λ files name what cause other turn found halt is. is.2 ∙ ap (plan_of_stage plan) (read.unread files name what cause is.0 turn found halt is.1);
       judged = λ Has files by has is. absurd (judges_not is.0 by is.2);
-      right = λ Right may files other of_file is. subst (EndsAllowed Right) (sym is.2) (ends_so Right may is.0 (read.right Right may files is.0 of_file is.1));
+      allowed = λ Right may files other of_file is. subst (EndsAllowed Right) (sym is.2) (ends_so Right may is.0 (read.allowed Right may files is.0 of_file is.1));
     }
 
   -- The facts for a plan that gives verdicts.
@@ -115,17 +118,17 @@ module _ (p : Prepared) where
 
   judging : (file : Option Text) → Facts p (optional_file file) (λ files plan. (s : StageResult (Option Messages)) × AreOptionalMessages file files p s × (plan ≡ plan_of_stage (judging_plan p) s))
   judging file = record {
-    some = λ files runs. let s = some_messages_for p runs.halts runs.fit.table.grammar file files in (plan_of_stage (judging_plan p) s.0, (s.0, s.1, refl));
-    once = λ files x y is so. is.2 ∙ ap (plan_of_stage (judging_plan p)) (messages_for_once p file files is.0 so.0 is.1 so.1) ∙ sym so.2;
-    unread = λ files name what cause plan turn found halt is. is.2 ∙ ap (plan_of_stage (judging_plan p)) (for_unread_halts p file files name what cause is.0 (turn_of_named p (Some files) name file turn) found halt is.1);
+    some = λ files runs. let s = some_messages_for p runs.halts runs.consistent.table.grammar file files in (plan_of_stage (judging_plan p) s.0, (s.0, s.1, refl));
+    unique = λ files x y is so. is.2 ∙ ap (plan_of_stage (judging_plan p)) (messages_for_once p file files is.0 so.0 is.1 so.1) ∙ sym so.2;
+    unread = λ files name what cause plan turn found halt is. is.2 ∙ ap (plan_of_stage (judging_plan p)) (messages_halt_if_unread p file files name what cause is.0 (turn_of_named p (Some files) name file turn) found halt is.1);
     judged = λ Has files by has is. judges_has Has is.0 by is.2 has;
-    right = λ Right may files plan of_file is.
-        subst (EndsAllowed Right) (sym is.2) (judges_right Right is.0 (messages_for_right p Right may file files is.0 (λ name what cause same found halt. of_file name what cause (named_turn p files file name same) found halt) is.1));
+    allowed = λ Right may files plan of_file is.
+        subst (EndsAllowed Right) (sym is.2) (judges_right Right is.0 (messages_stop_allowed p Right may file files is.0 (λ name what cause same found halt. of_file name what cause (named_turn p files file name same) found halt) is.1));
   }
 
 -- The facts on one messages file that is checked against the table.
 one_checked : (p : Prepared) (file : Text) → ReadFacts p (file ∷ []) (λ files. IsFileContent files (AreMessages p.grammar p.tabled.halting) file)
-one_checked p file = one_file p file (AreMessages p.grammar p.tabled.halting) (checking p.grammar p.tabled.halting) (λ runs. some_checked p.grammar p.tabled.halting runs.halts runs.fit.table.grammar)
+one_checked p file = one_file p file (AreMessages p.grammar p.tabled.halting) (messages_facts p.grammar p.tabled.halting) (λ runs. some_checked p.grammar p.tabled.halting runs.halts runs.consistent.table.grammar)
 
 pub facts_of : (job : Job) (p : Prepared) → Facts p (files_of_job job p.order) (λ files. IsPlanOfJob job files p)
 facts_of Interpret p = judging p p.order.messages
@@ -139,9 +142,10 @@ facts_of ShortestSentences p = fixed p (Ends (Shortest p)) (λ by is. cc) (λ Ri
 facts_of (RandomSentence seed n) p = fixed p (Ends (Random seed n p)) (λ by is. cc) (λ Right. tt)
 facts_of (CompileErrors file) p = reading p (file ∷ []) (λ files. IsFileContent files (AreMessages p.grammar p.tabled.halting) file) (one_checked p file) (λ messages. writing_plan (Written (compiled_text messages))) (λ messages by is. cc) (λ Right may messages. tt)
 facts_of (EchoErrors file) p =
-    reading p (file ∷ []) (λ files. IsFileContent files (IsMessagesFile p.grammar) file) (one_file p file (IsMessagesFile p.grammar) (spelling p.grammar) (λ runs name bytes short. some_spelled p.grammar name bytes)) (λ spelled. writing_plan (Written (echo_text p.grammar spelled))) (λ spelled by is. cc)
+    reading p (file ∷ []) (λ files. IsFileContent files (IsMessagesFile p.grammar) file) (one_file p file (IsMessagesFile p.grammar) (messages_file_facts p.grammar) (λ runs name bytes short. some_spelled p.grammar name bytes)) (λ spelled. writing_plan (Written (echo_text p.grammar spelled))) (λ spelled by is. cc)
     (λ Right may spelled. tt)
 facts_of (UpdateErrors file) p = reading p (file ∷ []) (λ files. IsUpdatedFile files p file) (one_updated p file) (λ text. writing_plan (Written text)) (λ text by is. cc) (λ Right may text. tt)
+facts_of (RebaseErrors file) p = reading p (file ∷ []) (λ files. IsFileContent files IsLooseFile file) (one_file p file IsLooseFile loose_facts (λ runs name bytes short. some_loose name bytes)) (λ loose. Ends (Rebased loose p)) (λ loose by is. cc) (λ Right may loose. tt)
 facts_of (CompareErrors first second) p =
     reading p (first ∷ second ∷ []) (λ files. AreMessagesOfBoth files p first second) (two_files p first second) (λ both. writing_plan (comparison_result first second (missing both.0 both.1))) (λ both by is. cc) (λ Right may both. final_right Right may (comparison_result first second (missing both.0 both.1)))
 
@@ -150,7 +154,7 @@ facts_of (CompareErrors first second) p =
 pub record EndFacts (end : FinalOutput) : Type 1 where
   pub cause : (x y : ModeEnd) → IsFinalOutput end x → IsFinalOutput end y → x.cause ≡ y.cause
   pub out : (x y : ModeEnd) → IsFinalOutput end x → IsFinalOutput end y → x.out ≡ y.out
-  pub right : (Right : Cause → Type 0) → ((line : Text) → Right (Refused line)) → (e : ModeEnd) → EndsAllowed Right (Ends end) → IsFinalOutput end e → IsAllowed Right e.cause
+  pub allowed : (Right : Cause → Type 0) → ((line : Text) → Right (Refused line)) → (e : ModeEnd) → EndsAllowed Right (Ends end) → IsFinalOutput end e → IsAllowed Right e.cause
 
 list_right : (p : Prepared) (Right : Cause → Type 0) → ((line : Text) → Right (Refused line)) → (e : ModeEnd) → ListsErrors p.grammar p.tabled.automaton p.tabled.halting e.cause e.out → IsAllowed Right e.cause
 list_right p Right may e (Lists none cause list) = subst (IsAllowed Right) (sym cause) tt
@@ -163,32 +167,37 @@ pub end_facts : (end : FinalOutput) → EndFacts end
 end_facts (Known end) = record {
   cause = λ x y is so. ap (λ (e : ModeEnd). e.cause) (is ∙ sym so);
   out = λ x y is so. ap (λ (e : ModeEnd). e.out) (is ∙ sym so);
-  right = λ Right may e right is. subst (IsAllowed Right) (sym (ap (λ (x : ModeEnd). x.cause) is)) right;
+  allowed = λ Right may e right is. subst (IsAllowed Right) (sym (ap (λ (x : ModeEnd). x.cause) is)) right;
 }
 end_facts (Automaton p) = record {
   cause = λ x y is so. is.0 ∙ sym so.0;
   out = λ x y is so. text_once p.grammar p.tabled.automaton p.tabled.mode p.tabled.halting x.out y.out is.1 so.1;
-  right = λ Right may e right is. subst (IsAllowed Right) (sym is.0) tt;
+  allowed = λ Right may e right is. subst (IsAllowed Right) (sym is.0) tt;
 }
 end_facts (Errors p) = record {
   cause = λ x y is so. list_cause_once p.grammar p.tabled.automaton p.tabled.halting x.cause y.cause x.out y.out is so;
   out = λ x y is so. list_out_once p.grammar p.tabled.automaton p.tabled.halting x.cause y.cause x.out y.out is so;
-  right = λ Right may e right is. list_right p Right may e is;
+  allowed = λ Right may e right is. list_right p Right may e is;
+}
+end_facts (Rebased file p) = record {
+  cause = λ x y is so. rebased_cause_once p.grammar p.tabled.automaton p.tabled.halting file x.cause y.cause x.out y.out is so;
+  out = λ x y is so. rebased_out_once p.grammar p.tabled.automaton p.tabled.halting file x.cause y.cause x.out y.out is so;
+  allowed = λ Right may e right is. rebased_right p.grammar p.tabled.automaton p.tabled.halting file (IsAllowed Right) may tt e.cause e.out is;
 }
 end_facts (Sampled number p) = record {
   cause = λ x y is so. counts_cause_once p.grammar p.tabled.halting number x.cause y.cause x.out y.out is so;
   out = λ x y is so. counts_out_once p.grammar p.tabled.halting number x.cause y.cause x.out y.out is so;
-  right = λ Right may e right is. counts_right p.grammar p.tabled.halting number (IsAllowed Right) may tt e.cause e.out is;
+  allowed = λ Right may e right is. counts_right p.grammar p.tabled.halting number (IsAllowed Right) may tt e.cause e.out is;
 }
 end_facts (Shortest p) = record {
   cause = λ x y is so. is.0 ∙ sym so.0;
   out = λ x y is so. shortest_text_once p.grammar x.out y.out is.1 so.1;
-  right = λ Right may e right is. subst (IsAllowed Right) (sym is.0) tt;
+  allowed = λ Right may e right is. subst (IsAllowed Right) (sym is.0) tt;
 }
 end_facts (Random seed n p) = record {
   cause = λ x y is so. ap (λ (e : ModeEnd). e.cause) (random_once p seed n x y is so);
   out = λ x y is so. ap (λ (e : ModeEnd). e.out) (random_once p seed n x y is so);
-  right = λ Right may e right is. subst (IsAllowed Right) (sym (ap (λ (x : ModeEnd). x.cause) is.2)) (final_right Right may is.0);
+  allowed = λ Right may e right is. subst (IsAllowed Right) (sym (ap (λ (x : ModeEnd). x.cause) is.2)) (final_right Right may is.0);
 }
 
 -- ---- The answer to a line and the end of a mode are unique.
@@ -226,7 +235,7 @@ module _ (Right : Cause → Type 0) (may_refuse : (line : Text) → Right (Refus
   answer_right (Serves g t branches) line text next is right = subst (EndsAllowed Right) (sym is.2) tt
 
   pub ends_right : (plan : Plan) (e : ModeEnd) → EndsAllowed Right plan → EndsWith plan e → IsAllowed Right e.cause
-  ends_right (Ends end) e right is = (end_facts end).right Right may_refuse e right is
+  ends_right (Ends end) e right is = (end_facts end).allowed Right may_refuse e right is
   ends_right (Judges by) e right is = subst (IsAllowed Right) (sym (ap (λ (x : ModeEnd). x.cause) is)) tt
   ends_right (Explains p line) e right is = subst (IsAllowed Right) (sym (ap (λ (x : ModeEnd). x.cause) is.2)) (final_right Right may_refuse is.0)
   ends_right (Serves g t branches) e right is = subst (IsAllowed Right) (sym (ap (λ (x : ModeEnd). x.cause) is)) tt

@@ -1,5 +1,5 @@
 -- The list of errors of a table is unique: either its catalogue, or the refusal of one state.
-use Rattle.std.proofs.Common.{◌≡◌, ◌<◌, ℕ, List, [], ◌∷◌, ◌++◌, Option, sym, ◌∙◌, ap, ap₂, subst, inl, inr, arith}
+use Rattle.std.proofs.Common.{◌≡◌, ◌<◌, ℕ, List, Option, sym, ◌∙◌, ap, subst, inl, inr, arith}
 use Rattle.std.specs.Prelude.{Some}
 use Rattle.std.proofs.lemmas.Bool.{cases_lt}
 use Rattle.mh_grammar.specs.declared.types.Grammar.{Grammar}
@@ -7,9 +7,10 @@ use Rattle.mh_items_kernels.specs.KernelTypes.{Automaton}
 use Rattle.mh_tables_core.specs.Table.{TableData}
 use Rattle.mh_tables_core.specs.Failing.{CatalogueRow, TooLongAt}
 use Rattle.mh_tables_core.proofs.OneCatalogue.{catalogue_once}
-use Rattle.mh_report_comments.proofs.OneCommentText.{entry_once}
 use Rattle.mh_grammar.specs.Text.{Text}
-use Rattle.mh_top_plans.specs.Listing.{too_long, AreEntries, ListsErrors, Lists, TooLong}
+use Rattle.mh_report_comments.specs.CatalogueTexts.{AreEntries}
+use Rattle.mh_report_comments.proofs.AreEntries.{entries_once}
+use Rattle.mh_top_plans.specs.Listing.{too_long, ListsErrors, Lists, TooLong}
 use Rattle.mh_top_drive.specs.declared.stop.Cause.{Cause}
 use Rattle.mh_top_drive.specs.declared.stop.Cause.TheVariants.{Refused}
 
@@ -17,7 +18,7 @@ use Rattle.mh_top_drive.specs.declared.stop.Cause.TheVariants.{Refused}
 not_below : (t : TableData) (s r : ℕ) → TooLongAt t s → TooLongAt t r → s < r → ⊥
 not_below t s r long other lt =
     let cheap = other.lowest s lt long.failing in
-    let dear = long.dear cheap.0 cheap.1 cheap.2 in
+    let dear = long.all_too_long cheap.0 cheap.1 cheap.2 in
     let le = cheap.3 in
     omega arith
 
@@ -32,13 +33,6 @@ list_cause_once g a t c d x y (Lists none cause list) (Lists none' cause' list')
 list_cause_once g a t c d x y (Lists none cause list) (TooLong s long cause' out) = absurd (none s long)
 list_cause_once g a t c d x y (TooLong s long cause out) (Lists none cause' list) = absurd (none s long)
 list_cause_once g a t c d x y (TooLong s long cause out) (TooLong r also cause' out') = cause ∙ ap (λ (n : ℕ). Some (Refused (too_long n))) (too_long_once t s r long also) ∙ sym cause'
-
-entries_once : (g : Grammar) (a : Automaton) (t : TableData) (rows : List CatalogueRow) (x y : Text) → AreEntries g a t rows x → AreEntries g a t rows y → x ≡ y
-entries_once g a t [] x y p q = p ∙ sym q
-entries_once g a t (row ∷ rows) x y p q =
-    let first = entry_once g a t row.start row.sentence p.0 q.0 p.2 q.2 in
-    let rest = entries_once g a t rows p.1 q.1 p.3 q.3 in
-    p.4 ∙ ap₂ (λ (u v : Text). u ++ v) first rest ∙ sym q.4
 
 pub list_out_once : (g : Grammar) (a : Automaton) (t : TableData) (c d : Option Cause) (x y : Text) → ListsErrors g a t c x → ListsErrors g a t d y → x ≡ y
 list_out_once g a t c d x y (Lists none cause list) (Lists none' cause' list') =

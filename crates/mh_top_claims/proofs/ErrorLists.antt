@@ -9,8 +9,8 @@ use Rattle.mh_top_drive.specs.StageResults.{StageResult, Go, Halt}
 use Rattle.mh_top_drive.specs.Statuses.{last_line_of, status_of}
 use Rattle.mh_top_claims.specs.ErrorLists.{ErrorListOutcome, AsksForErrorList, Listed, ListsErrorsExactly, Refused}
 use Rattle.mh_top_plans.specs.Listing.{ListsErrors, Lists, TooLong}
-use Rattle.mh_top_drive.specs.ModeBehavior.{ModeEnd, AnswersAll, AreAskedLines, EndsAfterAnswers, Outcome, HasOutcome}
-use Rattle.mh_top_plans.specs.Plan.{Plan, IsFinalOutput, EndsWith, IsPlanOfJob, Ends, Errors, plan_behavior}
+use Rattle.mh_top_drive.specs.ModeBehavior.{HasOutcome}
+use Rattle.mh_top_plans.specs.Plan.{Plan, IsPlanOfJob, Ends, Errors, plan_behavior}
 use Rattle.mh_top_claims.specs.Run.{World, DoesWork, text_on_err}
 use Rattle.mh_top_claims.specs.Run as runs
 use Rattle.mh_top_types.specs.Shapes.{Prepared}
@@ -18,10 +18,10 @@ use Rattle.mh_grammar.specs.Text.{Text}
 use Rattle.mh_top_claims.specs.Work.{Work, IsPlanUnlessRefused, IsWork, IsWorkOf}
 use Rattle.mh_top_warnings.specs.Warnings.{has_warning, warnings_of}
 use Rattle.mh_top_claims.specs.Preparing.{IsPrepared}
-use Rattle.mh_top_drive.specs.declared.driving.Asks.TheVariants.{NoLine}
 use Rattle.mh_top_drive.specs.declared.stop.Cause.{Cause}
 use Rattle.mh_top_claims.proofs.Claims.{completes}
 use Rattle.mh_top_claims.proofs.PreparedUnique.{prepared_once}
+use Rattle.mh_top_claims.proofs.FinalOutputOutcome.{yields_end}
 
 -- The plan that the words ask for is the one that lists the errors.
 plan_of : (refused : Bool) (files : Option Files) (p : Prepared) (plan : Plan) → refused ≡ false → p.order.job ≡ ListErrors → IsPlanUnlessRefused refused files p plan → plan ≡ Ends (Errors p)
@@ -39,20 +39,6 @@ module _ (words : List Text) (files : Files) (p : Prepared) (asks : AsksForError
   work_is : (w : Work) → IsWork words (Some files) w → (w.warnings ≡ warnings_of p) × (w.plan ≡ Ends (Errors p))
   work_is w is = work_at is.0 w (prepared_once words files is.0 (Go p) is.1 asks.prepared) is.2
 
--- The outcome of a mode that asks for no line is its end.
-ends_alone : (p : Prepared) (lines : List Text) (text : Text) (last : Plan) (whole : Bool) (cause : Option Cause) (out : Text) → AreAskedLines NoLine None lines whole → AnswersAll plan_behavior (Ends (Errors p)) lines text last → EndsAfterAnswers plan_behavior whole last text cause out → IsFinalOutput (Errors p) (record { cause = cause; out = out })
-ends_alone p lines text last whole cause out asks answers ends =
-    let none : AnswersAll plan_behavior (Ends (Errors p)) [] text last = subst (λ (l : List Text). AnswersAll plan_behavior (Ends (Errors p)) l text last) asks.0 answers in
-    let all : EndsAfterAnswers plan_behavior true last text cause out = subst (λ (b : Bool). EndsAfterAnswers plan_behavior b last text cause out) asks.1 ends in
-    let e = all.0 in
-    let is : EndsWith (Ends (Errors p)) e = subst (λ (l : Plan). EndsWith l e) none.1 all.1 in
-    let out_is : out ≡ e.out = all.3 ∙ ap (λ (t : Text). t ++ e.out) none.0 in
-    let same : e ≡ record { cause = cause; out = out } = (λ i. record { cause = sym all.2 i; out = sym out_is i }) in
-    subst (λ (x : ModeEnd). IsFinalOutput (Errors p) x) same is
-
-yields_end : (p : Prepared) (input : Option Text) (o : Outcome) → HasOutcome plan_behavior (Ends (Errors p)) input o → IsFinalOutput (Errors p) (record { cause = o.cause; out = o.out })
-yields_end p input o y = ends_alone p y.lines y.text y.last y.whole o.cause o.out y.asks y.answers y.ends
-
 module _ (p : Prepared) (b a : World) (status : ℕ) where
   listed : (cause : Option Cause) (out : Text) → ListsErrors p.grammar p.tabled.automaton p.tabled.halting cause out → status ≡ status_of cause → Appends b.out a.out out → Appends b.err a.err (warnings_of p ++ last_line_of cause) → ErrorListOutcome p b a status
   listed cause out (Lists none cause_is list) is on_out on_err =
@@ -66,7 +52,7 @@ module _ (words : List Text) (b a : World) (status : ℕ) where
   done files told p asks does =
       let work = work_is words files p asks does.work (subst (λ (x : Option Files). IsWork words x does.work) told does.is_asked) in
       let yields : HasOutcome plan_behavior (Ends (Errors p)) b.left does.outcome = subst (λ (l : Plan). HasOutcome plan_behavior l b.left does.outcome) work.1 does.yields in
-      let list : ListsErrors p.grammar p.tabled.automaton p.tabled.halting does.outcome.cause does.outcome.out = yields_end p b.left does.outcome yields in
+      let list : ListsErrors p.grammar p.tabled.automaton p.tabled.halting does.outcome.cause does.outcome.out = yields_end (Errors p) b.left does.outcome yields in
       listed p b a status does.outcome.cause does.outcome.out list does.status_is does.on_out (subst (λ (t : Text). Appends b.err a.err (t ++ last_line_of does.outcome.cause)) work.0 does.on_err)
 
   pub lists_exactly : runs.Ran words b a status → ListsErrorsExactly words b a status

@@ -14,7 +14,7 @@ use Rattle.mh_top_drive.proofs.Then.{IsOne}
 use Rattle.mh_top_drive.specs.FileContents.{IsFileContent}
 use Rattle.mh_top_types.specs.Shapes.{Prepared}
 use Rattle.mh_top_plans.specs.MessagesFiles.{IsMessagesFile, IsUpdatedFile, IsUpdatedOf}
-use Rattle.mh_top_plans.proofs.MessagesFileLines.{file_of_table, some_spelled, spelling}
+use Rattle.mh_top_plans.proofs.MessagesFileLines.{file_of_table, some_spelled, messages_file_facts}
 use Rattle.mh_top_plans.proofs.FilesOfMode.{ReadFacts, PreparedFacts, StopsAllowed, one_file, read_then}
 
 module _ (p : Prepared) where
@@ -30,15 +30,15 @@ module _ (p : Prepared) where
   of_file_right Right may name file (Halt cause) is = subst Right (sym is.cause_is) (may (check_line name is.fault))
 
   some_updated : PreparedFacts p → (name : Text) (file : MsgFile) → AreSentencesOf (length p.tabled.halting.grammar.starts) p.tabled.halting.grammar.tokens file → (s : StageResult Text) × IsUpdatedOf p name file s
-  some_updated runs name file of = elim (updated_or_unfit p.tabled.halting p.grammar p.tabled.automaton runs.halts runs.fit.automaton runs.fit.table.states.count file of) [
+  some_updated runs name file of = elim (updated_or_unfit p.tabled.halting p.grammar p.tabled.automaton runs.halts runs.consistent.automaton runs.consistent.table.states.count file of) [
     | inl text ↦ (Go text.0, text.1)
     | inr f ↦ (Halt (Refused (check_line name f.0)), record { fault = f.0; first = f.1; cause_is = refl })
   ]
 
   spelled : (name : Text) → ReadFacts p (name ∷ []) (λ files. IsFileContent files (IsMessagesFile p.grammar) name)
-  spelled name = one_file p name (IsMessagesFile p.grammar) (spelling p.grammar) (λ runs other bytes short. some_spelled p.grammar other bytes)
+  spelled name = one_file p name (IsMessagesFile p.grammar) (messages_file_facts p.grammar) (λ runs other bytes short. some_spelled p.grammar other bytes)
 
   pub one_updated : (name : Text) → ReadFacts p (name ∷ []) (λ files. IsUpdatedFile files p name)
   one_updated name =
       read_then p (name ∷ []) (λ files. IsFileContent files (IsMessagesFile p.grammar) name) (spelled name) (IsUpdatedOf p name) (of_file_once name) (λ Right may file s is. of_file_right Right may name file s is)
-      (λ files runs file is. some_updated runs name file (file_of_table p.grammar p.tabled.halting runs.fit.table.grammar files name file is))
+      (λ files runs file is. some_updated runs name file (file_of_table p.grammar p.tabled.halting runs.consistent.table.grammar files name file is))

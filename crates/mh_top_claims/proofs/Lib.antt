@@ -5,7 +5,9 @@ pub mod IsAnswerToLine
 pub mod IsExplained
 pub mod AreMessagesOfBoth
 pub mod IsUpdatedFile
+pub mod RebasesFile
 pub mod EachMode
+pub mod HasFileNames
 pub mod IsGrammarReady
 pub mod OrderAndGrammarUnique
 pub mod TableUnique
@@ -17,8 +19,14 @@ pub mod Claims
 pub mod UnwarnedIsConflictFree
 pub mod VerdictClaims
 pub mod AnswerAtLine
+pub mod FinalOutputOutcome
 pub mod ErrorLists
 pub mod MergedHasNoConflict
 pub mod WorkBeforeLastLine
 pub mod Ran
 pub mod AcceptsRandom
+pub mod RebasedFiles
+pub mod HasRoundTrips
+pub mod PreparationStages
+pub mod GivesTable
+pub mod Headline

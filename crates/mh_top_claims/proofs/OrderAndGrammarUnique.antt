@@ -1,7 +1,7 @@
 -- The result of the stages up to the grammar is unique over known files.
 use Rattle.std.proofs.Common.{◌≡◌, ℕ, Bool, List, [], ◌∷◌, Option, None, Some, sym, ◌∙◌, ap}
 use Rattle.mh_outside.specs.Shelf.{Files}
-use Rattle.mh_front.proofs.GrammarUnique.{one_grammar, one_fault, grammar_or_fault}
+use Rattle.mh_front.proofs.GrammarUnique.{one_grammar, one_fault, not_grammar_and_fault}
 use Rattle.mh_rules.specs.declared.modules.Module.{Module}
 use Rattle.mh_sample.specs.Texts.{grammar_text}
 use Rattle.mh_reader_parser.proofs.SyntaxLine.{syntax_line_unique, spelled_module_unique}
@@ -45,8 +45,8 @@ modules_once files (Some number) names = then_once (IsModule sample_file (gramma
 
 grammar_once : (prelude : Bool) (modules : List Module) → IsOne (IsGrammarStage prelude modules)
 grammar_once prelude modules (Go g) (Go h) p q = ap Go (one_grammar prelude modules g h p q)
-grammar_once prelude modules (Go g) (Halt cause) p q = absurd (grammar_or_fault prelude modules g q.0 p q.1)
-grammar_once prelude modules (Halt cause) (Go g) p q = absurd (grammar_or_fault prelude modules g p.0 q p.1)
+grammar_once prelude modules (Go g) (Halt cause) p q = absurd (not_grammar_and_fault prelude modules g q.0 p q.1)
+grammar_once prelude modules (Halt cause) (Go g) p q = absurd (not_grammar_and_fault prelude modules g p.0 q p.1)
 grammar_once prelude modules (Halt cause) (Halt cause') p q =
     ap Halt (p.2 ∙ ap (λ f. Refused (refusal f)) (one_fault prelude modules p.0 q.0 p.1 q.1) ∙ sym q.2)
 

@@ -18,7 +18,7 @@ prepared_once words files s r p q = at p.0 q.0 (order_and_grammar_once words fil
     at : (f h : StageResult OrderAndGrammar) → f ≡ h → IsOrderAndGrammar words (Some files) f → AfterStage f (IsPreparedFromFiles (Some files)) s → AfterStage h (IsPreparedFromFiles (Some files)) r → s ≡ r
     at (Go front) (Go other) same is x y =
         let one : front ≡ other = cc in
-        tabled_front_once files front (front_ready words (Some files) front is).apart s r x (subst (λ (k : OrderAndGrammar). IsPreparedFromFiles (Some files) k r) (sym one) y)
+        tabled_front_once files front (front_ready words (Some files) front is).distinct_names s r x (subst (λ (k : OrderAndGrammar). IsPreparedFromFiles (Some files) k r) (sym one) y)
     at (Go front) (Halt cause) same is x y = absurd (cc)
     at (Halt cause) (Go front) same is x y = absurd (cc)
     at (Halt cause) (Halt other) same is x y = let one : cause ≡ other = cc in x ∙ ap Halt one ∙ sym y

@@ -87,7 +87,7 @@ module _ (words : List Text) (b m : World) (err : Option Text) (n result : ℕ) 
   ran WriteFailed (inl h) (Silent is four same calm) = CannotWarn four (subst (λ (k : ℕ). HasRisen b.err_faults k) (sym calm) h.0) (record {
     prepared = h.1.prepared;
     is_asked = h.1.is_asked;
-    still = record { out = h.1.still.out; left = h.1.still.left; input_faults = h.1.still.input_faults; out_faults = h.1.still.out_faults };
+    unchanged = record { out = h.1.unchanged.out; left = h.1.unchanged.left; input_faults = h.1.unchanged.input_faults; out_faults = h.1.unchanged.out_faults };
     on_err = subst (λ x. AppendsPrefix b.err x (warnings_of h.1.prepared)) (sym same) h.1.on_err;
   })
   ran WriteFailed (inr h) (Silent is four same calm) = CannotWrite four h.0 h.1 (calm ∙ h.2) (AfterWarnings-weaker words b _ _ _ (λ front on. subst (λ x. Appends b.err x front) (sym same) on) h.3)

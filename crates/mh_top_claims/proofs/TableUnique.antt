@@ -26,7 +26,7 @@ use Rattle.mh_tabfile_read.specs.declared.reading.TabFault.{TabFault}
 use Rattle.mh_tabfile_read.specs.declared.reading.TabFault.TheVariants.{Version, TabShape, Memory}
 use Rattle.mh_tabfile_form.specs.Form.{IsFileOf}
 use Rattle.mh_tabfile_read.proofs.BadLineUnique.{one_bad_line}
-use Rattle.mh_tabfile_read.proofs.ReadingUnique.{no_bad, no_other, same_file}
+use Rattle.mh_tabfile_read.proofs.ReadingUnique.{no_bad, no_other, same_table}
 use Rattle.mh_validate_valid.specs.declared.reason.Reason.{Reason}
 use Rattle.mh_validate_valid.specs.Valid.{AreTokenNamesDistinct, IsValidFor}
 use Rattle.mh_validate_valid.proofs.ValidFailsNone.{valid_not_invalid}
@@ -62,11 +62,11 @@ table_fault_once bytes Version Memory p q = absurd q
 table_fault_once bytes (TabShape line) Memory p q = absurd q
 
 table_file_once : (name bytes : Text) → IsOne (IsTableFile name bytes)
-table_file_once name bytes (Go raw) (Go other) p q = ap Go (same_file bytes raw other p q)
-table_file_once name bytes (Go raw) (Halt cause) p q = absurd (formed name bytes raw q.fault p q.has)
-table_file_once name bytes (Halt cause) (Go raw) p q = absurd (formed name bytes raw p.fault q p.has)
+table_file_once name bytes (Go raw) (Go other) p q = ap Go (same_table bytes raw other p q)
+table_file_once name bytes (Go raw) (Halt cause) p q = absurd (formed name bytes raw q.fault p q.has_fault)
+table_file_once name bytes (Halt cause) (Go raw) p q = absurd (formed name bytes raw p.fault q p.has_fault)
 table_file_once name bytes (Halt cause) (Halt cause') p q =
-    ap Halt (p.cause_is ∙ ap (λ (f : TabFault). Refused (table_fault_line name f)) (table_fault_once bytes p.fault q.fault p.has q.has) ∙ sym q.cause_is)
+    ap Halt (p.cause_is ∙ ap (λ (f : TabFault). Refused (table_fault_line name f)) (table_fault_once bytes p.fault q.fault p.has_fault q.has_fault) ∙ sym q.cause_is)
 
 -- ---- The table.
 

@@ -39,7 +39,7 @@ no_look_level g none (Token z) =
     (λ t at. subst (λ (x : TokenInfo). x.level ≡ None) (get_or_from_slice_get g.tokens z t t at) (none z t (slice_get_within g.tokens z t at)))
 no_look_level g none End = refl
 
--- A comparison in which one level is missing is the same as one in which both are.
+-- If the second level is missing, the comparison is the same as if both are missing.
 comparison_unknown : (p t : Option Level) → t ≡ None → comparison p t ≡ comparison None None
 comparison_unknown None t e = refl
 comparison_unknown (Some p) None e = refl
@@ -58,8 +58,8 @@ module _ (g : Grammar) (none : HasNoLevels g) (items : ItemSet) (look : Look) wh
   two p q r h lt = record {
     one = p;
     other = q;
-    stays_one = (r, λ j e. absurd (no_shift j e));
-    stays_other = (h, λ j e. absurd (no_shift j e));
+    one_remains = (r, λ j e. absurd (no_shift j e));
+    other_remains = (h, λ j e. absurd (no_shift j e));
     below = lt;
   }
 
@@ -99,7 +99,7 @@ all_silent g (x ∷ cs) e zero c at =
 all_silent g (x ∷ cs) e (suc n) c at = all_silent g cs (nil_parts (warning_line g x.state x.look x.kind) (warning_lines g cs) e).1 n c at
 
 pub unwarned_has_no_conflict : (g : Grammar) (a : Automaton) (cs : List Conflict) → AreConflicts g a cs → HasNoLevels g → warning_lines g cs ≡ [] → HasNoConflicts g a
-unwarned_has_no_conflict g a cs are none e s lt = record { one = one; stream = λ x. not_solved (record { state = s; look = End; kind = Stream }) (λ same. cc) (lt, (refl, x)) }
+unwarned_has_no_conflict g a cs are none e s lt = record { no_conflict = one; no_stream_conflict = λ x. not_solved (record { state = s; look = End; kind = Stream }) (λ same. cc) (lt, (refl, x)) }
   where
     not_solved : (c : Conflict) → (c.kind ≡ Solved → ⊥) → IsConflictOf g a c → ⊥
     not_solved c not is = let at = at_contains cs c ((are.members c).1 is) in not (all_silent g cs e at.0 c at.1)
@@ -107,4 +107,4 @@ unwarned_has_no_conflict g a cs are none e s lt = record { one = one; stream = �
     one : (look : Look) → IsConflict (Raw (state_of g a s) look) → ⊥
     one look x =
         not_solved (record { state = s; look = look; kind = Unsolved }) (λ same. cc)
-        (lt, unsolved_pair g none (state_of g a s).items look (shift_on (state_of g a s).edges look) x.one x.other x.raw_one x.raw_other x.two)
+        (lt, unsolved_pair g none (state_of g a s).items look (shift_on (state_of g a s).edges look) x.one x.other x.raw_one x.raw_other x.differ)

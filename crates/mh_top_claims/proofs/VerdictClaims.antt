@@ -10,15 +10,14 @@ use Rattle.mh_grammar.specs.Plain.{PlainGrammar, plain_of, start_symbol, IsInRan
 use Rattle.mh_items_kernels.specs.KernelTypes.{Automaton, Kernel}
 use Rattle.mh_items_kernels.specs.Automaton.{IsAutomaton, kernel_at}
 use Rattle.mh_canon_states.specs.Canonical.{IsCanonical, CanonicalExceeds}
-use Rattle.mh_canon_states.specs.declared.limits.TheConstants.{MAX_STATES}
+use Rattle.mh_canon_states.specs.Limits.{max_states}
 use Rattle.mh_canon_states.specs.code.FoundStates.{IsCanonicalState, AreCanonicalStates}
 use Rattle.mh_canon_states.proofs.CollectionIsCanonical.{kernel_at-slice_get}
 use Rattle.mh_canon_states.proofs.CanonicalIsAutomaton.{IsAutomaton-canonical}
-use Rattle.mh_canon_states.proofs.OneCanonical.{canonical_unique}
 use Rattle.mh_canon_states.proofs.AreCanonicalStates.{CanonicalExceeds-states}
 use Rattle.mh_pager_steps.proofs.IsMerged.{merged_automaton}
 use Rattle.mh_pager_steps.proofs.MergingExceeds.{merged_few}
-use Rattle.mh_top_claims.proofs.MergedHasNoConflict.{merged_has_no_conflict}
+use Rattle.mh_top_claims.proofs.MergedHasNoConflict.{merged_has_no_conflict, canonical_has_no_conflict}
 use Rattle.mh_top_claims.proofs.UnwarnedIsConflictFree.{unwarned_has_no_conflict}
 use Rattle.mh_resolve_cells.specs.NoConflicts.{HasNoConflicts}
 use Rattle.mh_resolve_cells.specs.States.{IsTableOf}
@@ -114,7 +113,7 @@ module _ (g : PlainGrammar) (a : Automaton) (h : IsCanonical g a) where
   state_at : (k : ℕ) (d : Kernel) → k < length a.kernels → IsCanonicalState g (get_or a.kernels k d)
   state_at k d l =
       let same : kernel_at a k ≡ get_or a.kernels k d = kernel_at-slice_get a k (get_or a.kernels k d) (slice_get-get_or a.kernels k d l) in
-      subst (IsCanonicalState g) same (record { kernel = (h.each k l).0; some = (h.each k l).1; reach = h.sound k l })
+      subst (IsCanonicalState g) same (record { kernel = (h.each k l).0; has_item = (h.each k l).1; reach = h.sound k l })
 
   states : AreCanonicalStates g a.kernels
   states = record {
@@ -126,13 +125,13 @@ module _ (g : PlainGrammar) (a : Automaton) (h : IsCanonical g a) where
     };
   }
 
-few_canonical : (g : PlainGrammar) (a : Automaton) → IsCanonical g a → (CanonicalExceeds g MAX_STATES → ⊥) → length a.kernels ≤ MAX_STATES
-few_canonical g a canonical few = elim (cases_lt MAX_STATES (length a.kernels)) [
-  | inl over ↦ absurd (few (CanonicalExceeds-states g a.kernels MAX_STATES (states g a canonical) over))
+few_canonical : (g : PlainGrammar) (a : Automaton) → IsCanonical g a → (CanonicalExceeds g max_states → ⊥) → length a.kernels ≤ max_states
+few_canonical g a canonical few = elim (cases_lt max_states (length a.kernels)) [
+  | inl over ↦ absurd (few (CanonicalExceeds-states g a.kernels max_states (states g a canonical) over))
   | inr within ↦ within
 ]
 
-automaton_so : (source : AutomatonSource) (g : Grammar) (a : Automaton) → IsInRange (plain_of g) → HasNumberedStates source → IsAutomatonStage source g (Go a) → IsAutomaton (plain_of g) a
+pub automaton_so : (source : AutomatonSource) (g : Grammar) (a : Automaton) → IsInRange (plain_of g) → HasNumberedStates source → IsAutomatonStage source g (Go a) → IsAutomaton (plain_of g) a
 automaton_so (File name raw) g a range numbered stage = automaton_of g raw numbered a stage.0 stage.1
 automaton_so Merged g a range numbered stage = merged_automaton (plain_of g) a stage.1 (merged_few (plain_of g) a range stage.1 stage.0)
 automaton_so Canonical g a range numbered stage = IsAutomaton-canonical (plain_of g) a stage.1 (few_canonical (plain_of g) a stage.1 stage.0)
@@ -140,8 +139,8 @@ automaton_so Canonical g a range numbered stage = IsAutomaton-canonical (plain_o
 -- The automaton that is built for an LR(1) grammar has no conflict, even if it is merged.
 clear_so : (source : AutomatonSource) (g : Grammar) (a : Automaton) → IsInRange (plain_of g) → IsBuilt source → IsAutomatonStage source g (Go a) → IsLR1Grammar g → HasNoConflicts g a
 clear_so (File name raw) g a range built stage lr1 = absurd built
-clear_so Merged g a range built stage lr1 = merged_has_no_conflict g a lr1.automaton stage.1 (merged_few (plain_of g) a range stage.1 stage.0) lr1.canonical lr1.clear
-clear_so Canonical g a range built stage lr1 = subst (HasNoConflicts g) (canonical_unique (plain_of g) lr1.automaton a lr1.canonical stage.1) lr1.clear
+clear_so Merged g a range built stage lr1 = merged_has_no_conflict g a stage.1 (merged_few (plain_of g) a range stage.1 stage.0) lr1
+clear_so Canonical g a range built stage lr1 = canonical_has_no_conflict g a (automaton_so Canonical g a range tt stage) stage.1 lr1
 
 module _ (words : List Text) (g : Grammar) (t : TableData) (is : IsTabled words g t) where
   automaton : IsAutomaton (plain_of g) is.table.automaton
@@ -161,13 +160,13 @@ module _ (words : List Text) (g : Grammar) (t : TableData) (is : IsTabled words 
     mode = mode_of is.table.source;
     is_automaton = automaton;
     table = is.table.table;
-    clear = clear_so is.table.source g is.table.automaton is.range (is.table.built lr1.0) is.table.stage lr1.1;
+    no_conflicts = clear_so is.table.source g is.table.automaton is.range (is.table.built lr1.0) is.table.stage lr1.1;
   }
   clear (inr table) = table
 
   module _ (start : ℕ) (known : start < length g.starts) where
     accepts : IsConflictFree words g t → (w : List ℕ) (read : ℕ) → VerdictOf t start w (Accepted read) ↔ IsPrefixSentence (plain_of g) start w read
-    accepts lr1 w read = let c = clear lr1 in tells_prefix g c.automaton c.mode t facts c.is_automaton c.table c.clear start w read known
+    accepts lr1 w read = let c = clear lr1 in tells_prefix g c.automaton c.mode t facts c.is_automaton c.table c.no_conflicts start w read known
 
     accepts_rightly : (w : List ℕ) (read : ℕ) → VerdictOf t start w (Accepted read) → IsPrefixSentence (plain_of g) start w read
     accepts_rightly w read v =
@@ -176,7 +175,7 @@ module _ (words : List Text) (g : Grammar) (t : TableData) (is : IsTabled words 
         subst (λ (p : PlainGrammar). IsPrefixSentence p start w read) grammar (accepted_sentence t facts start w read some v)
 
     rejects : IsConflictFree words g t → (w : List ℕ) (at s : ℕ) → VerdictOf t start w (Rejected at s) → BeginsSentence (plain_of g) start (take (at + 1) w) → ⊥
-    rejects lr1 w at s v = let c = clear lr1 in tells_refused g c.automaton c.mode t facts c.is_automaton c.table c.clear start w at s known v
+    rejects lr1 w at s v = let c = clear lr1 in tells_refused g c.automaton c.mode t facts c.is_automaton c.table c.no_conflicts start w at s known v
 
     overshot : AllProductive (plain_of g) → (w : List ℕ) (s : ℕ) → VerdictOf t start w (Overshot s) → BeginsSentence (plain_of g) start w
     overshot productive w s v = overshoots g is.table.automaton (mode_of is.table.source) t facts automaton is.table.table productive start w s known v
@@ -198,7 +197,7 @@ prepared_fit words files p is = let m = made words files p is in at m m.stage.0 
 -- Every run on the prepared table ends.
 pub prepared_runs : (words : List Text) (files : Option Files) (p : Prepared) → IsPrepared words files (Go p) → PreparedFacts p
 prepared_runs words files p is =
-    let tabled = prepared_tabled words files p is in record { halts = record { facts = facts words p.grammar p.tabled.halting tabled; halts = tabled.halts }; fit = prepared_fit words files p is }
+    let tabled = prepared_tabled words files p is in record { halts = record { facts = facts words p.grammar p.tabled.halting tabled; halts = tabled.halts }; consistent = prepared_fit words files p is }
 
 -- ---- The texts of answers.
 
@@ -353,7 +352,7 @@ prepared_has_no_conflict words files p is none silent = let m = made words files
       mode = mode_of m.source;
       is_automaton = automaton_so m.source p.grammar a m.ready.range m.numbered stage;
       table = is.table;
-      clear = unwarned_has_no_conflict p.grammar a p.tabled.conflicts is.conflicts none silent;
+      no_conflicts = unwarned_has_no_conflict p.grammar a p.tabled.conflicts is.conflicts none silent;
     }
     at m (Halt cause) stage is = absurd (cc)
 

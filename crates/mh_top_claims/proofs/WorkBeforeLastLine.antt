@@ -60,7 +60,7 @@ module _ (words : List Text) (b a : World) (same : IsUntouched b a) where
   ended_before : (cause : Cause) → IsCompleteRun plan_behavior (halts cause) b.left a.left b.out a.out (Some cause)
   ended_before cause = record {
     outcome = record { cause = Some cause; out = []; left = input_left b.left true [] };
-    yields = record { lines = []; whole = true; asks = (refl, refl); text = []; last = halts cause; answers = (refl, refl); ends = (_, refl, refl, refl); left_is = refl };
+    yields = record { lines = []; complete = true; asks = (refl, refl); text = []; last = halts cause; answers = (refl, refl); ends = (_, refl, refl, refl); left_is = refl };
     cause_is = refl;
     on_out = subst (λ x. Appends b.out x []) (sym same.out) (Appends-nil b.out);
     left_is = left_same b.left a.left same.left;
@@ -99,7 +99,7 @@ module _ (words : List Text) (b a : World) (same : IsUntouched b a) where
 
 module _ (words : List Text) (b : World) (p : Prepared) (is : IsPrepared words b.files (Go p)) (err : Option Text) (n : ℕ) where
   pub warning_stops : (stop : Stop) → Warned (warnings_of p) b.err err (Err stop) → OutCounts {T = Unit {0}} b.err_faults n (Err stop) → IsWorkBeforeLastLine words b (record b { err = err; err_faults = n }) (Err stop)
-  warning_stops WriteFailed wrote counts = inl (counts.1, record { prepared = p; is_asked = is; still = record { out = refl; left = refl; input_faults = refl; out_faults = refl }; on_err = wrote })
+  warning_stops WriteFailed wrote counts = inl (counts.1, record { prepared = p; is_asked = is; unchanged = record { out = refl; left = refl; input_faults = refl; out_faults = refl }; on_err = wrote })
   warning_stops OutOfMemory wrote counts = (
     record { out = refl; err = counts },
     refl,

@@ -20,7 +20,7 @@ use Rattle.mh_top_claims.proofs.EachMode.{answer_once, cause_once, out_once, fac
 
 plan_once : (refused : Bool) (files : Files) (p : Prepared) → IsOne (IsPlanUnlessRefused refused (Some files) p)
 plan_once true files p x y is so = is ∙ sym so
-plan_once false files p x y is so = (facts_of p.order.job p).once files x y is so
+plan_once false files p x y is so = (facts_of p.order.job p).unique files x y is so
 
 work_of_once : (files : Files) (s : StageResult Prepared) → IsOne (IsWorkOf (Some files) s)
 work_of_once files (Go p) w v is so =
@@ -55,11 +55,11 @@ EndsAfterAnswers-once false plan text c d t u p q = (p.0 ∙ sym q.0, p.1 ∙ sy
 
 pub outcome_once : (plan : Plan) (input : Text) (o r : Outcome) → HasOutcome plan_behavior plan (Some input) o → HasOutcome plan_behavior plan (Some input) r → o ≡ r
 outcome_once plan input o r p q =
-    let asks = asks_once (asks_of plan) input q.lines p.lines q.whole p.whole q.asks p.asks in
+    let asks = asks_once (asks_of plan) input q.lines p.lines q.complete p.complete q.asks p.asks in
     let all = answers_once plan p.lines p.text q.text p.last q.last p.answers (subst (λ (l : List Text). AnswersAll plan_behavior plan l q.text q.last) asks.0 q.answers) in
-    let ends : EndsAfterAnswers plan_behavior p.whole p.last p.text r.cause r.out =
-    subst (λ (w : Bool). EndsAfterAnswers plan_behavior w p.last p.text r.cause r.out) asks.1 (subst (λ (t : Text). EndsAfterAnswers plan_behavior q.whole p.last t r.cause r.out) (sym all.0) (subst (λ (l : Plan). EndsAfterAnswers plan_behavior q.whole l q.text r.cause r.out) (sym all.1) q.ends)) in
-    let same = EndsAfterAnswers-once p.whole p.last p.text o.cause r.cause o.out r.out p.ends ends in
+    let ends : EndsAfterAnswers plan_behavior p.complete p.last p.text r.cause r.out =
+    subst (λ (w : Bool). EndsAfterAnswers plan_behavior w p.last p.text r.cause r.out) asks.1 (subst (λ (t : Text). EndsAfterAnswers plan_behavior q.complete p.last t r.cause r.out) (sym all.0) (subst (λ (l : Plan). EndsAfterAnswers plan_behavior q.complete l q.text r.cause r.out) (sym all.1) q.ends)) in
+    let same = EndsAfterAnswers-once p.complete p.last p.text o.cause r.cause o.out r.out p.ends ends in
     let left : o.left ≡ r.left = p.left_is ∙ ap₂ (λ (w : Bool) (l : List Text). input_left (Some input) w l) (sym asks.1) (sym asks.0) ∙ sym q.left_is in
     λ i. record { cause = same.0 i; out = same.1 i; left = left i }
 

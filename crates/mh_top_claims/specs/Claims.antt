@@ -127,10 +127,10 @@ pub record IsOutputPrefix (plan : Plan) (input : Option Text) (text : Text) : Ty
   pub lines : List Text
   pub answers : Text
   pub next : Plan
-  pub front : Text
-  pub stands : HasAnswered plan_behavior plan input lines answers next
-  pub is_front : (front ≡ []) ⊎ IsAnswerPrefix plan_behavior plan input lines next front ⊎ IsEndPrefix plan_behavior plan input lines next front
-  pub text_is : text ≡ answers ++ front
+  pub prefix : Text
+  pub answered : HasAnswered plan_behavior plan input lines answers next
+  pub is_prefix : (prefix ≡ []) ⊎ IsAnswerPrefix plan_behavior plan input lines next prefix ⊎ IsEndPrefix plan_behavior plan input lines next prefix
+  pub text_is : text ≡ answers ++ prefix
 
 -- Claim: the text that was written on out is empty, or a prefix of the output of the work that the words ask for.
 abbrev pub WritesOutputPrefix : List Text → World → World → Type 0
@@ -149,7 +149,7 @@ IsStatus status = IsStatusWithoutFault status ⊎ (status ≡ 3) ⊎ (status ≡
 -- All claims on the status of the call, on the texts that it wrote and on the input that it left.
 pub record MeetsClaims (words : List Text) (before now : World) (status : ℕ) : Type 0 where
   pub complete : Completes words before now status
-  pub done : Finishes words before now status
+  pub finishes : Finishes words before now status
   pub known : IsStatus status
   pub misuse : MisuseHasCause words before now status
   pub read_fault : ReadFaultHasCause words before now status
@@ -157,9 +157,9 @@ pub record MeetsClaims (words : List Text) (before now : World) (status : ℕ) :
   pub write_fault : WriteFaultHasCause before now status
   pub write_fault_said : WriteFaultIsReported before now status
   pub write_fault_stops : WriteFaultStops words before now status
-  pub want : OutOfMemoryKeepsTexts words before now status
+  pub out_of_memory : OutOfMemoryKeepsTexts words before now status
   pub too_big : TooBigHasCause words before now status
   pub long_file : LongFileIsReported words before now status
   pub long_input : LongInputIsReported words before now status
-  pub part : WritesOutputPrefix words before now
-  pub each_part : WritesPrefixOfAnyWork words before now
+  pub output_prefix : WritesOutputPrefix words before now
+  pub prefix_of_any_work : WritesPrefixOfAnyWork words before now

@@ -7,7 +7,8 @@ use Rattle.mh_outside.specs.Shelf.{Files}
 use Rattle.mh_tables_core.specs.Failing.{TooLongAt}
 use Rattle.mh_top_drive.specs.StageResults.{Go}
 use Rattle.mh_top_claims.specs.Claims.{HasNoDeviceFault}
-use Rattle.mh_top_plans.specs.Listing.{IsCatalogueText, too_long}
+use Rattle.mh_report_comments.specs.CatalogueTexts.{IsCatalogueText}
+use Rattle.mh_top_plans.specs.Listing.{too_long}
 use Rattle.mh_top_claims.specs.Run.{World}
 use Rattle.mh_top_types.specs.Shapes.{Prepared}
 use Rattle.mh_grammar.specs.Text.{Text}

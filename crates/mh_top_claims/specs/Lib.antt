@@ -5,6 +5,10 @@ pub mod MayAskForFiles
 pub mod AnswerAtLine
 pub mod Run
 pub mod Claims
+pub mod GivesTable
+pub mod Headline
 pub mod ErrorLists
+pub mod RebasedFiles
+pub mod RoundTrips
 pub mod VerdictClaims
 pub mod code

@@ -131,7 +131,7 @@ OutWriteFailed before now w = IsPartialRun plan_behavior w.plan before.left befo
 pub record WarningWriteFailed (words : List Text) (before now : World) : Type 0 where
   pub prepared : Prepared
   pub is_asked : IsPrepared words before.files (Go prepared)
-  pub still : LeavesInputAndOut before now
+  pub unchanged : LeavesInputAndOut before now
   pub on_err : AppendsPrefix before.err now.err (warnings_of prepared)
 
 -- The mode of the work ran to its end, with this cause or none.

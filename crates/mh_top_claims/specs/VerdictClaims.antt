@@ -7,7 +7,7 @@ use Rattle.mh_grammar.specs.declared.types.Sentence.{Sentence}
 use Rattle.mh_grammar.specs.Plain.{plain_of, start_symbol, BeginsSentence}
 use Rattle.mh_items_kernels.specs.KernelTypes.{Automaton}
 use Rattle.mh_items_kernels.specs.Automaton.{IsAutomaton}
-use Rattle.mh_canon_states.specs.Canonical.{IsCanonical}
+use Rattle.mh_pager_steps.specs.ReachedConflicts.{ReachesAnyConflict}
 use Rattle.mh_resolve_cells.specs.States.{IsTableOf}
 use Rattle.mh_resolve_cells.specs.declared.kinds.Mode.{Mode}
 use Rattle.mh_resolve_cells.specs.NoConflicts.{HasNoConflicts}
@@ -27,12 +27,10 @@ use Rattle.mh_top_plans.specs.Verdicts.{IsAnswerToLine}
 use Rattle.mh_top_plans.specs.Plan.{Judges}
 use Rattle.mh_top_claims.specs.Work.{IsWork}
 
--- The grammar is LR(1): no state of its canonical automaton has a conflict, nor a conflict with the end of the stream
--- (Knuth 1965).
-pub record IsLR1Grammar (g : Grammar) : Type 0 where
-  pub automaton : Automaton
-  pub canonical : IsCanonical (plain_of g) automaton
-  pub clear : HasNoConflicts g automaton
+-- The grammar is LR(1): no item set that a path of symbols reaches from a start has a conflict, nor a conflict with the
+-- end of the stream (Knuth 1965).
+abbrev pub IsLR1Grammar : Grammar → Type 0
+IsLR1Grammar g = ReachesAnyConflict (plain_of g) → ⊥
 
 -- The table is that of an automaton of the grammar in which no state has a conflict, nor a conflict with the end of the
 -- stream.
@@ -41,7 +39,7 @@ pub record IsConflictFreeTable (g : Grammar) (t : TableData) : Type 0 where
   pub mode : Mode
   pub is_automaton : IsAutomaton (plain_of g) automaton
   pub table : IsTableOf g automaton mode t
-  pub clear : HasNoConflicts g automaton
+  pub no_conflicts : HasNoConflicts g automaton
 
 -- The words name no table file.
 abbrev pub NamesNoTableFile : List Text → Type 0

@@ -1,10 +1,11 @@
-//! Laws on the definition of the work: it is unique, it exists, and each line has its answer. Each law is the contract
+//! Laws on the definition of the work: it is unique, and each line has its answer. Each law is the contract
 //! of a function that does nothing.
 ghost use Rattle.std.specs.Prelude.{◌≡◌, ◌∷◌, ◌++◌, List, Option, Some};
 ghost use Rattle.mh_outside.specs.Shelf.{Files};
 ghost use Rattle.mh_top_claims.specs.AnswerAtLine.{IsAnsweredAt, HasVerdictAt};
+ghost use Rattle.mh_top_claims.specs.RoundTrips.{HasRoundTrips};
 ghost use Rattle.mh_top_claims.specs.VerdictClaims.{AcceptsRandom, UnwarnedIsConflictFree};
-ghost use Rattle.mh_top_drive.specs.StageResults.{StageResult};
+ghost use Rattle.mh_top_drive.specs.StageResults.{StageResult, Go};
 ghost use Rattle.mh_top_plans.specs.Plan.{Plan, Judges, plan_behavior};
 ghost use Rattle.mh_top_drive.specs.ModeBehavior.{AnswersAll, Outcome, HasOutcome};
 ghost use Rattle.mh_grammar.specs.Text.{Text};
@@ -55,4 +56,11 @@ pub fn unwarned_is_clear()
 /// The program accepts its own random sentences if the grammar is LR(1) or the table has no conflict.
 pub fn random_sentences_are_accepted()
     ensures { (words : List Text) (files : Option Files) → AcceptsRandom words files }
+{}
+
+/// The texts that the program writes for an accepted grammar are read again as what was written: sentence lines, printed
+/// messages files, the list of errors, updated messages files and table files. There is no premise on the names of the
+/// grammar, since those that files give are fit.
+pub fn texts_are_read_again()
+    ensures { (words : List Text) (files : Option Files) (p : Prepared) → IsPrepared words files (Go p) → HasRoundTrips p }
 {}

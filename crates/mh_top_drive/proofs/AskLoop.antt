@@ -20,14 +20,14 @@ use Rattle.mh_top_drive.specs.declared.stop.Stop.{Stop}
 use Rattle.mh_top_drive.specs.declared.stop.Stop.TheVariants.{Halted, ShelfFailed, InputFailed, WriteFailed, OutOfMemory}
 use Rattle.mh_top_drive.proofs.FirstLine.{lines_of_input-line, lines_of_input-open, lines_of_input-last, lines_within_limits-line, are_within_limits-line, lines_within_limits-long, are_within_limits-long}
 
-module _ {Plan : Type 0} (way : ModeBehavior Plan) where
+module _ {Plan : Type 0} (behavior : ModeBehavior Plan) where
   -- ---- The input.
 
   -- The lines were the first of the input, `now` is the rest of the input, and the mode may request up to m more lines.
   pub record GotSome (asks : Asks) (m : ℕ) (input now : Text) (lines : List Text) : Type 0 where
     pub at : now ≡ input_after_lines (length lines) input
     pub first : asked_lines asks input ≡ lines ++ lines_within_limits line_limit m (requested_lines asks m (lines_of_input now))
-    pub small : are_within_limits line_limit (max_lines asks) (requested_lines asks (max_lines asks) (lines_of_input input)) ≡ are_within_limits line_limit m (requested_lines asks m (lines_of_input now))
+    pub within_limits : are_within_limits line_limit (max_lines asks) (requested_lines asks (max_lines asks) (lines_of_input input)) ≡ are_within_limits line_limit m (requested_lines asks m (lines_of_input now))
 
   abbrev pub Known : Asks → ℕ → Option Text → Option Text → List Text → Type 0
   Known asks m None now lines = Unit {0}
@@ -41,23 +41,23 @@ module _ {Plan : Type 0} (way : ModeBehavior Plan) where
   pub record SoFar (plan : Plan) (m : ℕ) (in0 in1 out0 out1 : Option Text) (next : Plan) : Type 0 where
     pub lines : List Text
     pub text : Text
-    pub answers : AnswersAll way plan lines text next
+    pub answers : AnswersAll behavior plan lines text next
     pub on_out : Appends out0 out1 text
-    pub got : Got (way.asks_of plan) m in0 in1 lines
+    pub got : Got (behavior.asks_of plan) m in0 in1 lines
 
   known_start : (asks : Asks) (input : Option Text) → Known asks (max_lines asks) input input []
   known_start asks None = tt
-  known_start asks (Some input) = record { at = refl; first = refl; small = refl }
+  known_start asks (Some input) = record { at = refl; first = refl; within_limits = refl }
 
-  pub started : (plan : Plan) (m : ℕ) (input out : Option Text) → m ≡ max_lines (way.asks_of plan) → SoFar plan m input input out out plan
+  pub started : (plan : Plan) (m : ℕ) (input out : Option Text) → m ≡ max_lines (behavior.asks_of plan) → SoFar plan m input input out out plan
   started plan m input out is = record {
     lines = [];
     text = [];
     answers = (refl, refl);
     on_out = Appends-nil out;
-    got = subst (λ (k : ℕ). Got (way.asks_of plan) k input input []) (sym is) (record {
+    got = subst (λ (k : ℕ). Got (behavior.asks_of plan) k input input []) (sym is) (record {
       none = λ none. (ap max_lines none, refl, refl);
-      known = known_start (way.asks_of plan) input;
+      known = known_start (behavior.asks_of plan) input;
     });
   }
 
@@ -109,7 +109,7 @@ module _ {Plan : Type 0} (way : ModeBehavior Plan) where
         at = next_is ∙ ap after_line known.at ∙ ap (λ (n : ℕ). input_after_lines n input) (sym (length_more lines line));
         first = known.first ∙ ap₂ (λ (j : ℕ) (l : List Text). lines ++ lines_within_limits line_limit j (requested_lines asks j l)) is front
             ∙ ap (λ (l : List Text). lines ++ l) (wanted_line asks m line (lines_of_input next) some took.2) ∙ sym (append_assoc lines (line ∷ []) (lines_within_limits line_limit m (requested_lines asks m (lines_of_input next))));
-        small = known.small ∙ ap₂ (λ (j : ℕ) (l : List Text). are_within_limits line_limit j (requested_lines asks j l)) is front ∙ small_line asks m line (lines_of_input next) some took.2;
+        within_limits = known.within_limits ∙ ap₂ (λ (j : ℕ) (l : List Text). are_within_limits line_limit j (requested_lines asks j l)) is front ∙ small_line asks m line (lines_of_input next) some took.2;
       }
 
   got_line : (asks : Asks) (m k : ℕ) (in0 in1 in2 : Option Text) (lines : List Text) (line : Text) → k ≡ suc m → Got asks k in0 in1 lines → TookLine in1 in2 line → Got asks m in0 in2 (lines ++ line ∷ [])
@@ -117,19 +117,19 @@ module _ {Plan : Type 0} (way : ModeBehavior Plan) where
       let some = asks_some asks m k in0 in1 lines is got in
       record { none = λ none. absurd (some none); known = known_line asks m k in0 in1 in2 lines line is some got.known took }
 
-  answers_more : (plan mid next : Plan) (lines : List Text) (line text answer : Text) → AnswersAll way plan lines text mid → way.Answers mid line answer next → AnswersAll way plan (lines ++ line ∷ []) (text ++ answer) next
+  answers_more : (plan mid next : Plan) (lines : List Text) (line text answer : Text) → AnswersAll behavior plan lines text mid → behavior.Answers mid line answer next → AnswersAll behavior plan (lines ++ line ∷ []) (text ++ answer) next
   answers_more plan mid next [] line text answer all is =
-      (answer, [], next, subst (λ (p : Plan). way.Answers p line answer next) all.1 is, (refl, refl), ap (λ (t : Text). t ++ answer) all.0 ∙ sym (append-nil answer))
+      (answer, [], next, subst (λ (p : Plan). behavior.Answers p line answer next) all.1 is, (refl, refl), ap (λ (t : Text). t ++ answer) all.0 ∙ sym (append-nil answer))
   answers_more plan mid next (first ∷ lines) line text answer all is =
       (all.0, all.1 ++ answer, all.2, all.3, answers_more all.2 mid next lines line all.1 answer all.4 is, ap (λ (t : Text). t ++ answer) all.5 ∙ append_assoc all.0 all.1 answer)
 
-  pub one_more : (plan mid next : Plan) (m k : ℕ) (in0 in1 in2 out0 out1 out2 : Option Text) → k ≡ suc m → SoFar plan k in0 in1 out0 out1 mid → LineIsAnswered way mid next in1 in2 out1 out2 (Ok true) → SoFar plan m in0 in2 out0 out2 next
+  pub one_more : (plan mid next : Plan) (m k : ℕ) (in0 in1 in2 out0 out1 out2 : Option Text) → k ≡ suc m → SoFar plan k in0 in1 out0 out1 mid → LineIsAnswered behavior mid next in1 in2 out1 out2 (Ok true) → SoFar plan m in0 in2 out0 out2 next
   one_more plan mid next m k in0 in1 in2 out0 out1 out2 is so_far ran = record {
     lines = so_far.lines ++ ran.0 ∷ [];
     text = so_far.text ++ ran.1;
     answers = answers_more plan mid next so_far.lines ran.0 so_far.text ran.1 so_far.answers ran.3;
     on_out = Appends-append out0 out1 out2 so_far.text ran.1 so_far.on_out ran.4;
-    got = got_line (way.asks_of plan) m k in0 in1 in2 so_far.lines ran.0 is so_far.got ran.2;
+    got = got_line (behavior.asks_of plan) m k in0 in1 in2 so_far.lines ran.0 is so_far.got ran.2;
   }
 
   -- ---- The lines that were read.
@@ -170,10 +170,10 @@ module _ {Plan : Type 0} (way : ModeBehavior Plan) where
   asks_told NoLine m old new lines whole known none some = absurd (some refl)
   asks_told FirstLine m None new lines whole known none some = tt
   asks_told FirstLine m (Some input) None lines whole known none some = absurd known
-  asks_told FirstLine m (Some input) (Some now) lines whole known none some = (known.first ∙ ap (λ (l : List Text). lines ++ l) none.0 ∙ append-nil lines, known.small ∙ none.1)
+  asks_told FirstLine m (Some input) (Some now) lines whole known none some = (known.first ∙ ap (λ (l : List Text). lines ++ l) none.0 ∙ append-nil lines, known.within_limits ∙ none.1)
   asks_told EachLine m None new lines whole known none some = tt
   asks_told EachLine m (Some input) None lines whole known none some = absurd known
-  asks_told EachLine m (Some input) (Some now) lines whole known none some = (known.first ∙ ap (λ (l : List Text). lines ++ l) none.0 ∙ append-nil lines, known.small ∙ none.1)
+  asks_told EachLine m (Some input) (Some now) lines whole known none some = (known.first ∙ ap (λ (l : List Text). lines ++ l) none.0 ∙ append-nil lines, known.within_limits ∙ none.1)
 
   wanted_nil : (asks : Asks) (m : ℕ) → requested_lines asks m [] ≡ []
   wanted_nil NoLine m = refl
@@ -206,43 +206,43 @@ module _ {Plan : Type 0} (way : ModeBehavior Plan) where
 
   module _ (plan next : Plan) (m : ℕ) (in0 in1 out0 out1 : Option Text) (so_far : SoFar plan m in0 in1 out0 out1 next) where
     abbrev asks : Asks
-    asks = way.asks_of plan
+    asks = behavior.asks_of plan
 
-    stands : HasAnswered way plan in0 so_far.lines so_far.text next
+    stands : HasAnswered behavior plan in0 so_far.lines so_far.text next
     stands = record { answers = so_far.answers; first = are_first asks m in0 in1 so_far.lines so_far.got }
 
     -- The input has ended: all requested lines were answered.
-    pub at_end : (in2 out2 : Option Text) → (asks ≡ NoLine → ⊥) → IsAtEnd in1 → Keeps in1 in2 → Keeps out1 out2 → AllLinesAreAnswered way plan in0 in2 out0 out2 next
+    pub at_end : (in2 out2 : Option Text) → (asks ≡ NoLine → ⊥) → IsAtEnd in1 → Keeps in1 in2 → Keeps out1 out2 → AllLinesAreAnswered behavior plan in0 in2 out0 out2 next
     at_end in2 out2 some end keeps still = record {
       lines = so_far.lines;
       asks = asks_told asks m in0 in1 so_far.lines true so_far.got.known (none_at_end asks m in1 end) some;
       text = so_far.text;
       answers = so_far.answers;
       on_out = still_appended out0 out1 out2 so_far.text so_far.on_out still;
-      took = TookLines-asked asks m in0 in2 so_far.lines (got_kept asks m in0 in1 in2 so_far.lines some so_far.got keeps);
+      lines_taken = TookLines-asked asks m in0 in2 so_far.lines (got_kept asks m in0 in1 in2 so_far.lines some so_far.got keeps);
     }
 
     on_out_nil : (out2 : Option Text) → Keeps out1 out2 → Appends out0 out2 (so_far.text ++ [])
     on_out_nil out2 still = subst (Appends out0 out2) (sym (append-nil so_far.text)) (still_appended out0 out1 out2 so_far.text so_far.on_out still)
 
-    pub failed : (in2 out2 : Option Text) → (asks ≡ NoLine → ⊥) → LosesBytes in1 in2 (λ n. Unit {0}) → Keeps out1 out2 → ModeRan way plan in0 in2 out0 out2 (Err InputFailed)
+    pub failed : (in2 out2 : Option Text) → (asks ≡ NoLine → ⊥) → LosesBytes in1 in2 (λ n. Unit {0}) → Keeps out1 out2 → ModeRan behavior plan in0 in2 out0 out2 (Err InputFailed)
     failed in2 out2 some loses still = record {
       lines = so_far.lines;
       text = so_far.text;
       next = next;
-      front = [];
-      stands = stands;
+      prefix = [];
+      answered = stands;
       at = (refl, took_part asks m in0 in1 in2 so_far.lines some so_far.got loses);
       on_out = on_out_nil out2 still;
     }
 
-    pub gave_up : (in2 out2 : Option Text) → (asks ≡ NoLine → ⊥) → LosesBytes in1 in2 (λ n. Unit {0}) → Keeps out1 out2 → ModeRan way plan in0 in2 out0 out2 (Err OutOfMemory)
+    pub gave_up : (in2 out2 : Option Text) → (asks ≡ NoLine → ⊥) → LosesBytes in1 in2 (λ n. Unit {0}) → Keeps out1 out2 → ModeRan behavior plan in0 in2 out0 out2 (Err OutOfMemory)
     gave_up in2 out2 some loses still = record {
       lines = so_far.lines;
       text = so_far.text;
       next = next;
-      front = [];
-      stands = stands;
+      prefix = [];
+      answered = stands;
       at = inl (refl, inl (took_part asks m in0 in1 in2 so_far.lines some so_far.got loses));
       on_out = on_out_nil out2 still;
     }
@@ -251,12 +251,12 @@ module _ {Plan : Type 0} (way : ModeBehavior Plan) where
     left_false None lines = refl
     left_false (Some input) lines = refl
 
-    pub too_much : (in2 out2 : Option Text) (cause : Cause) → cause ≡ LongInput → (asks ≡ NoLine → ⊥) → AreNone asks m in1 false → Keeps out1 out2 → ModeRan way plan in0 in2 out0 out2 (Err (Halted cause))
+    pub too_much : (in2 out2 : Option Text) (cause : Cause) → cause ≡ LongInput → (asks ≡ NoLine → ⊥) → AreNone asks m in1 false → Keeps out1 out2 → ModeRan behavior plan in0 in2 out0 out2 (Err (Halted cause))
     too_much in2 out2 cause is some none still = record {
       outcome = record { cause = Some LongInput; out = so_far.text; left = None };
       yields = record {
         lines = so_far.lines;
-        whole = false;
+        complete = false;
         asks = asks_told asks m in0 in1 so_far.lines false so_far.got.known none some;
         text = so_far.text;
         last = next;
@@ -270,14 +270,14 @@ module _ {Plan : Type 0} (way : ModeBehavior Plan) where
     }
 
     -- The mode may request no more lines: all requested lines were answered.
-    pub all_taken : m ≡ 0 → (asks ≡ EachLine → ⊥) → AllLinesAreAnswered way plan in0 in1 out0 out1 next
+    pub all_taken : m ≡ 0 → (asks ≡ EachLine → ⊥) → AllLinesAreAnswered behavior plan in0 in1 out0 out1 next
     all_taken zero_is other = record {
       lines = so_far.lines;
       asks = taken asks other so_far.lines so_far.got;
       text = so_far.text;
       answers = so_far.answers;
       on_out = so_far.on_out;
-      took = TookLines-asked asks m in0 in1 so_far.lines so_far.got;
+      lines_taken = TookLines-asked asks m in0 in1 so_far.lines so_far.got;
     }
       where
         none_zero : (k : ℕ) (input : Option Text) → k ≡ 0 → AreNone FirstLine k input true
@@ -299,14 +299,14 @@ module _ {Plan : Type 0} (way : ModeBehavior Plan) where
   -- ---- A line that cannot be read, or whose answer is not made or not written whole.
 
   module _ (plan mid : Plan) (m k : ℕ) (is : k ≡ suc m) (in0 in1 in2 out0 out1 out2 : Option Text) (so_far : SoFar plan k in0 in1 out0 out1 mid) where
-    some_asked : way.asks_of plan ≡ NoLine → ⊥
-    some_asked = asks_some (way.asks_of plan) m k in0 in1 so_far.lines is so_far.got
+    some_asked : behavior.asks_of plan ≡ NoLine → ⊥
+    some_asked = asks_some (behavior.asks_of plan) m k in0 in1 so_far.lines is so_far.got
 
-    took_more : (line : Text) → TookLine in1 in2 line → TookLines (way.asks_of plan) in0 in2 (suc (length so_far.lines))
-    took_more line took = subst (TookLines (way.asks_of plan) in0 in2) (length_more so_far.lines line) (TookLines-asked (way.asks_of plan) m in0 in2 (so_far.lines ++ line ∷ []) (got_line (way.asks_of plan) m k in0 in1 in2 so_far.lines line is so_far.got took))
+    took_more : (line : Text) → TookLine in1 in2 line → TookLines (behavior.asks_of plan) in0 in2 (suc (length so_far.lines))
+    took_more line took = subst (TookLines (behavior.asks_of plan) in0 in2) (length_more so_far.lines line) (TookLines-asked (behavior.asks_of plan) m in0 in2 (so_far.lines ++ line ∷ []) (got_line (behavior.asks_of plan) m k in0 in1 in2 so_far.lines line is so_far.got took))
 
-    so_far_stands : HasAnswered way plan in0 so_far.lines so_far.text mid
-    so_far_stands = record { answers = so_far.answers; first = are_first (way.asks_of plan) k in0 in1 so_far.lines so_far.got }
+    so_far_stands : HasAnswered behavior plan in0 so_far.lines so_far.text mid
+    so_far_stands = record { answers = so_far.answers; first = are_first (behavior.asks_of plan) k in0 in1 so_far.lines so_far.got }
 
     -- Bytes without a line feed are the beginning of one line.
     opens : (now next got : Text) (n : ℕ) → now ≡ got ++ next → HasNoLF got → length got ≡ suc n → (line : Text) × (lines : List Text) × (lines_of_input now ≡ line ∷ lines) × (n < length line)
@@ -318,15 +318,15 @@ module _ {Plan : Type 0} (way : ModeBehavior Plan) where
     long_wanted FirstLine line lines some lt = (lines_within_limits-long line_limit (suc m) line (take m lines) lt, are_within_limits-long line_limit (suc m) line (take m lines) lt)
     long_wanted EachLine line lines some lt = (lines_within_limits-long line_limit (suc m) line lines lt, are_within_limits-long line_limit (suc m) line lines lt)
 
-    long_line : (a b : Option Text) → LosesBytes a b (λ n. n ≡ line_limit + 1) → AreNone (way.asks_of plan) k a false
+    long_line : (a b : Option Text) → LosesBytes a b (λ n. n ≡ line_limit + 1) → AreNone (behavior.asks_of plan) k a false
     long_line None b loses = tt
     long_line (Some now) None loses = absurd loses.1
     long_line (Some now) (Some next) loses =
         let q = opens now next loses.0 line_limit loses.1 loses.2 (omega (arith, loses.3)) in
-        let long = long_wanted (way.asks_of plan) q.0 q.1 some_asked q.3 in
-        (ap₂ (λ (j : ℕ) (l : List Text). lines_within_limits line_limit j (requested_lines (way.asks_of plan) j l)) is q.2 ∙ long.0, ap₂ (λ (j : ℕ) (l : List Text). are_within_limits line_limit j (requested_lines (way.asks_of plan) j l)) is q.2 ∙ long.1)
+        let long = long_wanted (behavior.asks_of plan) q.0 q.1 some_asked q.3 in
+        (ap₂ (λ (j : ℕ) (l : List Text). lines_within_limits line_limit j (requested_lines (behavior.asks_of plan) j l)) is q.2 ∙ long.0, ap₂ (λ (j : ℕ) (l : List Text). are_within_limits line_limit j (requested_lines (behavior.asks_of plan) j l)) is q.2 ∙ long.1)
 
-    pub line_stops : (next : Plan) (stop : Stop) → LineIsAnswered way mid next in1 in2 out1 out2 (Err stop) → ModeRan way plan in0 in2 out0 out2 (Err stop)
+    pub line_stops : (next : Plan) (stop : Stop) → LineIsAnswered behavior mid next in1 in2 out1 out2 (Err stop) → ModeRan behavior plan in0 in2 out0 out2 (Err stop)
     line_stops next (Halted cause) ran = too_much plan mid k in0 in1 out0 out1 so_far in2 out2 cause ran.0 some_asked (long_line in1 in2 ran.1) ran.2
     line_stops next (ShelfFailed name) ran = absurd ran
     line_stops next InputFailed ran = failed plan mid k in0 in1 out0 out1 so_far in2 out2 some_asked ran.0 ran.1
@@ -334,16 +334,16 @@ module _ {Plan : Type 0} (way : ModeBehavior Plan) where
       lines = so_far.lines;
       text = so_far.text;
       next = mid;
-      front = ran.5.0;
-      stands = so_far_stands;
+      prefix = ran.5.0;
+      answered = so_far_stands;
       at = inl (
         record {
           line = ran.0;
           answer = ran.1;
           after = ran.3;
           answers = ran.4;
-          first = are_first (way.asks_of plan) m in0 in2 (so_far.lines ++ ran.0 ∷ []) (got_line (way.asks_of plan) m k in0 in1 in2 so_far.lines ran.0 is so_far.got ran.2);
-          is_front = ran.5.2;
+          first = are_first (behavior.asks_of plan) m in0 in2 (so_far.lines ++ ran.0 ∷ []) (got_line (behavior.asks_of plan) m k in0 in1 in2 so_far.lines ran.0 is so_far.got ran.2);
+          is_prefix = ran.5.2;
         },
         took_more ran.0 ran.2,
       );
@@ -351,20 +351,20 @@ module _ {Plan : Type 0} (way : ModeBehavior Plan) where
     }
     line_stops next OutOfMemory ran = wants ran.0 ran.1
       where
-        wants : (LosesBytes in1 in2 (λ n. Unit {0}) ⊎ ((line : Text) × TookLine in1 in2 line)) → Keeps out1 out2 → ModeRan way plan in0 in2 out0 out2 (Err OutOfMemory)
+        wants : (LosesBytes in1 in2 (λ n. Unit {0}) ⊎ ((line : Text) × TookLine in1 in2 line)) → Keeps out1 out2 → ModeRan behavior plan in0 in2 out0 out2 (Err OutOfMemory)
         wants (inl loses) still = gave_up plan mid k in0 in1 out0 out1 so_far in2 out2 some_asked loses still
         wants (inr took) still = record {
           lines = so_far.lines;
           text = so_far.text;
           next = mid;
-          front = [];
-          stands = so_far_stands;
+          prefix = [];
+          answered = so_far_stands;
           at = inl (refl, inr (inr (took_more took.0 took.1)));
           on_out = on_out_nil plan mid k in0 in1 out0 out1 so_far out2 still;
         }
 
-    pub line_ends : (next : Plan) → LineIsAnswered way mid next in1 in2 out1 out2 (Ok false) → AllLinesAreAnswered way plan in0 in2 out0 out2 next
-    line_ends next ran = subst (AllLinesAreAnswered way plan in0 in2 out0 out2) (sym ran.2) (at_end plan mid k in0 in1 out0 out1 so_far in2 out2 some_asked ran.0 ran.1 ran.3)
+    pub line_ends : (next : Plan) → LineIsAnswered behavior mid next in1 in2 out1 out2 (Ok false) → AllLinesAreAnswered behavior plan in0 in2 out0 out2 next
+    line_ends next ran = subst (AllLinesAreAnswered behavior plan in0 in2 out0 out2) (sym ran.2) (at_end plan mid k in0 in1 out0 out1 so_far in2 out2 some_asked ran.0 ran.1 ran.3)
 
   -- ---- Reading after the last line that an input may have.
 
@@ -372,25 +372,25 @@ module _ {Plan : Type 0} (way : ModeBehavior Plan) where
   Keeps-same None = tt
   Keeps-same (Some out) = refl
 
-  module _ (plan next : Plan) (m : ℕ) (last : m ≡ 0) (each : way.asks_of plan ≡ EachLine) (in0 in1 in2 out0 out1 : Option Text) (so_far : SoFar plan m in0 in1 out0 out1 next) where
-    each_some : way.asks_of plan ≡ NoLine → ⊥
+  module _ (plan next : Plan) (m : ℕ) (last : m ≡ 0) (each : behavior.asks_of plan ≡ EachLine) (in0 in1 in2 out0 out1 : Option Text) (so_far : SoFar plan m in0 in1 out0 out1 next) where
+    each_some : behavior.asks_of plan ≡ NoLine → ⊥
     each_some none = let same : EachLine ≡ NoLine = sym each ∙ none in absurd (cc)
 
-    past_line : (now line : Text) (lines : List Text) → lines_of_input now ≡ line ∷ lines → AreNone (way.asks_of plan) m (Some now) false
+    past_line : (now line : Text) (lines : List Text) → lines_of_input now ≡ line ∷ lines → AreNone (behavior.asks_of plan) m (Some now) false
     past_line now line lines is = subst (λ (a : Asks). AreNone a m (Some now) false) (sym each) (subst (λ (k : ℕ). AreNone EachLine k (Some now) false) (sym last) (ap (lines_within_limits line_limit 0) is, ap (are_within_limits line_limit 0) is))
 
-    open_line : (now after got : Text) → now ≡ got ++ after → HasNoLF got → length got ≡ 1 → AreNone (way.asks_of plan) m (Some now) false
+    open_line : (now after got : Text) → now ≡ got ++ after → HasNoLF got → length got ≡ 1 → AreNone (behavior.asks_of plan) m (Some now) false
     open_line now after [] same h long = absurd (omega arith)
     open_line now after (b ∷ got) same h long = let q = lines_of_input-open b got after h in past_line now q.0 q.1 (ap lines_of_input same ∙ q.2)
 
-    past : (a b : Option Text) → LosesBytes a b (λ n. n ≡ 0 + 1) ⊎ ((line : Text) × TakesLine a b line × HasNoLF line) → AreNone (way.asks_of plan) m a false
+    past : (a b : Option Text) → LosesBytes a b (λ n. n ≡ 0 + 1) ⊎ ((line : Text) × TakesLine a b line × HasNoLF line) → AreNone (behavior.asks_of plan) m a false
     past None b more = tt
     past (Some now) None (inl loses) = absurd loses.1
     past (Some now) None (inr took) = absurd (TakesLine-None now took.0 took.1)
     past (Some now) (Some after) (inl loses) = open_line now after loses.0 loses.1 loses.2 loses.3
     past (Some now) (Some after) (inr took) = past_line now took.0 (lines_of_input after) (taken_first now after took.0 took.1 took.2)
 
-    pub past_ran : (r : _) → NoLineIsLeft in1 in2 r → LinesAreAnswered way plan in0 in2 out0 out1 next r
+    pub past_ran : (r : _) → NoLineIsLeft in1 in2 r → LinesAreAnswered behavior plan in0 in2 out0 out1 next r
     past_ran (Ok u) ran = at_end plan next m in0 in1 out0 out1 so_far in2 out1 each_some ran.0 ran.1 (Keeps-same out1)
     past_ran (Err (Halted cause)) ran = too_much plan next m in0 in1 out0 out1 so_far in2 out1 cause ran.0 each_some (past in1 in2 ran.1) (Keeps-same out1)
     past_ran (Err InputFailed) ran = failed plan next m in0 in1 out0 out1 so_far in2 out1 each_some ran (Keeps-same out1)
@@ -408,14 +408,14 @@ module _ {Plan : Type 0} (way : ModeBehavior Plan) where
   left_so EachLine None new lines asks took = tt
   left_so EachLine (Some input) new lines asks took = took
 
-  module _ (plan next : Plan) (in0 in1 out0 out1 out2 : Option Text) (all : AllLinesAreAnswered way plan in0 in1 out0 out1 next) where
-    ended : (cause : Option Cause) (e : ModeEnd) → way.EndsWith next e → e.cause ≡ cause → Appends out1 out2 e.out → IsCompleteRun way plan in0 in1 out0 out2 cause
+  module _ (plan next : Plan) (in0 in1 out0 out1 out2 : Option Text) (all : AllLinesAreAnswered behavior plan in0 in1 out0 out1 next) where
+    ended : (cause : Option Cause) (e : ModeEnd) → behavior.EndsWith next e → e.cause ≡ cause → Appends out1 out2 e.out → IsCompleteRun behavior plan in0 in1 out0 out2 cause
     ended cause e ends is on_out = record {
       outcome = record { cause = e.cause; out = all.text ++ e.out; left = input_left in0 true all.lines };
-      yields = record { lines = all.lines; whole = true; asks = all.asks; text = all.text; last = next; answers = all.answers; ends = (e, ends, refl, refl); left_is = refl };
+      yields = record { lines = all.lines; complete = true; asks = all.asks; text = all.text; last = next; answers = all.answers; ends = (e, ends, refl, refl); left_is = refl };
       cause_is = is;
       on_out = Appends-append out0 out1 out2 all.text e.out all.on_out on_out;
-      left_is = left_so (way.asks_of plan) in0 in1 all.lines all.asks all.took;
+      left_is = left_so (behavior.asks_of plan) in0 in1 all.lines all.asks all.lines_taken;
     }
 
     first_all : (asks : Asks) (input : Option Text) (lines : List Text) → AreAskedLines asks input lines true → AreFirstLines asks input lines
@@ -424,37 +424,37 @@ module _ {Plan : Type 0} (way : ModeBehavior Plan) where
     first_all FirstLine (Some input) lines is = ([], is.0 ∙ sym (append-nil lines))
     first_all EachLine (Some input) lines is = ([], is.0 ∙ sym (append-nil lines))
 
-    stands_all : HasAnswered way plan in0 all.lines all.text next
-    stands_all = record { answers = all.answers; first = first_all (way.asks_of plan) in0 all.lines all.asks }
+    stands_all : HasAnswered behavior plan in0 all.lines all.text next
+    stands_all = record { answers = all.answers; first = first_all (behavior.asks_of plan) in0 all.lines all.asks }
 
-    pub end_ran : (r : _) → EndIsWritten (way.EndsWith next) out1 out2 r → ModeRan way plan in0 in1 out0 out2 r
+    pub end_ran : (r : _) → EndIsWritten (behavior.EndsWith next) out1 out2 r → ModeRan behavior plan in0 in1 out0 out2 r
     end_ran (Ok u) ran = ended None ran.0 ran.1 ran.2 ran.3
     end_ran (Err (Halted cause)) ran = ended (Some cause) ran.0 ran.1 ran.2 ran.3
     end_ran (Err WriteFailed) ran = record {
       lines = all.lines;
       text = all.text;
       next = next;
-      front = ran.2.0;
-      stands = stands_all;
-      at = inr (record { all = all.asks; ending = ran.0; ends = ran.1; is_front = ran.2.2 }, all.took);
+      prefix = ran.2.0;
+      answered = stands_all;
+      at = inr (record { all = all.asks; ending = ran.0; ends = ran.1; is_prefix = ran.2.2 }, all.lines_taken);
       on_out = Appends-append out0 out1 out2 all.text ran.2.0 all.on_out ran.2.1;
     }
     end_ran (Err OutOfMemory) (inl same) = record {
       lines = all.lines;
       text = all.text;
       next = next;
-      front = [];
-      stands = stands_all;
-      at = inl (refl, inr (inl all.took));
+      prefix = [];
+      answered = stands_all;
+      at = inl (refl, inr (inl all.lines_taken));
       on_out = subst (λ (t : Text). Appends out0 out2 t) (sym (append-nil all.text)) (subst (λ x. Appends out0 x all.text) (sym same) all.on_out);
     }
     end_ran (Err OutOfMemory) (inr ran) = record {
       lines = all.lines;
       text = all.text;
       next = next;
-      front = ran.2.0;
-      stands = stands_all;
-      at = inr (record { all = all.asks; ending = ran.0; ends = ran.1; is_front = ran.2.2 }, all.took);
+      prefix = ran.2.0;
+      answered = stands_all;
+      at = inr (record { all = all.asks; ending = ran.0; ends = ran.1; is_prefix = ran.2.2 }, all.lines_taken);
       on_out = Appends-append out0 out1 out2 all.text ran.2.0 all.on_out ran.2.1;
     }
     end_ran (Err (ShelfFailed name)) ran = absurd ran

@@ -55,8 +55,8 @@ text_ran Is text given out0 out1 (Err OutOfMemory) is same wrote = absurd wrote
 
 -- ---- One line, for any behavior of a mode.
 
-module _ {Plan : Type 0} (way : ModeBehavior Plan) where
-  pub answer_ran : (plan next : Plan) (line text given : Text) (out0 out1 : Option Text) (r : Result (Unit {0}) Stop) → given ≡ text → way.Answers plan line text next → TextIsWritten given out0 out1 r → AnswerIsWritten way plan next line out0 out1 r
+module _ {Plan : Type 0} (behavior : ModeBehavior Plan) where
+  pub answer_ran : (plan next : Plan) (line text given : Text) (out0 out1 : Option Text) (r : Result (Unit {0}) Stop) → given ≡ text → behavior.Answers plan line text next → TextIsWritten given out0 out1 r → AnswerIsWritten behavior plan next line out0 out1 r
   answer_ran plan next line text given out0 out1 (Ok u) same is wrote = (text, is, subst (Appends out0 out1) same wrote)
   answer_ran plan next line text given out0 out1 (Err WriteFailed) same is wrote = (text, is, subst (AppendsPrefix out0 out1) same wrote)
   answer_ran plan next line text given out0 out1 (Err (Halted cause)) same is wrote = absurd wrote
@@ -64,10 +64,10 @@ module _ {Plan : Type 0} (way : ModeBehavior Plan) where
   answer_ran plan next line text given out0 out1 (Err InputFailed) same is wrote = absurd wrote
   answer_ran plan next line text given out0 out1 (Err OutOfMemory) same is wrote = absurd wrote
 
-  pub line_none : (plan : Plan) (in0 in1 out : Option Text) → NextLineIsRead in0 in1 (Ok None) → LineIsAnswered way plan plan in0 in1 out out (Ok false)
+  pub line_none : (plan : Plan) (in0 in1 out : Option Text) → NextLineIsRead in0 in1 (Ok None) → LineIsAnswered behavior plan plan in0 in1 out out (Ok false)
   line_none plan in0 in1 out ran = (ran.0, ran.1, refl, Keeps-same out)
 
-  pub line_stop : (plan : Plan) (in0 in1 out : Option Text) (stop : Stop) → NextLineIsRead in0 in1 (Err stop) → LineIsAnswered way plan plan in0 in1 out out (Err stop)
+  pub line_stop : (plan : Plan) (in0 in1 out : Option Text) (stop : Stop) → NextLineIsRead in0 in1 (Err stop) → LineIsAnswered behavior plan plan in0 in1 out out (Err stop)
   line_stop plan in0 in1 out (Halted cause) ran = (ran.0, ran.1, Keeps-same out)
   line_stop plan in0 in1 out InputFailed ran = (ran, Keeps-same out)
   line_stop plan in0 in1 out OutOfMemory ran = (inl ran, Keeps-same out)
@@ -75,16 +75,16 @@ module _ {Plan : Type 0} (way : ModeBehavior Plan) where
   line_stop plan in0 in1 out WriteFailed ran = absurd ran
 
   module _ (plan next : Plan) (in0 in1 out0 out1 : Option Text) (line given : Text) (same : given ≡ line) (took : TookLine in0 in1 line) where
-    pub line_ok : AnswerIsWritten way plan next given out0 out1 (Ok tt) → LineIsAnswered way plan next in0 in1 out0 out1 (Ok true)
-    line_ok ran = (line, ran.0, took, subst (λ (l : Text). way.Answers plan l ran.0 next) same ran.1, ran.2)
+    pub line_ok : AnswerIsWritten behavior plan next given out0 out1 (Ok tt) → LineIsAnswered behavior plan next in0 in1 out0 out1 (Ok true)
+    line_ok ran = (line, ran.0, took, subst (λ (l : Text). behavior.Answers plan l ran.0 next) same ran.1, ran.2)
 
-    pub line_err : (stop : Stop) → AnswerIsWritten way plan next given out0 out1 (Err stop) → LineIsAnswered way plan next in0 in1 out0 out1 (Err stop)
-    line_err WriteFailed ran = (line, ran.0, took, next, subst (λ (l : Text). way.Answers plan l ran.0 next) same ran.1, ran.2)
+    pub line_err : (stop : Stop) → AnswerIsWritten behavior plan next given out0 out1 (Err stop) → LineIsAnswered behavior plan next in0 in1 out0 out1 (Err stop)
+    line_err WriteFailed ran = (line, ran.0, took, next, subst (λ (l : Text). behavior.Answers plan l ran.0 next) same ran.1, ran.2)
     line_err OutOfMemory ran = (inr (line, took), ran)
     line_err (Halted cause) ran = absurd ran
     line_err (ShelfFailed name) ran = absurd ran
     line_err InputFailed ran = absurd ran
 
   -- A mode whose end is empty has ended with nothing written.
-  pub nothing_ends : (mode plan : Plan) (out : Option Text) → way.EndsWith mode (record { cause = None; out = [] }) → plan ≡ mode → EndIsWritten (way.EndsWith plan) out out (Ok tt)
-  nothing_ends mode plan out ends is = (record { cause = None; out = [] }, subst (λ (l : Plan). way.EndsWith l (record { cause = None; out = [] })) (sym is) ends, refl, Appends-nil out)
+  pub nothing_ends : (mode plan : Plan) (out : Option Text) → behavior.EndsWith mode (record { cause = None; out = [] }) → plan ≡ mode → EndIsWritten (behavior.EndsWith plan) out out (Ok tt)
+  nothing_ends mode plan out ends is = (record { cause = None; out = [] }, subst (λ (l : Plan). behavior.EndsWith l (record { cause = None; out = [] })) (sym is) ends, refl, Appends-nil out)

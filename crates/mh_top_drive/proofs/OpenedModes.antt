@@ -17,10 +17,10 @@ unopened_counts StandsFor InputFailed n m opened = absurd opened
 unopened_counts StandsFor WriteFailed n m opened = absurd opened
 
 -- A mode that reads no file leaves the count of the shelf unchanged.
-pub ran_read : {State : Type 0} (way : ModeBehavior State) (plan : State) (in0 in1 out0 out1 : Option Text) (n : ℕ) (r : Result (Unit {0}) Stop) → ModeRan way plan in0 in1 out0 out1 r → ModeShelfCounts n n r
-ran_read way plan in0 in1 out0 out1 n (Ok u) ran = refl
-ran_read way plan in0 in1 out0 out1 n (Err (Halted cause)) ran = refl
-ran_read way plan in0 in1 out0 out1 n (Err (ShelfFailed name)) ran = absurd ran
-ran_read way plan in0 in1 out0 out1 n (Err InputFailed) ran = refl
-ran_read way plan in0 in1 out0 out1 n (Err WriteFailed) ran = refl
-ran_read way plan in0 in1 out0 out1 n (Err OutOfMemory) ran = omega arith
+pub ran_read : {State : Type 0} (behavior : ModeBehavior State) (plan : State) (in0 in1 out0 out1 : Option Text) (n : ℕ) (r : Result (Unit {0}) Stop) → ModeRan behavior plan in0 in1 out0 out1 r → ModeShelfCounts n n r
+ran_read behavior plan in0 in1 out0 out1 n (Ok u) ran = refl
+ran_read behavior plan in0 in1 out0 out1 n (Err (Halted cause)) ran = refl
+ran_read behavior plan in0 in1 out0 out1 n (Err (ShelfFailed name)) ran = absurd ran
+ran_read behavior plan in0 in1 out0 out1 n (Err InputFailed) ran = refl
+ran_read behavior plan in0 in1 out0 out1 n (Err WriteFailed) ran = refl
+ran_read behavior plan in0 in1 out0 out1 n (Err OutOfMemory) ran = omega arith

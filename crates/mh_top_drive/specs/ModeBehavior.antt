@@ -61,22 +61,22 @@ pub record Outcome : Type 0 where
 
 -- The text is the answers to the lines, one after the other, and `next` is the state of the mode after them.
 abbrev pub AnswersAll : {State : Type 0} → ModeBehavior State → State → List Text → Text → State → Type 0
-AnswersAll way plan [] text next = (text ≡ []) × (next ≡ plan)
-AnswersAll {State} way plan (line ∷ lines) text next = (first rest : Text) × (mid : State) × way.Answers plan line first mid × AnswersAll way mid lines rest next × (text ≡ first ++ rest)
+AnswersAll behavior plan [] text next = (text ≡ []) × (next ≡ plan)
+AnswersAll {State} behavior plan (line ∷ lines) text next = (first rest : Text) × (mid : State) × behavior.Answers plan line first mid × AnswersAll behavior mid lines rest next × (text ≡ first ++ rest)
 
 -- The cause and the whole text of a mode after its answers. If all requested lines can be read, the mode ends;
 -- otherwise the input is too big, and nothing follows the answers.
 abbrev pub EndsAfterAnswers : {State : Type 0} → ModeBehavior State → Bool → State → Text → Option Cause → Text → Type 0
-EndsAfterAnswers way true plan text cause out = (e : ModeEnd) × way.EndsWith plan e × (cause ≡ e.cause) × (out ≡ text ++ e.out)
-EndsAfterAnswers way false plan text cause out = (cause ≡ Some LongInput) × (out ≡ text)
+EndsAfterAnswers behavior true plan text cause out = (e : ModeEnd) × behavior.EndsWith plan e × (cause ≡ e.cause) × (out ≡ text ++ e.out)
+EndsAfterAnswers behavior false plan text cause out = (cause ≡ Some LongInput) × (out ≡ text)
 
 -- An outcome of a mode on an input: the requested lines are answered, and then the mode ends.
-pub record HasOutcome {State : Type 0} (way : ModeBehavior State) (plan : State) (input : Option Text) (o : Outcome) : Type 0 where
+pub record HasOutcome {State : Type 0} (behavior : ModeBehavior State) (plan : State) (input : Option Text) (o : Outcome) : Type 0 where
   pub lines : List Text
-  pub whole : Bool
-  pub asks : AreAskedLines (way.asks_of plan) input lines whole
+  pub complete : Bool
+  pub asks : AreAskedLines (behavior.asks_of plan) input lines complete
   pub text : Text
   pub last : State
-  pub answers : AnswersAll way plan lines text last
-  pub ends : EndsAfterAnswers way whole last text o.cause o.out
-  pub left_is : o.left ≡ input_left input whole lines
+  pub answers : AnswersAll behavior plan lines text last
+  pub ends : EndsAfterAnswers behavior complete last text o.cause o.out
+  pub left_is : o.left ≡ input_left input complete lines

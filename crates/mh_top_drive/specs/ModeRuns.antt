@@ -33,59 +33,59 @@ abbrev pub LeavesInput : Option Text → Option Text → Type 0
 LeavesInput None left = ⊤
 LeavesInput (Some said) left = left ≡ Some said
 
-module _ {Plan : Type 0} (way : ModeBehavior Plan) where
+module _ {Plan : Type 0} (behavior : ModeBehavior Plan) where
   -- The lines are the first that the mode asks for, the text has their answers, and `next` is the state of the mode
   -- after them.
   pub record HasAnswered (plan : Plan) (input : Option Text) (lines : List Text) (text : Text) (next : Plan) : Type 0 where
-    pub answers : AnswersAll way plan lines text next
-    pub first : AreFirstLines (way.asks_of plan) input lines
+    pub answers : AnswersAll behavior plan lines text next
+    pub first : AreFirstLines (behavior.asks_of plan) input lines
 
   -- The text is a prefix of the answer to the line after the given lines.
   pub record IsAnswerPrefix (plan : Plan) (input : Option Text) (lines : List Text) (next : Plan) (front : Text) : Type 0 where
     pub line : Text
     pub answer : Text
     pub after : Plan
-    pub answers : way.Answers next line answer after
-    pub first : AreFirstLines (way.asks_of plan) input (lines ++ line ∷ [])
-    pub is_front : IsPrefix front answer
+    pub answers : behavior.Answers next line answer after
+    pub first : AreFirstLines (behavior.asks_of plan) input (lines ++ line ∷ [])
+    pub is_prefix : IsPrefix front answer
 
   -- All lines that are asked for were answered, and the text is a prefix of the text that the mode writes at its end.
   pub record IsEndPrefix (plan : Plan) (input : Option Text) (lines : List Text) (next : Plan) (front : Text) : Type 0 where
-    pub all : AreAskedLines (way.asks_of plan) input lines true
+    pub all : AreAskedLines (behavior.asks_of plan) input lines true
     pub ending : ModeEnd
-    pub ends : way.EndsWith next ending
-    pub is_front : IsPrefix front ending.out
+    pub ends : behavior.EndsWith next ending
+    pub is_prefix : IsPrefix front ending.out
 
   -- A write failed, either in the answer to a line, which is then the last line that was read, or in the text at the
   -- end of the mode.
   abbrev pub WriteFailsAt : Plan → Option Text → Option Text → List Text → Plan → Text → Type 0
-  WriteFailsAt plan old new lines next front = (IsAnswerPrefix plan old lines next front × TookLines (way.asks_of plan) old new (suc (length lines))) ⊎ (IsEndPrefix plan old lines next front × TookLines (way.asks_of plan) old new (length lines))
+  WriteFailsAt plan old new lines next front = (IsAnswerPrefix plan old lines next front × TookLines (behavior.asks_of plan) old new (suc (length lines))) ⊎ (IsEndPrefix plan old lines next front × TookLines (behavior.asks_of plan) old new (length lines))
 
   -- A read of the input failed, and out has whole answers only.
   abbrev pub ReadFailsAt : Plan → Option Text → Option Text → List Text → Plan → Text → Type 0
-  ReadFailsAt plan old new lines next front = (front ≡ []) × TookPartOfNext (way.asks_of plan) old new (length lines)
+  ReadFailsAt plan old new lines next front = (front ≡ []) × TookPartOfNext (behavior.asks_of plan) old new (length lines)
 
   -- Memory ran out: for a line, for its answer, or at the end of the mode. Only at the end may a prefix of the text
   -- have been written.
   abbrev pub LacksMemoryAt : Plan → Option Text → Option Text → List Text → Plan → Text → Type 0
   LacksMemoryAt plan old new lines next front =
-      ((front ≡ []) × (TookPartOfNext (way.asks_of plan) old new (length lines) ⊎ TookLines (way.asks_of plan) old new (length lines) ⊎ TookLines (way.asks_of plan) old new (suc (length lines))))
-      ⊎ (IsEndPrefix plan old lines next front × TookLines (way.asks_of plan) old new (length lines))
+      ((front ≡ []) × (TookPartOfNext (behavior.asks_of plan) old new (length lines) ⊎ TookLines (behavior.asks_of plan) old new (length lines) ⊎ TookLines (behavior.asks_of plan) old new (suc (length lines))))
+      ⊎ (IsEndPrefix plan old lines next front × TookLines (behavior.asks_of plan) old new (length lines))
 
-  -- Out has the answers to the first lines, and then the text `front`, for which `At` is true.
+  -- Out has the answers to the first lines, and then the text `prefix`, for which `At` is true.
   pub record IsPartialRun (plan : Plan) (input old new : Option Text) (At : List Text → Plan → Text → Type 0) : Type 0 where
     pub lines : List Text
     pub text : Text
     pub next : Plan
-    pub front : Text
-    pub stands : HasAnswered plan input lines text next
-    pub at : At lines next front
-    pub on_out : Appends old new (text ++ front)
+    pub prefix : Text
+    pub answered : HasAnswered plan input lines text next
+    pub at : At lines next prefix
+    pub on_out : Appends old new (text ++ prefix)
 
   -- The mode ran to its end, and its outcome has this cause.
   pub record IsCompleteRun (plan : Plan) (in0 in1 out0 out1 : Option Text) (cause : Option Cause) : Type 0 where
     pub outcome : Outcome
-    pub yields : HasOutcome way plan in0 outcome
+    pub yields : HasOutcome behavior plan in0 outcome
     pub cause_is : outcome.cause ≡ cause
     pub on_out : Appends out0 out1 outcome.out
     pub left_is : LeavesInput outcome.left in1

@@ -45,27 +45,27 @@ pub trait Mode {
     ghost State: { Type 0 };
 
     /// The behavior of the mode: which lines it asks for, how it answers a line, and what it writes at its end.
-    ghost way: { ModeBehavior State };
+    ghost behavior: { ModeBehavior State };
 
     /// The relation between a value and the states that it represents.
     ghost Is: { Self → State → Type 0 };
 
     /// Which lines the mode asks for.
     fn asks(&self) -> Asks
-        ensures { (plan : State) → Is self.now plan → result ≡ way.asks_of plan };
+        ensures { (plan : State) → Is self.now plan → result ≡ behavior.asks_of plan };
 
     /// Gives the text that answers a line, and may change the mode.
     fn answer(&mut self, alloc: Global, line: &[u8]) -> Result<Vec<u8>, Memory>
         requires short { length line.now < 2 ^ 32 }
         requires some { (plan : State) × Is self.old plan }
         ensures { (plan : State) → Is self.old plan → (next : State) × Is self.new next × IfOk result (λ text.
-            way.Answers plan line.now text.items next) };
+            behavior.Answers plan line.now text.items next) };
 
     /// Writes the text after the answers, in one piece or in several, or stops the work.
     fn end<O: Sink>(self, alloc: Global, out: &mut O) -> Result<(), Stop>
         requires some { (plan : State) × Is self plan }
         requires may_write { O.MayWrite out.old }
-        ensures text { (plan : State) → Is self plan → EndIsWritten (way.EndsWith plan) (O.written out.old) (O.written out.new) result }
+        ensures text { (plan : State) → Is self plan → EndIsWritten (behavior.EndsWith plan) (O.written out.old) (O.written out.new) result }
         ensures counts { OutCounts (O.faults out.old) (O.faults out.new) result };
 }
 
@@ -105,7 +105,7 @@ fn answer_line<O: Sink, M: Mode>(
     requires short { length line.now < 2 ^ 32 }
     requires some { (plan : M.State) × M.Is mode.old plan }
     requires may_write { O.MayWrite out.old }
-    ensures text { (plan : M.State) → M.Is mode.old plan → (next : M.State) × M.Is mode.new next × AnswerIsWritten M.way plan next line.now
+    ensures text { (plan : M.State) → M.Is mode.old plan → (next : M.State) × M.Is mode.new next × AnswerIsWritten M.behavior plan next line.now
         (O.written out.old) (O.written out.new) result }
     ensures may_write_on { IfOk result (λ _. O.MayWrite out.new) }
     ensures counts { OutCounts (O.faults out.old) (O.faults out.new) result }
@@ -137,7 +137,7 @@ fn take_line<I: Source, O: Sink, M: Mode>(
     requires some { (plan : M.State) × M.Is mode.old plan }
     requires may_read { I.MayRead input.old }
     requires may_write { O.MayWrite out.old }
-    ensures ran { (plan : M.State) → M.Is mode.old plan → (next : M.State) × M.Is mode.new next × LineIsAnswered M.way plan next
+    ensures ran { (plan : M.State) → M.Is mode.old plan → (next : M.State) × M.Is mode.new next × LineIsAnswered M.behavior plan next
         (I.left input.old) (I.left input.new) (O.written out.old) (O.written out.new) result }
     ensures may_read_on { IfOk result (λ _. I.MayRead input.new) }
     ensures may_write_on { IfOk result (λ _. O.MayWrite out.new) }
@@ -179,7 +179,7 @@ fn ask<I: Source, O: Sink, M: Mode>(
     requires some { (plan : M.State) × M.Is mode.old plan }
     requires may_read { I.MayRead input.old }
     requires may_write { O.MayWrite out.old }
-    ensures ran { (plan : M.State) → M.Is mode.old plan → (next : M.State) × M.Is mode.new next × LinesAreAnswered M.way plan
+    ensures ran { (plan : M.State) → M.Is mode.old plan → (next : M.State) × M.Is mode.new next × LinesAreAnswered M.behavior plan
         (I.left input.old) (I.left input.new) (O.written out.old) (O.written out.new) next result }
     ensures may_write_on { IfOk result (λ _. O.MayWrite out.new) }
     ensures counts { InputAndOutCounts (I.faults input.old) (I.faults input.new)
@@ -210,7 +210,7 @@ pub fn drive_opened<I: Source, O: Sink, M: Mode + Drop>(
     requires some { IsOpened M.Is opened }
     requires may_read { I.MayRead input.old }
     requires may_write { O.MayWrite out.old }
-    ensures ran { OpenedModeRan M.way M.Is opened (I.left input.old) (I.left input.new)
+    ensures ran { OpenedModeRan M.behavior M.Is opened (I.left input.old) (I.left input.new)
         (O.written out.old) (O.written out.new) result }
     ensures counts { InputAndOutCounts (I.faults input.old) (I.faults input.new)
         (O.faults out.old) (O.faults out.new) result }
@@ -231,7 +231,7 @@ pub fn drive<I: Source, O: Sink, M: Mode + Drop>(
     requires some { (plan : M.State) × M.Is mode plan }
     requires may_read { I.MayRead input.old }
     requires may_write { O.MayWrite out.old }
-    ensures ran { (plan : M.State) → M.Is mode plan → ModeRan M.way plan (I.left input.old) (I.left input.new)
+    ensures ran { (plan : M.State) → M.Is mode plan → ModeRan M.behavior plan (I.left input.old) (I.left input.new)
         (O.written out.old) (O.written out.new) result }
     ensures counts { InputAndOutCounts (I.faults input.old) (I.faults input.new)
         (O.faults out.old) (O.faults out.new) result }

@@ -68,7 +68,7 @@ fn load<F: Shelf>(alloc: Global, shelf: &mut F, name: &[u8]) -> Result<Vec<u8>, 
     ensures bytes { FileStageGives (IsLoaded (F.files shelf.old) name.now) (λ other. other ≡ name.now) (list_result result) }
     ensures short { IfOk result (λ bytes. length bytes.items ≤ file_limit) }
     ensures kept { F.files shelf.new ≡ F.files shelf.old }
-    ensures may_still { (other : List ℕ) → F.MayAsk shelf.old other → F.MayAsk shelf.new other }
+    ensures may_ask { (other : List ℕ) → F.MayAsk shelf.old other → F.MayAsk shelf.new other }
     ensures counts { StageShelfCounts (F.faults shelf.old) (F.faults shelf.new) result }
 {
     match shelf.read_file(alloc, name, FILE_LIMIT) {
@@ -90,7 +90,7 @@ pub fn read_file<F: Shelf, T: Drop, S: FileFormat<T>>(
     requires asked { F.MayAsk shelf.old name.now }
     ensures item { FileStageGives (IsFileContent (F.files shelf.old) (S.Spells spelling.now) name.now) (λ other. other ≡ name.now) result }
     ensures kept { F.files shelf.new ≡ F.files shelf.old }
-    ensures may_still { (other : List ℕ) → F.MayAsk shelf.old other → F.MayAsk shelf.new other }
+    ensures may_ask { (other : List ℕ) → F.MayAsk shelf.old other → F.MayAsk shelf.new other }
     ensures counts { StageShelfCounts (F.faults shelf.old) (F.faults shelf.new) result }
 {
     match load(alloc, shelf, name) {
@@ -109,7 +109,7 @@ pub fn read_files<F: Shelf, T: Drop, S: FileFormat<T>>(
     requires asked { All (F.MayAsk shelf.old) names.now }
     ensures items { FileStageGives (AreFileContents (F.files shelf.old) (S.Spells spelling.now) names.now)
         (IsNextFile (F.files shelf.old) (S.Spells spelling.now) names.now) (list_result result) }
-    ensures may_still { IfOk result (λ items. (other : List ℕ) → F.MayAsk shelf.old other → F.MayAsk shelf.new other) }
+    ensures may_ask { IfOk result (λ items. (other : List ℕ) → F.MayAsk shelf.old other → F.MayAsk shelf.new other) }
     ensures kept { F.files shelf.new ≡ F.files shelf.old }
     ensures counts { StageShelfCounts (F.faults shelf.old) (F.faults shelf.new) result }
 {

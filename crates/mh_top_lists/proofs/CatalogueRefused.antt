@@ -7,6 +7,9 @@ use Rattle.mh_tables_core.specs.Table.{TableData}
 use Rattle.mh_tables_core.specs.Failing.{TooLongAt}
 use Rattle.mh_catalogue_rows.specs.declared.rows.CatalogueFault.{CatalogueFault}
 use Rattle.mh_catalogue_rows.specs.declared.rows.CatalogueFault.TheVariants as faults
+use Rattle.mh_msgfile.specs.declared.loose.LooseFile.{LooseFile}
+use Rattle.mh_rebase.specs.declared.rebasing.RebaseFault.{RebaseFault}
+use Rattle.mh_rebase.specs.declared.rebasing.RebaseFault.TheVariants as rebasing
 use Rattle.mh_top_drive.specs.code.StageCalls.{StopsWith}
 use Rattle.mh_top_drive.specs.code.ModeCalls.{EndIsWritten, OutCounts}
 use Rattle.mh_top_drive.specs.ModeBehavior.{ModeEnd}
@@ -16,9 +19,10 @@ use Rattle.mh_top_drive.specs.declared.stop.Stop.TheVariants.{Halted, ShelfFaile
 use Rattle.mh_top_types.specs.Shapes.{Prepared}
 use Rattle.mh_top_plans.specs.Listing.{too_long}
 use Rattle.mh_top_plans.specs.Listing as lists
-use Rattle.mh_top_plans.specs.Plan.{IsFinalOutput, Errors, Sampled}
+use Rattle.mh_top_plans.specs.Plan.{IsFinalOutput, Errors, Rebased, Sampled}
+use Rattle.mh_top_plans.specs.Rebased as rebases
 use Rattle.mh_top_plans.specs.Sampled as counts
-use Rattle.mh_top_lists.specs.code.CatalogueFaultStops.{IsStopForCatalogueFault}
+use Rattle.mh_top_lists.specs.code.CatalogueFaultStops.{IsStopForCatalogueFault, IsStopForRebaseFault}
 
 -- A mode for which the refusal is a possible end (`Is`).
 module _ (t : TableData) (Is : ModeEnd → Type 0) (refuses : (s : ℕ) → TooLongAt t s → (e : ModeEnd) → e.cause ≡ Some (Refused (too_long s)) → e.out ≡ [] → Is e) (out : Option Text) where
@@ -40,6 +44,11 @@ module _ (p : Prepared) (out : Option Text) (fault : CatalogueFault) (stop : Sto
   pub counts_stop : (number : ℕ) → EndIsWritten (IsFinalOutput (Sampled number p)) out out (Err stop)
   counts_stop number = stops p.tabled.halting (IsFinalOutput (Sampled number p)) (λ s at e cause none. counts.CountsSample.TooLong s at cause none) out fault stop is long
 
+module _ (p : Prepared) (file : LooseFile) (out : Option Text) where
+  pub rebase_stops : (fault : RebaseFault) (stop : Stop) → IsStopForRebaseFault fault stop → ((s : ℕ) → fault ≡ rebasing.TooLong s → TooLongAt p.tabled.halting s) → EndIsWritten (IsFinalOutput (Rebased file p)) out out (Err stop)
+  rebase_stops (rebasing.TooLong s) stop is long = refused p.tabled.halting (IsFinalOutput (Rebased file p)) (λ r at e cause none. rebases.RebasesFile.TooLong r at cause none) out s (long s refl) stop is
+  rebase_stops rebasing.Memory stop is long = subst (λ (x : Stop). EndIsWritten (IsFinalOutput (Rebased file p)) out out (Err x)) (sym is) (inl refl)
+
 refusal_counts : (n s : ℕ) (stop : Stop) → StopsWith (Refused (too_long s)) stop → OutCounts {T = Unit {0}} n n (Err stop)
 refusal_counts n s (Halted cause) is = refl
 refusal_counts n s OutOfMemory is = refl
@@ -50,3 +59,7 @@ refusal_counts n s WriteFailed is = absurd is
 pub catalogue_fault_counts : (n : ℕ) (fault : CatalogueFault) (stop : Stop) → IsStopForCatalogueFault fault stop → OutCounts {T = Unit {0}} n n (Err stop)
 catalogue_fault_counts n (faults.TooLong s) stop is = refusal_counts n s stop is
 catalogue_fault_counts n faults.Memory stop is = subst (λ (x : Stop). OutCounts {T = Unit {0}} n n (Err x)) (sym is) refl
+
+pub rebase_fault_counts : (n : ℕ) (fault : RebaseFault) (stop : Stop) → IsStopForRebaseFault fault stop → OutCounts {T = Unit {0}} n n (Err stop)
+rebase_fault_counts n (rebasing.TooLong s) stop is = refusal_counts n s stop is
+rebase_fault_counts n rebasing.Memory stop is = subst (λ (x : Stop). OutCounts {T = Unit {0}} n n (Err x)) (sym is) refl

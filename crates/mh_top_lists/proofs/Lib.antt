@@ -1,3 +1,4 @@
 pub mod CatalogueRefused
 pub mod WriteEntriesLoop
 pub mod CountsSample
+pub mod RebasedWritten

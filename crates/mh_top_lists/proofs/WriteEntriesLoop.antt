@@ -18,6 +18,7 @@ use Rattle.mh_catalogue_rows.specs.declared.rows.Row.{Row as MadeRow}
 use Rattle.mh_catalogue_rows.specs.Rows.{row_of, rows_of, AreShort}
 use Rattle.mh_report_comments.specs.Comments.{comments, message_placeholder}
 use Rattle.mh_report_comments.proofs.HasFarthestDot.{some_farthest}
+use Rattle.mh_report_comments.proofs.AreEntries.{entries_append}
 use Rattle.mh_tables_core.proofs.RefusingState.{state_refused}
 use Rattle.mh_msgfile.specs.FileTexts.{sentence_text}
 use Rattle.mh_grammar.specs.Text.{Text}
@@ -48,7 +49,7 @@ module _ (p : Prepared) (f : Facts p.tabled.halting) (fit : IsConsistent p) wher
         sentence_text g row.start row.sentence ++ codes "\n" ++ lines ++ message_placeholder,
         record {
           comments = lines;
-          are = record { state = row.state; fails = fails; item = best.0; farthest = best.1; reduced = reduced_since t n (initial row.start row.sentence) []; traced = record { steps = n; ends = fails.verdict.1; reduced = refl }; is = refl };
+          are_comments = record { state = row.state; fails = fails; item = best.0; farthest = best.1; reduced = reduced_since t n (initial row.start row.sentence) []; trace = record { steps = n; ends = fails.verdict.1; reduced = refl }; is = refl };
           is = refl;
         },
       )
@@ -58,11 +59,6 @@ module _ (p : Prepared) (f : Facts p.tabled.halting) (fit : IsConsistent p) wher
   some_entries (row ∷ rows) fits = let x = some_entry row fits.0 in let y = some_entries rows fits.1 in (x.0 ++ y.0, (x.0, y.0, x.1, y.1, refl))
 
 -- ---- Entries appended to entries.
-
-entries-append : (p : Prepared) (rows more : List CatalogueRow) (x y : Text) → AreEntriesOf p rows x → AreEntriesOf p more y → AreEntriesOf p (rows ++ more) (x ++ y)
-entries-append p [] more x y are also = subst (AreEntriesOf p more) (sym (ap (λ (t : Text). t ++ y) are)) also
-entries-append p (row ∷ rows) more x y are also =
-    (are.0, are.1 ++ y, are.2, entries-append p rows more are.1 y are.3 also, ap (λ (t : Text). t ++ y) are.4 ∙ append_assoc are.0 are.1 y)
 
 one_entry : (p : Prepared) (row : CatalogueRow) (x : Text) → IsEntryOf p row x → AreEntriesOf p (row ∷ []) x
 one_entry p row x is = (x, [], is, refl, sym (append-nil x))
@@ -82,7 +78,7 @@ module _ (p : Prepared) (out0 out1 out2 : Option Text) (rows : List CatalogueRow
   pub one_more : WritesWholeText (IsEntryOf p row) out1 out2 (Ok tt) → Written p (rows ++ row ∷ []) out0 out2
   one_more ran = record {
     text = h.text ++ ran.0;
-    are = entries-append p rows (row ∷ []) h.text ran.0 h.are (one_entry p row ran.0 ran.1);
+    are = entries_append p.grammar p.tabled.automaton p.tabled.halting rows (row ∷ []) h.text ran.0 h.are (one_entry p row ran.0 ran.1);
     on_out = Appends-append out0 out1 out2 h.text ran.0 h.on_out ran.2;
   }
 
@@ -92,7 +88,7 @@ module _ (p : Prepared) (out0 out1 out2 : Option Text) (rows : List CatalogueRow
     cut x front is on_out is_front =
         let more = some_entries p f fit rest fits.1 in (
           h.text ++ (x ++ more.0),
-          entries-append p rows (row ∷ rest) h.text (x ++ more.0) h.are (x, more.0, is, more.1, refl),
+          entries_append p.grammar p.tabled.automaton p.tabled.halting rows (row ∷ rest) h.text (x ++ more.0) h.are (x, more.0, is, more.1, refl),
           (
             h.text ++ front,
             Appends-append out0 out1 out2 h.text front h.on_out on_out,

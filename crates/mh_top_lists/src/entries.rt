@@ -20,7 +20,7 @@ fn write_entry<O: Sink, const W: usize>(
     out: &mut O,
 ) -> Result<(), Stop>
     requires few { W ≤ 8 }
-    requires fit { IsConsistent prepared.now }
+    requires consistent { IsConsistent prepared.now }
     requires row { IsFailingRow prepared.now.tabled.halting (row_of row.now) }
     requires may_write { O.MayWrite out.old }
     ensures text { WritesWholeText (IsEntryOf prepared.now (row_of row.now)) (O.written out.old) (O.written out.new) result }
@@ -46,7 +46,7 @@ pub(crate) fn write_entries<O: Sink, const W: usize>(
     out: &mut O,
 ) -> Result<(), Stop>
     requires few { W ≤ 8 }
-    requires fit { IsConsistent prepared.now }
+    requires consistent { IsConsistent prepared.now }
     requires rows { AreFailingRows prepared.now.tabled.halting (rows_of rows.now) }
     requires may_write { O.MayWrite out.old }
     ensures text { WritesTextInParts (AreEntriesOf prepared.now (rows_of rows.now)) (O.written out.old) (O.written out.new) result }

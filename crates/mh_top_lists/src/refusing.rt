@@ -1,10 +1,11 @@
-//! The refusal of a table that has no catalogue.
-ghost use Rattle.mh_top_lists.specs.code.CatalogueFaultStops.{IsStopForCatalogueFault};
+//! The refusal of a table that has no catalogue, for the modes that make one and for the mode that rebases a file.
+ghost use Rattle.mh_top_lists.specs.code.CatalogueFaultStops.{IsStopForCatalogueFault, IsStopForRebaseFault};
 ghost use Rattle.mh_top_drive.specs.code.StageCalls.{StopsWith};
 ghost use Rattle.mh_top_drive.specs.declared.stop.Cause.TheVariants.{Refused};
 ghost use Rattle.mh_top_plans.specs.Listing.{too_long as too_long_line};
 
 use mh_catalogue_rows::CatalogueFault;
+use mh_rebase::RebaseFault;
 use mh_top_drive::{Stop, refused};
 use std::alloc::Global;
 
@@ -25,5 +26,15 @@ pub(crate) fn stop_of(alloc: Global, fault: CatalogueFault) -> Stop
     match fault {
         CatalogueFault::TooLong { state } => too_long(alloc, state),
         CatalogueFault::Memory => Stop::OutOfMemory,
+    }
+}
+
+/// The stop for a fault of rebasing: the refusal with its line, or lack of memory.
+pub(crate) fn rebase_stop_of(alloc: Global, fault: RebaseFault) -> Stop
+    ensures { IsStopForRebaseFault fault result }
+{
+    match fault {
+        RebaseFault::TooLong { state } => too_long(alloc, state),
+        RebaseFault::Memory => Stop::OutOfMemory,
     }
 }

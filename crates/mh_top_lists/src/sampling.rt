@@ -22,7 +22,7 @@ fn write_counts<O: Sink, const W: usize>(
     listed: usize,
     out: &mut O,
 ) -> Result<(), Stop>
-    requires fit { IsConsistent prepared.now }
+    requires consistent { IsConsistent prepared.now }
     requires may_write { O.MayWrite out.old }
     ensures text { WritesWholeText (IsSampleLine prepared.now.grammar prepared.now.tabled.halting number listed) (O.written out.old) (O.written out.new) result }
     ensures counts { OutCounts (O.faults out.old) (O.faults out.new) result }

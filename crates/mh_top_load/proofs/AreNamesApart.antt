@@ -39,17 +39,17 @@ abbrev Capital : Text → Type 0
 Capital x = is_capital x ≡ true
 
 -- ---- The list of the distinct names in order of first occurrence.
-module _ (P : Text → Type 0) where
-  put_all : (ks : List Text) (x : Text) → All P ks → P x → All P (insert_key same ks x)
-  put_all ks x h p = by (list_any (same x) ks)
+module _ {X : Type 0} (eq : X → X → Bool) (P : X → Type 0) where
+  put_all : (ks : List X) (x : X) → All P ks → P x → All P (insert_key eq ks x)
+  put_all ks x h p = by (list_any (eq x) ks)
     where
       by : (b : Bool) → All P (if b then ks else ks ++ x ∷ [])
       by true = h
       by false = All-push P ks x h p
 
-  firsts_all : (ks xs : List Text) → All P ks → All P xs → All P (insert_all same ks xs)
+  pub firsts_all : (ks xs : List X) → All P ks → All P xs → All P (insert_all eq ks xs)
   firsts_all ks [] h k = h
-  firsts_all ks (x ∷ xs) h k = firsts_all (insert_key same ks x) xs (put_all ks x h (All-head P x xs k)) (All-tail P x xs k)
+  firsts_all ks (x ∷ xs) h k = firsts_all (insert_key eq ks x) xs (put_all ks x h (All-head P x xs k)) (All-tail P x xs k)
 
 put_distinct : (ks : List Text) (x : Text) → AreDistinct ks → AreDistinct (insert_key same ks x)
 put_distinct ks x d = by (list_any (same x) ks) refl
@@ -58,11 +58,11 @@ put_distinct ks x d = by (list_any (same x) ks) refl
     by true e = d
     by false e = AreDistinct-push ks x d (found_there x ks e)
 
-firsts_distinct : (ks xs : List Text) → AreDistinct ks → AreDistinct (insert_all same ks xs)
+pub firsts_distinct : (ks xs : List Text) → AreDistinct ks → AreDistinct (insert_all same ks xs)
 firsts_distinct ks [] d = d
 firsts_distinct ks (x ∷ xs) d = firsts_distinct (insert_key same ks x) xs (put_distinct ks x d)
 
-none_distinct : AreDistinct {X = Text} []
+pub none_distinct : AreDistinct {X = Text} []
 none_distinct = record { same = λ i j x e f. absurd (cc) }
 
 names_capital : (m : Module) → HasCapitalTokens m → All Capital (tokens_in m)
@@ -74,19 +74,19 @@ capitals (m ∷ ms) h = All-append Capital (tokens_in m) (flat_map tokens_in ms)
 
 -- ---- Grammars whose tokens have the names of a given list.
 module _ (w : Meanings) (names : List Text) (g : Grammar) (is : g.tokens ≡ map (token_info w) names) where
-  name_is : (z : ℕ) (x : Text) → slice_get names z ≡ Some x → token_name g z ≡ x
+  pub name_is : (z : ℕ) (x : Text) → slice_get names z ≡ Some x → token_name g z ≡ x
   unfolding token_name
   name_is z x at = ap (λ (ts : List TokenInfo). unwrap_or (option_map (λ (i : TokenInfo). i.name) (slice_get ts z)) []) is
       ∙ ap (λ (o : Option TokenInfo). unwrap_or (option_map (λ (i : TokenInfo). i.name) o) []) (slice_get-map (token_info w) names z ∙ ap (option_map (token_info w)) at)
 
-  named : (z : ℕ) → z < length g.tokens → (x : Text) × (slice_get names z ≡ Some x)
+  pub named : (z : ℕ) → z < length g.tokens → (x : Text) × (slice_get names z ≡ Some x)
   named z lt =
       let lengths : length g.tokens ≡ length names = ap length is ∙ length-map names (token_info w) in
       (get_or names z [], slice_get-get_or names z [] (rw lengths at lt))
 
   apart_by : AreDistinct names → All Capital names → AreTokenNamesDistinct g
   apart_by d c = record {
-    apart = λ y z ly lz e.
+    distinct = λ y z ly lz e.
         let a = named y ly in
         let b = named z lz in
         let one : a.0 ≡ b.0 = sym (name_is y a.0 a.1) ∙ e ∙ name_is z b.0 b.1 in
@@ -101,4 +101,4 @@ module _ (w : Meanings) (names : List Text) (g : Grammar) (is : g.tokens ≡ map
 pub names_apart : (prelude : Bool) (ms : List Module) (g : Grammar) → All HasCapitalTokens ms → IsGrammarOfModules prelude ms g → AreTokenNamesDistinct g
 names_apart prelude ms g h o =
     let tokens : g.tokens ≡ map (token_info (meanings prelude ms)) (token_names ms) = o.grammar.grammar.inlined.tokens ∙ o.grammar.expands.tokens ∙ o.joins.1.tokens_are in
-    apart_by (meanings prelude ms) (token_names ms) g tokens (firsts_distinct [] (flat_map tokens_in ms) none_distinct) (firsts_all Capital [] (flat_map tokens_in ms) (All-nil Capital) (capitals ms h))
+    apart_by (meanings prelude ms) (token_names ms) g tokens (firsts_distinct [] (flat_map tokens_in ms) none_distinct) (firsts_all same Capital [] (flat_map tokens_in ms) (All-nil Capital) (capitals ms h))

@@ -3,4 +3,6 @@ pub mod SampleModules
 pub mod IsGrammarFault
 pub mod AreNamesApart
 pub mod AreModulesReady
+pub mod InstanceNames
+pub mod HasFileNames
 pub mod StagesToGrammar

@@ -1,5 +1,6 @@
 pub mod Texts
 pub mod GrammarFile
+pub mod GrammarNames
 pub mod Modules
 pub mod GrammarStage
 pub mod Order

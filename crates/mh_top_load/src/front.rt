@@ -4,13 +4,14 @@ ghost use Rattle.std.specs.Prelude.{◌≡◌, ◌<◌, ◌≤◌, List, ℕ, le
 ghost use Rattle.mh_grammar.specs.Costs.{HaveCosts};
 ghost use Rattle.mh_grammar.specs.Plain.{plain_of, IsInRange};
 ghost use Rattle.mh_opts.specs.Orders.{IsWithinLimits};
-ghost use Rattle.mh_rules.specs.declared.joined.TheConstants.{MAX_TOKENS};
 ghost use Rattle.mh_top_drive.specs.StageResults.{Go};
+ghost use Rattle.mh_top_load.specs.GrammarNames.{HasFileNames};
 ghost use Rattle.mh_top_load.specs.OrderAndGrammar.{IsOrderAndGrammar};
 ghost use Rattle.mh_top_load.specs.code.NextGrammarFile.{MayAskForGrammars, IsNextGrammarFile};
 ghost use Rattle.mh_top_load.specs.Order.{staged_order};
 ghost use Rattle.mh_top_drive.specs.code.StageCalls.{FileStageGives, StageShelfCounts};
 ghost use Rattle.mh_validate_valid.specs.Valid.{AreTokenNamesDistinct};
+ghost use Rattle.mh_rules.specs.Limits.{max_tokens};
 
 use crate::grammar::grammar_in;
 use crate::modules::modules_of;
@@ -34,9 +35,10 @@ pub fn front_of<F: Shelf>(
     ensures start { IfOk result (λ front. 0 < length front.grammar.starts) }
     ensures limits { IfOk result (λ front. IsWithinLimits front.order.job) }
     ensures costs { IfOk result (λ front. HaveCosts front.grammar.tokens) }
-    ensures tokens { IfOk result (λ front. length front.grammar.tokens ≤ MAX_TOKENS) }
-    ensures apart { IfOk result (λ front. AreTokenNamesDistinct front.grammar) }
-    ensures may_still { IfOk result (λ _. (other : List ℕ) → F.MayAsk shelf.old other → F.MayAsk shelf.new other) }
+    ensures tokens { IfOk result (λ front. length front.grammar.tokens ≤ max_tokens) }
+    ensures distinct_names { IfOk result (λ front. AreTokenNamesDistinct front.grammar) }
+    ensures names { IfOk result (λ front. HasFileNames front.grammar) }
+    ensures may_ask { IfOk result (λ _. (other : List ℕ) → F.MayAsk shelf.old other → F.MayAsk shelf.new other) }
     ensures kept { F.files shelf.new ≡ F.files shelf.old }
     ensures counts { StageShelfCounts (F.faults shelf.old) (F.faults shelf.new) result }
 {

@@ -64,7 +64,7 @@ pub(crate) fn modules_of<F: Shelf>(
     requires asked { All (F.MayAsk shelf.old) (grammar_files order.now) }
     ensures modules { FileStageGives (AreModules (F.files shelf.old) order.now)
         (IsNextFile (F.files shelf.old) IsModule (grammar_files order.now)) (list_result result) }
-    ensures may_still { IfOk result (λ items. (other : List ℕ) → F.MayAsk shelf.old other → F.MayAsk shelf.new other) }
+    ensures may_ask { IfOk result (λ items. (other : List ℕ) → F.MayAsk shelf.old other → F.MayAsk shelf.new other) }
     ensures kept { F.files shelf.new ≡ F.files shelf.old }
     ensures counts { StageShelfCounts (F.faults shelf.old) (F.faults shelf.new) result }
 {

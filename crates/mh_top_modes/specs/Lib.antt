@@ -1,1 +1,3 @@
+pub mod FileTexts
 pub mod JudgingContext
+pub mod code

@@ -57,7 +57,7 @@ fn read_both<F: Shelf, const W: usize>(
     second: &[u8],
 ) -> Result<(Compiled, Compiled), Stop>
     requires few { W ≤ 8 }
-    requires fit { IsConsistent prepared.now }
+    requires consistent { IsConsistent prepared.now }
     requires asked { F.MayAsk shelf.old first.now × F.MayAsk shelf.old second.now }
     ensures both { FileStageGives (AreMessagesOfBoth (F.files shelf.old) prepared.now first.now second.now)
         (IsNextFileOfJob (CompareErrors first.now second.now) (F.files shelf.old) prepared.now) result }
@@ -84,7 +84,7 @@ pub fn compare_errors<F: Shelf, const W: usize>(
     second: &[u8],
 ) -> Result<FinalText, Stop>
     requires few { W ≤ 8 }
-    requires fit { IsConsistent prepared.now }
+    requires consistent { IsConsistent prepared.now }
     requires asked { F.MayAsk shelf.old first.now × F.MayAsk shelf.old second.now }
     ensures opens { Opens WritesFinal
         (IsPlanOfJob (CompareErrors first.now second.now) (F.files shelf.old) prepared.now)

@@ -1,7 +1,6 @@
 //! The mode of `--interpret-error`: the entry of the sentence in the first line of the input, or a refusal that says
 //! why the line has no entry.
 ghost use Rattle.std.specs.Prelude.{◌≡◌, ◌<◌, ◌≤◌, ◌^◌, ◌++◌, ℕ, [], length, codes, IfOk};
-ghost use Rattle.std.specs.List.{All};
 ghost use Rattle.mh_tables_core.specs.Failing.{Fails};
 ghost use Rattle.mh_report_comments.specs.Comments.{IsEntryText};
 ghost use Rattle.mh_run.specs.Verdicts.{ending_for};
@@ -10,6 +9,8 @@ ghost use Rattle.mh_top_plans.specs.Explained.{IsExplained, IsExplainedSentence,
 ghost use Rattle.mh_top_drive.specs.code.ModeCalls.{ModeRan, InputAndOutCounts};
 ghost use Rattle.mh_top_plans.specs.Plan.{Explains, plan_behavior};
 ghost use Rattle.mh_top_types.specs.code.Prepared.{IsConsistent};
+ghost use Rattle.mh_top_modes.specs.code.KnownSentences.{FitsTable};
+ghost use Rattle.mh_top_modes.specs.code.Running.{MayRun};
 
 use mh_check::{ending_text, write_early};
 use mh_grammar::{Memory, Sentence, Sequence};
@@ -69,7 +70,7 @@ fn entry_of<const W: usize>(
     sentence: &Sentence,
 ) -> Result<Sequence<u8>, Memory>
     requires few { W ≤ 8 }
-    requires fit { IsConsistent prepared.now }
+    requires consistent { IsConsistent prepared.now }
     requires fails { (state : ℕ) × Fails prepared.now.tabled.halting sentence.now.start sentence.now.tokens state }
     requires size { length sentence.now.tokens < 2 ^ 32 }
     ensures { IfOk result (λ text. IsEntryText prepared.now.grammar prepared.now.tabled.automaton
@@ -93,10 +94,8 @@ fn explain_sentence<const W: usize>(
     sentence: &Sentence,
 ) -> Result<FinalText, Memory>
     requires few { W ≤ 8 }
-    requires fit { IsConsistent prepared.now }
-    requires start { sentence.now.start < length prepared.now.tabled.halting.grammar.starts }
-    requires tokens { All (λ z. z < prepared.now.tabled.halting.grammar.tokens) sentence.now.tokens }
-    requires size { length sentence.now.tokens < 2 ^ 32 }
+    requires consistent { IsConsistent prepared.now }
+    requires sentence { FitsTable prepared.now.tabled.halting sentence.now }
     ensures { IfOk result (λ made. IsExplainedSentence prepared.now sentence.now made) }
 {
     let tokens = sentence.tokens.as_slice();
@@ -118,7 +117,7 @@ fn explain_line<const W: usize>(
     line: &[u8],
 ) -> Result<FinalText, Memory>
     requires few { W ≤ 8 }
-    requires fit { IsConsistent prepared.now }
+    requires consistent { IsConsistent prepared.now }
     requires short { length line.now < 2 ^ 32 }
     ensures { IfOk result (λ made. IsExplained prepared.now line.now made) }
 {
@@ -151,7 +150,7 @@ impl<'a, const W: usize> Mode for Explaining<'a, W> {
 
     ghost State = { Plan };
 
-    ghost way = { plan_behavior };
+    ghost behavior = { plan_behavior };
 
     ghost Is = { λ s plan. (W ≤ 8) × IsConsistent s.prepared.now × (length s.line < 2 ^ 32) × (plan ≡ Explains s.prepared.now s.line) };
 
@@ -177,10 +176,7 @@ pub fn explain<I: Source, O: Sink, const W: usize>(
     input: &mut I,
     out: &mut O,
 ) -> Result<(), Stop>
-    requires few { W ≤ 8 }
-    requires fit { IsConsistent prepared.now }
-    requires may_read { I.MayRead input.old }
-    requires may_write { O.MayWrite out.old }
+    requires { MayRun W prepared.now (I.MayRead input.old) (O.MayWrite out.old) }
     ensures ran { ModeRan plan_behavior (Explains prepared.now []) (I.left input.old) (I.left input.new)
         (O.written out.old) (O.written out.new) result }
     ensures counts { InputAndOutCounts (I.faults input.old) (I.faults input.new)

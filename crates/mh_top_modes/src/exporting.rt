@@ -20,7 +20,7 @@ pub struct TableFile<'a, const W: usize> {
 /// The text of the table file.
 fn exported<const W: usize>(alloc: Global, prepared: &Prepared<W>) -> Result<Sequence<u8>, Memory>
     requires few { W ≤ 8 }
-    requires fit { IsConsistent prepared.now }
+    requires consistent { IsConsistent prepared.now }
     ensures { IfOk result (λ text. text ≡ table_file_text prepared.now) }
 {
     let text = write_tables(

@@ -16,17 +16,17 @@ ghost use Rattle.mh_top_drive.specs.code.ModeCalls.{InputAndOutCounts, ModeShelf
 ghost use Rattle.mh_top_types.specs.code.Prepared.{IsConsistent};
 ghost use Rattle.mh_top_plans.specs.Verdicts.{IsAnswerToLine, IsEndingText, IsOutcomeText, IsRefusalText, IsTreeText, IsVerdictText, IsSentenceAnswer, expected_line, message_or_none, refusal_text as refusal_line};
 ghost use Rattle.mh_top_modes.specs.JudgingContext.{context_of};
+ghost use Rattle.mh_top_modes.specs.code.KnownSentences.{FitsTable};
 
 use crate::judge::Judging;
 use mh_check::Compiled;
 use mh_engine::{TreeOutcome, run_with_trees};
 use mh_expected::expected;
 use mh_grammar::{Grammar, Memory, Sentence};
-use mh_msgfile::{Lexicon, SentenceFault};
+use mh_msgfile::{Lexicon, SentenceFault, write_names};
 use mh_outside::{Shelf, Sink, Source};
 use mh_report::write_number;
 use mh_run::{Verdict, verdict};
-use mh_session::write_names;
 use mh_tables_core::Halting;
 use mh_top_drive::{Asks, Mode, Stop, drive_opened, joined};
 use mh_top_plans::read_messages_file;
@@ -55,7 +55,7 @@ fn write_message(
 }
 
 /// Appends the line of the tokens that are expected after the first `at` tokens of a sentence. The run on these tokens
-/// must overshoot.
+/// must overshoot, that is, ask for one more token.
 fn write_expected(
     alloc: Global,
     text: &mut Vec<u8>,
@@ -63,9 +63,7 @@ fn write_expected(
     sentence: &Sentence,
     at: u32,
 ) -> Result<(), Memory>
-    requires start { sentence.now.start < length by.now.halting.now.grammar.starts }
-    requires tokens { All (λ z. z < by.now.halting.now.grammar.tokens) sentence.now.tokens }
-    requires few { length sentence.now.tokens < 2 ^ 32 }
+    requires sentence { FitsTable by.now.halting.now sentence.now }
     requires at { at ≤ length sentence.now.tokens }
     requires overshoots { Overshoots by.now.halting.now sentence.now.start (take at sentence.now.tokens) }
     ensures { OnOk result ((tokens : List ℕ) × ExpectedTokens by.now.halting.now sentence.now.start (take at sentence.now.tokens) tokens
@@ -99,9 +97,7 @@ fn refused_answer(
     at: u32,
     state: u32,
 ) -> Result<Vec<u8>, Memory>
-    requires start { sentence.now.start < length by.now.halting.now.grammar.starts }
-    requires tokens { All (λ z. z < by.now.halting.now.grammar.tokens) sentence.now.tokens }
-    requires few { length sentence.now.tokens < 2 ^ 32 }
+    requires sentence { FitsTable by.now.halting.now sentence.now }
     requires refused { VerdictOf by.now.halting.now sentence.now.start sentence.now.tokens (Rejected at state) }
     ensures { IfOk result (λ text. IsRefusalText (context_of by.now) sentence.now at state text.items) }
 {
@@ -121,9 +117,7 @@ fn verdict_text(
     sentence: &Sentence,
     verdict: Verdict,
 ) -> Result<Vec<u8>, Memory>
-    requires start { sentence.now.start < length by.now.halting.now.grammar.starts }
-    requires tokens { All (λ z. z < by.now.halting.now.grammar.tokens) sentence.now.tokens }
-    requires few { length sentence.now.tokens < 2 ^ 32 }
+    requires sentence { FitsTable by.now.halting.now sentence.now }
     requires verdict { VerdictOf by.now.halting.now sentence.now.start sentence.now.tokens (ending_for verdict) }
     ensures { IfOk result (λ text. IsEndingText (context_of by.now) sentence.now (ending_for verdict) text.items) }
 {
@@ -136,17 +130,11 @@ fn verdict_text(
 
 /// The answer to a sentence, from its verdict.
 fn verdict_answer(alloc: Global, by: &Judging<'_>, sentence: &Sentence) -> Result<Vec<u8>, Memory>
-    requires start { sentence.now.start < length by.now.halting.now.grammar.starts }
-    requires tokens { All (λ z. z < by.now.halting.now.grammar.tokens) sentence.now.tokens }
-    requires few { length sentence.now.tokens < 2 ^ 32 }
+    requires { FitsTable by.now.halting.now sentence.now }
     ensures { IfOk result (λ text. IsVerdictText (context_of by.now) sentence.now text.items) }
 {
-    let verdict = verdict(
-        alloc,
-        by.halting,
-        sentence.start,
-        sentence.tokens.as_slice(),
-    )?;
+    let tokens = sentence.tokens.as_slice();
+    let verdict = verdict(alloc, by.halting, sentence.start, tokens)?;
     verdict_text(alloc, by, sentence, verdict)
 }
 
@@ -157,9 +145,7 @@ fn outcome_text(
     sentence: &Sentence,
     outcome: &TreeOutcome,
 ) -> Result<Vec<u8>, Memory>
-    requires start { sentence.now.start < length by.now.halting.now.grammar.starts }
-    requires tokens { All (λ z. z < by.now.halting.now.grammar.tokens) sentence.now.tokens }
-    requires few { length sentence.now.tokens < 2 ^ 32 }
+    requires sentence { FitsTable by.now.halting.now sentence.now }
     requires outcome { IsTreeEnding by.now.halting.now sentence.now.start sentence.now.tokens (tree_ending_for outcome.now) }
     ensures { IfOk result (λ text. IsTreeText (context_of by.now) sentence.now (tree_ending_for outcome.now) text.items) }
 {
@@ -177,25 +163,17 @@ fn outcome_text(
 
 /// The answer to a sentence, from its run with trees.
 fn tree_answer(alloc: Global, by: &Judging<'_>, sentence: &Sentence) -> Result<Vec<u8>, Memory>
-    requires start { sentence.now.start < length by.now.halting.now.grammar.starts }
-    requires tokens { All (λ z. z < by.now.halting.now.grammar.tokens) sentence.now.tokens }
-    requires few { length sentence.now.tokens < 2 ^ 32 }
+    requires { FitsTable by.now.halting.now sentence.now }
     ensures { IfOk result (λ text. IsOutcomeText (context_of by.now) sentence.now text.items) }
 {
-    let outcome = run_with_trees(
-        alloc,
-        by.halting,
-        sentence.start,
-        sentence.tokens.as_slice(),
-    )?;
+    let tokens = sentence.tokens.as_slice();
+    let outcome = run_with_trees(alloc, by.halting, sentence.start, tokens)?;
     outcome_text(alloc, by, sentence, &outcome)
 }
 
 /// The answer to a sentence, with trees or without.
 fn sentence_text(alloc: Global, by: &Judging<'_>, sentence: &Sentence) -> Result<Vec<u8>, Memory>
-    requires start { sentence.now.start < length by.now.halting.now.grammar.starts }
-    requires tokens { All (λ z. z < by.now.halting.now.grammar.tokens) sentence.now.tokens }
-    requires few { length sentence.now.tokens < 2 ^ 32 }
+    requires { FitsTable by.now.halting.now sentence.now }
     ensures { IfOk result (λ text. IsSentenceAnswer (context_of by.now) sentence.now text.items) }
 {
     if by.trees {
@@ -232,7 +210,7 @@ impl<'a> Mode for Judging<'a> {
 
     ghost State = { Plan };
 
-    ghost way = { plan_behavior };
+    ghost behavior = { plan_behavior };
 
     ghost use Rattle.mh_top_modes.specs.JudgingContext.{context_of};
 
@@ -258,7 +236,7 @@ fn messages_for<F: Shelf, const W: usize>(
     shelf: &mut F,
 ) -> Result<Option<Compiled>, Stop>
     requires few { W ≤ 8 }
-    requires fit { IsConsistent prepared.now }
+    requires consistent { IsConsistent prepared.now }
     requires asked { All (F.MayAsk shelf.old) (optional_file prepared.now.order.messages) }
     ensures messages { FileStageGives (AreOptionalMessages prepared.now.order.messages (F.files shelf.old) prepared.now)
         (IsNextFileOfJob Interpret' (F.files shelf.old) prepared.now) result }
@@ -281,7 +259,7 @@ fn judge_by<'a, F: Shelf, const W: usize>(
     shelf: &mut F,
 ) -> Result<Judging<'a>, Stop>
     requires few { W ≤ 8 }
-    requires fit { IsConsistent prepared.now }
+    requires consistent { IsConsistent prepared.now }
     requires asked { All (F.MayAsk shelf.old) (optional_file prepared.now.order.messages) }
     ensures opens { Opens (λ by plan. plan ≡ Judges (context_of by))
         (IsPlanOfJob Interpret' (F.files shelf.old) prepared.now)
@@ -318,7 +296,7 @@ pub fn interpret<F: Shelf, I: Source, O: Sink, const W: usize>(
     out: &mut O,
 ) -> Result<(), Stop>
     requires few { W ≤ 8 }
-    requires fit { IsConsistent prepared.now }
+    requires consistent { IsConsistent prepared.now }
     requires asked { All (F.MayAsk shelf.old) (optional_file prepared.now.order.messages) }
     requires may_read { I.MayRead input.old }
     requires may_write { O.MayWrite out.old }

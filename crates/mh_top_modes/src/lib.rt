@@ -4,10 +4,9 @@
 #![tactic(auto)]
 
 mod comparing;
-mod compiling;
-mod echoing;
 mod explaining;
 mod exporting;
+mod file_texts;
 mod judge;
 mod judging;
 mod sentences;
@@ -16,12 +15,10 @@ mod showing;
 mod updating;
 
 pub use comparing::compare_errors;
-pub use compiling::compile_errors;
-pub use echoing::echo_errors;
 pub use explaining::explain;
 pub use exporting::TableFile;
+pub use file_texts::{FileText, text_from_file};
 pub use judging::interpret;
 pub use sentences::{RandomSentence, ShortestWords};
 pub use serving::run_session;
 pub use showing::AutomatonText;
-pub use updating::update_errors;

@@ -1,7 +1,7 @@
 //! The modes that write sentences of the grammar: the shortest word of each nonterminal, and a random sentence.
 ghost use Rattle.std.specs.Prelude.{◌≡◌, ◌<◌, ◌≤◌, length as len, IfOk};
 ghost use Rattle.mh_grammar.specs.Plain.{plain_of, IsInRange};
-ghost use Rattle.mh_opts.specs.declared.numbers.TheConstants.{MAX_LENGTH};
+ghost use Rattle.mh_opts.specs.Numbers.{max_length};
 ghost use Rattle.mh_sample.specs.Sentences.{IsShortestText};
 ghost use Rattle.mh_top_plans.specs.Drawn.{IsDrawn, none_within as none_within_line};
 ghost use Rattle.mh_top_plans.specs.declared.at_end.FinalText.TheVariants.{Refusal as Refusal'};
@@ -68,7 +68,7 @@ fn none_within(alloc: Global, grammar: &Grammar, length: u32) -> Result<FinalTex
 fn drawn(alloc: Global, grammar: &Grammar, seed: u64, length: u32) -> Result<FinalText, Memory>
     requires range { IsInRange (plain_of grammar.now) }
     requires start { 0 < len grammar.now.starts }
-    requires few { length ≤ MAX_LENGTH }
+    requires few { length ≤ max_length }
     ensures { IfOk result (IsDrawn grammar.now seed length) }
 {
     match random_text(alloc, grammar, seed, length) {
@@ -80,11 +80,11 @@ fn drawn(alloc: Global, grammar: &Grammar, seed: u64, length: u32) -> Result<Fin
 
 impl<const W: usize> Writer for RandomSentence<'_, W> {
     ghost use Rattle.std.specs.Prelude.{◌≤◌};
-    ghost use Rattle.mh_opts.specs.declared.numbers.TheConstants.{MAX_LENGTH};
+    ghost use Rattle.mh_opts.specs.Numbers.{max_length};
     ghost use Rattle.mh_top_plans.specs.Plan.{Random};
     ghost use Rattle.mh_top_types.specs.code.Prepared.{IsConsistent};
 
-    ghost is_ready = { λ s. (W ≤ 8) × IsConsistent s.prepared.now × (s.length ≤ MAX_LENGTH) };
+    ghost is_ready = { λ s. (W ≤ 8) × IsConsistent s.prepared.now × (s.length ≤ max_length) };
 
     ghost end = { λ s. Random s.seed s.length s.prepared.now };
 

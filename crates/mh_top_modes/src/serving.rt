@@ -8,6 +8,7 @@ ghost use Rattle.mh_top_drive.specs.code.ModeCalls.{InputAndOutCounts};
 ghost use Rattle.mh_top_plans.specs.code.Modes.{OpenedAndRan, Opens};
 ghost use Rattle.mh_top_plans.specs.Plan.{Serves};
 ghost use Rattle.mh_top_types.specs.code.Prepared.{IsConsistent};
+ghost use Rattle.mh_top_modes.specs.code.Running.{MayRun};
 
 use mh_grammar::{Grammar, Memory};
 use mh_msgfile::Lexicon;
@@ -35,7 +36,7 @@ impl<'a> Mode for Serving<'a> {
 
     ghost State = { Plan };
 
-    ghost way = { plan_behavior };
+    ghost behavior = { plan_behavior };
 
     ghost Is = { λ s plan. (branches : Branches) × Represents s.session branches × (plan ≡ Serves s.grammar.now s.session.table branches) };
 
@@ -58,7 +59,7 @@ fn serve_on<'a, const W: usize>(
     prepared: &'a Prepared<W>,
 ) -> Result<Serving<'a>, Stop>
     requires few { W ≤ 8 }
-    requires fit { IsConsistent prepared.now }
+    requires consistent { IsConsistent prepared.now }
     ensures { Opens (λ by plan. (branches : Branches) × Represents by.session branches × (plan ≡ Serves by.grammar.now by.session.table branches))
         (λ plan. plan ≡ Serves prepared.now.grammar prepared.now.tabled.halting [])
         (λ name. ⊥) result }
@@ -81,10 +82,7 @@ pub fn run_session<I: Source, O: Sink, const W: usize>(
     input: &mut I,
     out: &mut O,
 ) -> Result<(), Stop>
-    requires few { W ≤ 8 }
-    requires fit { IsConsistent prepared.now }
-    requires may_read { I.MayRead input.old }
-    requires may_write { O.MayWrite out.old }
+    requires { MayRun W prepared.now (I.MayRead input.old) (O.MayWrite out.old) }
     ensures ran { OpenedAndRan (λ plan. plan ≡ Serves prepared.now.grammar prepared.now.tabled.halting []) (λ name. ⊥)
         (I.left input.old) (I.left input.new) (O.written out.old) (O.written out.new) result }
     ensures counts { InputAndOutCounts (I.faults input.old) (I.faults input.new)

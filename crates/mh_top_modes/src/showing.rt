@@ -20,7 +20,7 @@ pub struct AutomatonText<'a, const W: usize> {
 /// The text of the automaton.
 fn shown<const W: usize>(alloc: Global, prepared: &Prepared<W>) -> Result<Sequence<u8>, Memory>
     requires few { W ≤ 8 }
-    requires fit { IsConsistent prepared.now }
+    requires consistent { IsConsistent prepared.now }
     ensures { IfOk result (λ text. IsAutomatonText prepared.now.grammar prepared.now.tabled.automaton
         prepared.now.tabled.mode prepared.now.tabled.halting text) }
 {

@@ -1,11 +1,8 @@
-//! The mode of `--update-errors`: a messages file with new comment lines for its sentences, otherwise unchanged.
+//! Brings a messages file up to date, for the mode of `--update-errors`: the file gets new comment lines for its
+//! sentences, and is otherwise unchanged.
 ghost use Rattle.std.specs.Prelude.{◌≡◌, ◌≤◌, length};
 ghost use Rattle.mh_msgfile.specs.Messages.{AreSentencesOf};
-ghost use Rattle.mh_opts.specs.declared.jobs.Job.TheVariants.{UpdateErrors};
-ghost use Rattle.mh_top_plans.specs.Files.{IsNextFileOfJob};
 ghost use Rattle.mh_top_plans.specs.MessagesFiles.{IsUpdatedFile, IsUpdatedOf};
-ghost use Rattle.mh_top_plans.specs.code.Modes.{Opens, WritesFinal};
-ghost use Rattle.mh_top_plans.specs.Plan.{IsPlanOfJob};
 ghost use Rattle.mh_top_types.specs.code.Prepared.{IsConsistent};
 ghost use Rattle.mh_top_drive.specs.code.StageCalls.{FileStageGives, StageShelfCounts, StageGives};
 
@@ -14,7 +11,7 @@ use mh_grammar::Sequence;
 use mh_msgfile::MsgFile;
 use mh_outside::Shelf;
 use mh_top_drive::Stop;
-use mh_top_plans::{FinalText, no_fit, read_spelled_file};
+use mh_top_plans::{no_fit, read_spelled_file};
 use mh_top_types::Prepared;
 use mh_update::update;
 use std::alloc::Global;
@@ -27,7 +24,7 @@ fn updated_of<const W: usize>(
     file: &MsgFile,
 ) -> Result<Sequence<u8>, Stop>
     requires few { W ≤ 8 }
-    requires fit { IsConsistent prepared.now }
+    requires consistent { IsConsistent prepared.now }
     requires known { AreSentencesOf (length prepared.now.tabled.halting.grammar.starts) prepared.now.tabled.halting.grammar.tokens file.now }
     ensures { StageGives (IsUpdatedOf prepared.now name.now file.now) result }
 {
@@ -46,14 +43,14 @@ fn updated_of<const W: usize>(
 }
 
 /// Reads the named messages file, and brings it up to date.
-fn read_updated_file<F: Shelf, const W: usize>(
+pub(crate) fn read_updated_file<F: Shelf, const W: usize>(
     alloc: Global,
     prepared: &Prepared<W>,
     shelf: &mut F,
     name: &[u8],
 ) -> Result<Sequence<u8>, Stop>
     requires few { W ≤ 8 }
-    requires fit { IsConsistent prepared.now }
+    requires consistent { IsConsistent prepared.now }
     requires asked { F.MayAsk shelf.old name.now }
     ensures updated { FileStageGives (IsUpdatedFile (F.files shelf.old) prepared.now name.now)
         (λ other. other ≡ name.now) result }
@@ -62,28 +59,6 @@ fn read_updated_file<F: Shelf, const W: usize>(
 {
     match read_spelled_file(alloc, prepared, shelf, name) {
         Ok(file) => updated_of(alloc, prepared, name, &file),
-        Err(stop) => Err(stop),
-    }
-}
-
-/// Reads the named messages file, and gives it with new comment lines, as text.
-pub fn update_errors<F: Shelf, const W: usize>(
-    alloc: Global,
-    prepared: &Prepared<W>,
-    shelf: &mut F,
-    file: &[u8],
-) -> Result<FinalText, Stop>
-    requires few { W ≤ 8 }
-    requires fit { IsConsistent prepared.now }
-    requires asked { F.MayAsk shelf.old file.now }
-    ensures opens { Opens WritesFinal
-        (IsPlanOfJob (UpdateErrors file.now) (F.files shelf.old) prepared.now)
-        (IsNextFileOfJob (UpdateErrors file.now) (F.files shelf.old) prepared.now) result }
-    ensures counts { StageShelfCounts (F.faults shelf.old) (F.faults shelf.new) result }
-    ensures kept { F.files shelf.new ≡ F.files shelf.old }
-{
-    match read_updated_file(alloc, prepared, shelf, file) {
-        Ok(text) => Ok(FinalText::Written { text }),
         Err(stop) => Err(stop),
     }
 }

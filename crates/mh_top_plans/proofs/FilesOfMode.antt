@@ -25,12 +25,12 @@ StopsAllowed Right (Halt cause) = Right cause
 
 -- The facts that the lemmas need of the content of a file: it is unique, and a stop is a refusal.
 pub record ContentFacts {A : Type 0} (Stage : Text → Text → StageResult A → Type 0) : Type 1 where
-  pub once : (name bytes : Text) → IsOne (Stage name bytes)
-  pub right : (Right : Cause → Type 0) → ((line : Text) → Right (Refused line)) → (name bytes : Text) (s : StageResult A) → Stage name bytes s → StopsAllowed Right s
+  pub unique : (name bytes : Text) → IsOne (Stage name bytes)
+  pub allowed : (Right : Cause → Type 0) → ((line : Text) → Right (Refused line)) → (name bytes : Text) (s : StageResult A) → Stage name bytes s → StopsAllowed Right s
 
 module _ {A : Type 0} (Stage : Text → Text → StageResult A → Type 0) (reading : ContentFacts Stage) where
   pub file_once : (files : Files) (name : Text) → IsOne (IsFileContent (Some files) Stage name)
-  file_once files name = then_once (IsLoaded (Some files) name) (Stage name) (loaded_once files name) (reading.once name)
+  file_once files name = then_once (IsLoaded (Some files) name) (Stage name) (loaded_once files name) (reading.unique name)
 
   -- A file that is missing or too long stops the stage with this cause.
   pub unread_halts : (files : Files) (name : Text) (what : FileFound) (cause : Cause) (s : StageResult A) → IsFound (Some files) name what → loaded name what ≡ Halt cause → IsFileContent (Some files) Stage name s → s ≡ Halt cause
@@ -40,7 +40,7 @@ module _ {A : Type 0} (Stage : Text → Text → StageResult A → Type 0) (read
 
   module _ (Right : Cause → Type 0) (may_refuse : (line : Text) → Right (Refused line)) where
     read_right : (name : Text) (what : FileFound) (first : StageResult Text) (s : StageResult A) → first ≡ loaded name what → ((cause : Cause) → loaded name what ≡ Halt cause → Right cause) → AfterStage first (Stage name) s → StopsAllowed Right s
-    read_right name what (Go bytes) s is unread on = reading.right Right may_refuse name bytes s on
+    read_right name what (Go bytes) s is unread on = reading.allowed Right may_refuse name bytes s on
     read_right name what (Halt cause) s is unread on = subst (StopsAllowed Right) (sym on) (unread cause (sym is))
 
     pub file_right : (files : Option Files) (name : Text) (s : StageResult A) → ((what : FileFound) (cause : Cause) → IsFound files name what → loaded name what ≡ Halt cause → Right cause) → IsFileContent files Stage name s → StopsAllowed Right s
@@ -71,25 +71,25 @@ loaded_short files name bytes is = at files is.0 is.1 is.2
 -- The prepared grammar, automaton and table belong together, and every run on the table ends.
 pub record PreparedFacts (p : Prepared) : Type 0 where
   pub halts : HaltingFacts p.tabled.halting
-  pub fit : IsConsistent p
+  pub consistent : IsConsistent p
 
 -- The facts on a stage that reads these files: a result exists and is unique, a file that cannot be read stops it, and
 -- it stops only for an allowed cause.
 pub record ReadFacts {A : Type 0} (p : Prepared) (names : List Text) (Has : Option Files → StageResult A → Type 0) : Type 1 where
   pub some : (files : Option Files) → PreparedFacts p → (s : StageResult A) × Has files s
-  pub once : (files : Files) → IsOne (Has (Some files))
+  pub unique : (files : Files) → IsOne (Has (Some files))
   pub unread : (files : Files) (name : Text) (what : FileFound) (cause : Cause) (s : StageResult A) → IsNextOfMode p names (Some files) name → IsFound (Some files) name what → loaded name what ≡ Halt cause → Has (Some files) s → s ≡ Halt cause
-  pub right : (Right : Cause → Type 0) → ((line : Text) → Right (Refused line)) → (files : Option Files) (s : StageResult A) → ((name : Text) (what : FileFound) (cause : Cause) → IsNextOfMode p names files name → IsFound files name what → loaded name what ≡ Halt cause → Right cause) → Has files s → StopsAllowed Right s
+  pub allowed : (Right : Cause → Type 0) → ((line : Text) → Right (Refused line)) → (files : Option Files) (s : StageResult A) → ((name : Text) (what : FileFound) (cause : Cause) → IsNextOfMode p names files name → IsFound files name what → loaded name what ≡ Halt cause → Right cause) → Has files s → StopsAllowed Right s
 
 -- The facts are true of a stage that reads one file.
 pub one_file : {A : Type 0} (p : Prepared) (file : Text) (Stage : Text → Text → StageResult A → Type 0) → ContentFacts Stage → (PreparedFacts p → (name bytes : Text) → length bytes ≤ file_limit → (s : StageResult A) × Stage name bytes s) → ReadFacts p (file ∷ []) (λ files. IsFileContent files Stage file)
 one_file p file Stage reading some = record {
   some = λ files runs. some_file Stage reading (some runs) files file;
-  once = λ files. file_once Stage reading files file;
+  unique = λ files. file_once Stage reading files file;
   unread = λ files name what cause s turn found_file halt is.
       let same = turn_of_one p (Some files) name file turn in
       unread_halts Stage reading files file what cause s (subst (λ (n : Text). IsFound (Some files) n what) (sym same) found_file) (subst (λ (n : Text). loaded n what ≡ Halt cause) (sym same) halt) is;
-  right = λ Right may files s of_file is. file_right Stage reading Right may files file s (λ what cause found_file halt. of_file file what cause (turn_first files (AreMessages p.grammar p.tabled.halting) file []) found_file halt) is;
+  allowed = λ Right may files s of_file is. file_right Stage reading Right may files file s (λ what cause found_file halt. of_file file what cause (turn_first files (AreMessages p.grammar p.tabled.halting) file []) found_file halt) is;
 }
 
 -- The facts are also true of such a stage with one more stage after it that reads no file.
@@ -105,7 +105,7 @@ module _ {A B : Type 0} (p : Prepared) (names : List Text) (Has : Option Files �
   pub read_then : ReadFacts p names (λ files. Then (Has files) Of)
   read_then = record {
     some = λ files runs. let first = read.some files runs in some_then files runs first.0 first.1;
-    once = λ files. then_once (Has (Some files)) Of (read.once files) once;
+    unique = λ files. then_once (Has (Some files)) Of (read.unique files) once;
     unread = λ files name what cause s turn found_file halt is. let same = read.unread files name what cause is.0 turn found_file halt is.1 in subst (λ (t : StageResult A). AfterStage t Of s) same is.2;
-    right = λ Right may files s of_file is. then_right Right may is.0 s (read.right Right may files is.0 of_file is.1) is.2;
+    allowed = λ Right may files s of_file is. then_right Right may is.0 s (read.allowed Right may files is.0 of_file is.1) is.2;
   }

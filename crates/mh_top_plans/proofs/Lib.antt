@@ -3,3 +3,4 @@ pub mod FilesOfMode
 pub mod MessagesFileLines
 pub mod OpenedAndRan
 pub mod AreMessagesOfBoth
+pub mod LooseFiles

@@ -1,4 +1,4 @@
--- Lemmas on messages files: their content and their messages exist, are unique, and stop only with a refusal.
+-- Lemmas on messages files: reading and checking a file has exactly one result, which is a value or a refusal.
 use Rattle.std.proofs.Common.{◌≡◌, inl, inr, ◌≤◌, List, [], ◌∷◌, length, Option, None, Some, Err, refl, sym, ◌∙◌, ap, subst, arith}
 use Rattle.mh_grammar.specs.declared.types.Grammar.{Grammar}
 use Rattle.mh_grammar.specs.Plain.{PlainGrammar, plain_of}
@@ -37,19 +37,19 @@ use Rattle.mh_top_plans.proofs.FilesOfMode.{ContentFacts, StopsAllowed, file_onc
 module _ (g : Grammar) where
   spelled_once : (name bytes : Text) → IsOne (IsMessagesFile g name bytes)
   spelled_once name bytes (Go a) (Go b) p q = ap Go (spelled.spelled_once g bytes a b p q)
-  spelled_once name bytes (Go a) (Halt cause) p q = absurd (spelled.spelled_has_no_fault g bytes a q.fault p q.has)
-  spelled_once name bytes (Halt cause) (Go b) p q = absurd (spelled.spelled_has_no_fault g bytes b p.fault q p.has)
-  spelled_once name bytes (Halt cause) (Halt cause') p q = ap Halt (p.cause_is ∙ ap (λ (f : FileFault). Refused (file_line name f)) (spelled.fault_once g bytes p.fault q.fault p.has q.has) ∙ sym q.cause_is)
+  spelled_once name bytes (Go a) (Halt cause) p q = absurd (spelled.spelled_has_no_fault g bytes a q.fault p q.has_fault)
+  spelled_once name bytes (Halt cause) (Go b) p q = absurd (spelled.spelled_has_no_fault g bytes b p.fault q p.has_fault)
+  spelled_once name bytes (Halt cause) (Halt cause') p q = ap Halt (p.cause_is ∙ ap (λ (f : FileFault). Refused (file_line name f)) (spelled.fault_once g bytes p.fault q.fault p.has_fault q.has_fault) ∙ sym q.cause_is)
 
   spelled_right : (Right : Cause → Type 0) → ((line : Text) → Right (Refused line)) → (name bytes : Text) (s : StageResult MsgFile) → IsMessagesFile g name bytes s → StopsAllowed Right s
   spelled_right Right may name bytes (Go file) is = tt
   spelled_right Right may name bytes (Halt cause) is = subst Right (sym is.cause_is) (may (file_line name is.fault))
 
-  pub spelling : ContentFacts (IsMessagesFile g)
-  spelling = record { once = spelled_once; right = spelled_right }
+  pub messages_file_facts : ContentFacts (IsMessagesFile g)
+  messages_file_facts = record { unique = spelled_once; allowed = spelled_right }
 
   pub some_spelled : (name bytes : Text) → (s : StageResult MsgFile) × IsMessagesFile g name bytes s
-  some_spelled name bytes = elim (spelled.spelled_or_not g bytes) [ inl is ↦ (Go is.0, is.1) | inr f ↦ (Halt (Refused (file_line name f.0)), record { fault = f.0; has = f.1; cause_is = refl }) ]
+  some_spelled name bytes = elim (spelled.spelled_or_not g bytes) [ inl is ↦ (Go is.0, is.1) | inr f ↦ (Halt (Refused (file_line name f.0)), record { fault = f.0; has_fault = f.1; cause_is = refl }) ]
 
 -- ---- The numbers in a messages file are those of the table.
 
@@ -83,10 +83,10 @@ on_right t Right may name (Go file) s right on = of_file_right t Right may name 
 on_right t Right may name (Halt cause) s right on = subst (StopsAllowed Right) (sym on) right
 
 module _ (g : Grammar) (t : TableData) where
-  pub checking : ContentFacts (AreMessages g t)
-  checking = record {
-    once = λ name bytes. then_once (IsMessagesFile g name bytes) (AreMessagesOf t name) (spelled_once g name bytes) (of_file_once t name);
-    right = λ Right may name bytes s is. on_right t Right may name is.0 s (spelled_right g Right may name bytes is.0 is.1) is.2;
+  pub messages_facts : ContentFacts (AreMessages g t)
+  messages_facts = record {
+    unique = λ name bytes. then_once (IsMessagesFile g name bytes) (AreMessagesOf t name) (spelled_once g name bytes) (of_file_once t name);
+    allowed = λ Right may name bytes s is. on_right t Right may name is.0 s (spelled_right g Right may name bytes is.0 is.1) is.2;
   }
 
   module _ (halts : HaltingFacts t) (same : t.grammar ≡ plain_of g) where
@@ -108,7 +108,7 @@ module _ (p : Prepared) where
   Stage = AreMessages p.grammar p.tabled.halting
 
   reading : ContentFacts Stage
-  reading = checking p.grammar p.tabled.halting
+  reading = messages_facts p.grammar p.tabled.halting
 
   some_named : (files : Option Files) (name : Text) (first : StageResult Messages) → IsFileContent files Stage name first → (s : StageResult (Option Messages)) × AreOptionalMessages (Some name) files p s
   some_named files name (Go messages) is = (Go (Some messages), (Go messages, is, refl))
@@ -122,9 +122,9 @@ module _ (p : Prepared) where
   messages_for_once None files = λ s r is so. is ∙ sym so
   messages_for_once (Some name) files = then_once (IsFileContent (Some files) Stage name) (λ messages. Gives (Some messages)) (file_once Stage reading files name) (λ messages s r is so. is ∙ sym so)
 
-  pub for_unread_halts : (optional_file : Option Text) (files : Files) (name : Text) (what : FileFound) (cause : Cause) (s : StageResult (Option Messages)) → optional_file ≡ Some name → IsFound (Some files) name what → loaded name what ≡ Halt cause → AreOptionalMessages optional_file (Some files) p s → s ≡ Halt cause
-  for_unread_halts None files name what cause s turn found halt is = absurd (cc)
-  for_unread_halts (Some other) files name what cause s turn found halt is =
+  pub messages_halt_if_unread : (optional_file : Option Text) (files : Files) (name : Text) (what : FileFound) (cause : Cause) (s : StageResult (Option Messages)) → optional_file ≡ Some name → IsFound (Some files) name what → loaded name what ≡ Halt cause → AreOptionalMessages optional_file (Some files) p s → s ≡ Halt cause
+  messages_halt_if_unread None files name what cause s turn found halt is = absurd (cc)
+  messages_halt_if_unread (Some other) files name what cause s turn found halt is =
       let same : name ≡ other = cc in
       let first : is.0 ≡ Halt cause =
       unread_halts Stage reading files other what cause is.0 (subst (λ (n : Text). IsFound (Some files) n what) same found) (subst (λ (n : Text). loaded n what ≡ Halt cause) same halt) is.1 in
@@ -135,9 +135,9 @@ module _ (p : Prepared) where
     named_right (Go messages) s right on = subst (StopsAllowed Right) (sym on) tt
     named_right (Halt cause) s right on = subst (StopsAllowed Right) (sym on) right
 
-    pub messages_for_right : (optional_file : Option Text) (files : Option Files) (s : StageResult (Option Messages)) → ((name : Text) (what : FileFound) (cause : Cause) → optional_file ≡ Some name → IsFound files name what → loaded name what ≡ Halt cause → Right cause) → AreOptionalMessages optional_file files p s → StopsAllowed Right s
-    messages_for_right None files s unread is = subst (StopsAllowed Right) (sym is) tt
-    messages_for_right (Some name) files s unread is = named_right is.0 s (file_right Stage reading Right may_refuse files name is.0 (λ what cause found halt. unread name what cause refl found halt) is.1) is.2
+    pub messages_stop_allowed : (optional_file : Option Text) (files : Option Files) (s : StageResult (Option Messages)) → ((name : Text) (what : FileFound) (cause : Cause) → optional_file ≡ Some name → IsFound files name what → loaded name what ≡ Halt cause → Right cause) → AreOptionalMessages optional_file files p s → StopsAllowed Right s
+    messages_stop_allowed None files s unread is = subst (StopsAllowed Right) (sym is) tt
+    messages_stop_allowed (Some name) files s unread is = named_right is.0 s (file_right Stage reading Right may_refuse files name is.0 (λ what cause found halt. unread name what cause refl found halt) is.1) is.2
 
 -- ---- The next file to read.
 

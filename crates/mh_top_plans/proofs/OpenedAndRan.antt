@@ -25,7 +25,7 @@ use Rattle.mh_top_plans.specs.Plan.{Plan, plan_behavior, IsPlanOfJob, halts, wri
 pub ended_halts : (cause : Cause) (left out : Option Text) → IsCompleteRun plan_behavior (halts cause) left left out out (Some cause)
 ended_halts cause left out = record {
   outcome = record { cause = Some cause; out = []; left = input_left left true [] };
-  yields = record { lines = []; whole = true; asks = (refl, refl); text = []; last = halts cause; answers = (refl, refl); ends = (_, refl, refl, refl); left_is = refl };
+  yields = record { lines = []; complete = true; asks = (refl, refl); text = []; last = halts cause; answers = (refl, refl); ends = (_, refl, refl, refl); left_is = refl };
   cause_is = refl;
   on_out = Appends-nil out;
   left_is = left_still left;

@@ -4,6 +4,7 @@ pub mod Compared
 pub mod Explained
 pub mod MessagesFiles
 pub mod Listing
+pub mod Rebased
 pub mod Sampled
 pub mod Drawn
 pub mod Plan

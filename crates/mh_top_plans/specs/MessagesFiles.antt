@@ -1,9 +1,11 @@
 -- Messages files as stages of the work: a file is read, its content is found, and then it is checked against the table
--- or brought up to date (Menhir manual; the refusals are this project's own).
-use Rattle.std.specs.Prelude.{◌≡◌, List, Option}
+-- or brought up to date (Menhir manual; the refusals, and files for another grammar, are this project's own).
+use Rattle.std.specs.Prelude.{◌≡◌, ℕ, List, Option}
 use Rattle.mh_grammar.specs.declared.types.Grammar.{Grammar}
 use Rattle.mh_tables_core.specs.Table.{TableData}
-use Rattle.mh_msgfile.specs.Messages.{MessagesFault as FileFault, MsgSpells, HasFault}
+use Rattle.mh_msgfile.specs.Messages.{MessagesFault as FileFault, BadShape, MsgSpells, HasFault}
+use Rattle.mh_msgfile.specs.LooseFiles.{LooseSpells, LacksMessage}
+use Rattle.mh_msgfile.specs.declared.loose.LooseFile.{LooseFile}
 use Rattle.mh_msgfile.specs.declared.messages.MsgFile.{MsgFile}
 use Rattle.mh_check.specs.Checks.{SoundnessFault, FirstFault, sentences_of}
 use Rattle.mh_check.specs.Compiling.{IsCompiled}
@@ -22,7 +24,7 @@ use Rattle.mh_top_drive.specs.declared.stop.Cause.TheVariants.{Refused}
 -- The bytes spell no messages file, and the cause has the line for their first fault.
 pub record IsFileFault (g : Grammar) (name bytes : Text) (cause : Cause) : Type 0 where
   pub fault : FileFault
-  pub has : HasFault g bytes fault
+  pub has_fault : HasFault g bytes fault
   pub cause_is : cause ≡ Refused (file_line name fault)
 
 -- The messages file that the bytes of the named file spell, or the refusal of a file that spells none.
@@ -75,3 +77,17 @@ IsUpdatedOf p name file (Halt cause) = IsUpdateFault p.tabled.halting name file 
 -- The stage that reads the named file and brings it up to date.
 abbrev pub IsUpdatedFile : Option Files → Prepared → Text → StageResult Text → Type 0
 IsUpdatedFile files p name s = Then (IsFileContent files (IsMessagesFile p.grammar) name) (IsUpdatedOf p name) s
+
+-- ---- Messages files for another version of the grammar.
+
+-- The last block of the bytes has no message, and the cause has the line that names its first line.
+pub record IsShapeFault (name bytes : Text) (cause : Cause) : Type 0 where
+  pub line : ℕ
+  pub lacks : LacksMessage bytes line
+  pub cause_is : cause ≡ Refused (file_line name (BadShape line))
+
+-- The entries of the bytes of the named file, whose sentence lines are not read; or the refusal of a file without
+-- entries.
+abbrev pub IsLooseFile : Text → Text → StageResult LooseFile → Type 0
+IsLooseFile name bytes (Go file) = LooseSpells bytes file
+IsLooseFile name bytes (Halt cause) = IsShapeFault name bytes cause

@@ -40,7 +40,7 @@ impl<T: Writer + Drop> Mode for WriterMode<T> {
 
     ghost State = { Plan };
 
-    ghost way = { plan_behavior };
+    ghost behavior = { plan_behavior };
 
     ghost Is = { λ s plan. T.is_ready s.writer × (plan ≡ Ends (T.end s.writer)) };
 

@@ -1,10 +1,10 @@
 //! Reads the messages files of the modes from the shelf, and checks them against the table.
 ghost use Rattle.std.specs.Prelude.{◌≡◌, ◌<◌, ◌≤◌, ◌^◌, List, ℕ, length, IfOk};
 ghost use Rattle.mh_grammar.specs.Plain.{plain_of, IsInRange};
-ghost use Rattle.mh_msgfile.specs.Messages.{AreSentencesOf, ReportsFault as TellsFile};
+ghost use Rattle.mh_msgfile.specs.Messages.{AreSentencesOf, ReportsFault as ReportsFileFault};
 ghost use Rattle.mh_check.specs.Compiling.{ReportsCheckFault};
 ghost use Rattle.mh_check.specs.Texts.{file_line, check_line};
-ghost use Rattle.mh_top_plans.specs.MessagesFiles.{AreMessages, AreMessagesOf, IsMessagesFile};
+ghost use Rattle.mh_top_plans.specs.MessagesFiles.{AreMessages, AreMessagesOf, IsLooseFile, IsMessagesFile};
 ghost use Rattle.mh_top_drive.specs.FileContents.{IsFileContent};
 ghost use Rattle.mh_top_types.specs.code.Prepared.{IsConsistent};
 ghost use Rattle.mh_top_drive.specs.code.StageCalls.{FileStageGives, StopsWith, StageShelfCounts, StageGives};
@@ -12,7 +12,7 @@ ghost use Rattle.mh_top_drive.specs.declared.stop.Cause.TheVariants.{Refused as 
 
 use mh_check::{CheckFault, Compiled, check_fault_line, compile, file_fault_line};
 use mh_grammar::{Grammar, Memory, Sequence};
-use mh_msgfile::{MsgFault, MsgFile, read_messages};
+use mh_msgfile::{LooseFault, LooseFile, MsgFault, MsgFile, read_loose, read_messages};
 use mh_outside::Shelf;
 use mh_tables_core::Halting;
 use mh_top_drive::{FileFormat, Stop, read_file, refusal};
@@ -30,7 +30,7 @@ struct MessagesFiles<'a> {
 
 /// The refusal of a file whose bytes spell no messages file.
 fn no_file(alloc: Global, name: &[u8], fault: &MsgFault) -> Stop
-    ensures { TellsFile fault.now (λ found. StopsWith (Refused' (file_line name.now found)) result) }
+    ensures { ReportsFileFault fault.now (λ found. StopsWith (Refused' (file_line name.now found)) result) }
 {
     match file_fault_line(alloc, name, fault) {
         Ok(line) => refusal(Sequence::from_vec(line)),
@@ -117,6 +117,32 @@ impl FileFormat<MsgFile> for MessagesFiles<'_> {
     }
 }
 
+/// The form of messages files for any grammar: their sentence lines are not read.
+#[derive(Drop)]
+struct LooseFiles;
+
+/// The entries of the bytes of the named file, or its refusal.
+fn loose_in(alloc: Global, name: &[u8], bytes: &[u8]) -> Result<LooseFile, Stop>
+    requires { length bytes.now < 2 ^ 31 }
+    ensures { StageGives (IsLooseFile name.now bytes.now) result }
+{
+    match read_loose(alloc, bytes) {
+        Ok(file) => Ok(file),
+        Err(LooseFault::Shape { line }) => Err(no_file(alloc, name, &MsgFault::Shape { line })),
+        Err(LooseFault::Memory) => Err(Stop::OutOfMemory),
+    }
+}
+
+impl FileFormat<LooseFile> for LooseFiles {
+    ghost use Rattle.mh_top_plans.specs.MessagesFiles.{IsLooseFile};
+
+    ghost Spells = { λ s. IsLooseFile };
+
+    fn spell(&self, alloc: Global, name: &[u8], bytes: &[u8]) -> Result<LooseFile, Stop> {
+        loose_in(alloc, name, bytes)
+    }
+}
+
 /// Reads the named messages file, and gives the messages for the states of the table.
 pub fn read_messages_file<F: Shelf, const W: usize>(
     alloc: Global,
@@ -125,11 +151,11 @@ pub fn read_messages_file<F: Shelf, const W: usize>(
     name: &[u8],
 ) -> Result<Compiled, Stop>
     requires few { W ≤ 8 }
-    requires fit { IsConsistent prepared.now }
+    requires consistent { IsConsistent prepared.now }
     requires asked { F.MayAsk shelf.old name.now }
     ensures messages { FileStageGives (IsFileContent (F.files shelf.old) (AreMessages prepared.now.grammar prepared.now.tabled.halting) name.now)
         (λ other. other ≡ name.now) result }
-    ensures may_still { (other : List ℕ) → F.MayAsk shelf.old other → F.MayAsk shelf.new other }
+    ensures may_ask { (other : List ℕ) → F.MayAsk shelf.old other → F.MayAsk shelf.new other }
     ensures counts { StageShelfCounts (F.faults shelf.old) (F.faults shelf.new) result }
     ensures kept { F.files shelf.new ≡ F.files shelf.old }
 {
@@ -148,7 +174,7 @@ pub fn read_spelled_file<F: Shelf, const W: usize>(
     name: &[u8],
 ) -> Result<MsgFile, Stop>
     requires few { W ≤ 8 }
-    requires fit { IsConsistent prepared.now }
+    requires consistent { IsConsistent prepared.now }
     requires asked { F.MayAsk shelf.old name.now }
     ensures spelled { FileStageGives (IsFileContent (F.files shelf.old) (IsMessagesFile prepared.now.grammar) name.now)
         (λ other. other ≡ name.now) result }
@@ -159,5 +185,21 @@ pub fn read_spelled_file<F: Shelf, const W: usize>(
         grammar: &prepared.grammar,
         table: &prepared.tabled.halting,
     };
+    read_file(alloc, shelf, &files, name)
+}
+
+/// Reads the entries of the named messages file, which may be for another version of the grammar.
+pub fn read_loose_file<F: Shelf>(
+    alloc: Global,
+    shelf: &mut F,
+    name: &[u8],
+) -> Result<LooseFile, Stop>
+    requires { F.MayAsk shelf.old name.now }
+    ensures loose { FileStageGives (IsFileContent (F.files shelf.old) IsLooseFile name.now)
+        (λ other. other ≡ name.now) result }
+    ensures counts { StageShelfCounts (F.faults shelf.old) (F.faults shelf.new) result }
+    ensures kept { F.files shelf.new ≡ F.files shelf.old }
+{
+    let files = LooseFiles;
     read_file(alloc, shelf, &files, name)
 }

@@ -29,11 +29,11 @@ fn prepare_from<const W: usize>(
     requires start { 0 < length front.grammar.starts }
     requires limits { IsWithinLimits front.order.job }
     requires costs { HaveCosts front.grammar.tokens }
-    requires apart { AreTokenNamesDistinct front.grammar }
+    requires distinct_names { AreTokenNamesDistinct front.grammar }
     requires numbered { HasNumberedStates source.now }
     ensures prepared { StageGives (IsPreparedFromSource front source.now) result }
     ensures order { IfOk result (λ prepared. prepared.order ≡ front.order) }
-    ensures fit { IfOk result (λ prepared. IsConsistent prepared) }
+    ensures consistent { IfOk result (λ prepared. IsConsistent prepared) }
 {
     match table_of(alloc, source, &front.grammar) {
         Ok(tabled) => Ok(PreparedWith {
@@ -58,13 +58,13 @@ pub fn prepare<F: Shelf, const W: usize>(
     requires start { 0 < length front.grammar.starts }
     requires limits { IsWithinLimits front.order.job }
     requires costs { HaveCosts front.grammar.tokens }
-    requires apart { AreTokenNamesDistinct front.grammar }
+    requires distinct_names { AreTokenNamesDistinct front.grammar }
     requires asked { MayAskForTables front.order (F.MayAsk shelf.old) }
     ensures prepared { FileStageGives (IsPreparedFromFiles (F.files shelf.old) front) (λ name. front.order.tables ≡ Some name) result }
     ensures order { IfOk result (λ prepared. prepared.order ≡ front.order) }
-    ensures fit { IfOk result (λ prepared. IsConsistent prepared) }
+    ensures consistent { IfOk result (λ prepared. IsConsistent prepared) }
     ensures kept { F.files shelf.new ≡ F.files shelf.old }
-    ensures may_still { (other : List ℕ) → F.MayAsk shelf.old other → F.MayAsk shelf.new other }
+    ensures may_ask { (other : List ℕ) → F.MayAsk shelf.old other → F.MayAsk shelf.new other }
     ensures counts { StageShelfCounts (F.faults shelf.old) (F.faults shelf.new) result }
 {
     match source_of(alloc, shelf, &front.order) {

@@ -48,8 +48,8 @@ fn automaton_in<const W: usize>(
     mode: Mode,
 ) -> Result<Automaton<W>, StatesFault>
     requires fits { FitsSets W grammar.now }
-    ensures made { IfOk result (λ automaton. IsAutomatonStage (source_in mode) grammar.now (Go automaton)) }
-    ensures over { result ≡ Err StatesFault.TooManyStates → IsAutomatonStage (source_in mode) grammar.now (Halt (Refused too_many_states_line)) }
+    ensures value { IfOk result (λ automaton. IsAutomatonStage (source_in mode) grammar.now (Go automaton)) }
+    ensures exceeds { result ≡ Err StatesFault.TooManyStates → IsAutomatonStage (source_in mode) grammar.now (Halt (Refused too_many_states_line)) }
     ensures automaton { IfOk result (λ automaton. IsAutomaton (plain_of grammar.now) automaton) }
 {
     match mode {
@@ -104,7 +104,7 @@ fn validated<const W: usize>(
 ) -> Result<Valid<W>, Stop>
     requires fits { FitsSets W grammar.now }
     requires costs { HaveCosts grammar.now.tokens }
-    requires apart { AreTokenNamesDistinct grammar.now }
+    requires distinct_names { AreTokenNamesDistinct grammar.now }
     requires numbered { length raw.now.states < 2 ^ 32 }
     ensures stage { IsValidated name.now raw.now grammar.now result }
     ensures automaton { IfOk result (λ valid. IsAutomaton (plain_of grammar.now) valid.automaton) }
@@ -124,7 +124,7 @@ fn table_in<const W: usize>(
 ) -> Result<TabledAutomaton<W>, Stop>
     requires fits { FitsSets W grammar.now }
     requires costs { HaveCosts grammar.now.tokens }
-    requires apart { AreTokenNamesDistinct grammar.now }
+    requires distinct_names { AreTokenNamesDistinct grammar.now }
     requires numbered { length raw.now.states < 2 ^ 32 }
     ensures stage { StageGives (IsTableStage (File name.now raw.now) grammar.now) result }
     ensures automaton { IfOk result (λ tabled. IsAutomaton (plain_of grammar.now) tabled.automaton) }
@@ -145,7 +145,7 @@ pub(crate) fn table_of<const W: usize>(
 ) -> Result<TabledAutomaton<W>, Stop>
     requires fits { FitsSets W grammar.now }
     requires costs { HaveCosts grammar.now.tokens }
-    requires apart { AreTokenNamesDistinct grammar.now }
+    requires distinct_names { AreTokenNamesDistinct grammar.now }
     requires numbered { HasNumberedStates source.now }
     ensures stage { StageGives (IsTableStage source.now grammar.now) result }
     ensures automaton { IfOk result (λ tabled. IsAutomaton (plain_of grammar.now) tabled.automaton) }

@@ -11,7 +11,7 @@ use Rattle.mh_top_tables.specs.TableFileContent.{HasTableFault, IsTableFile}
 use Rattle.mh_top_tables.specs.TableFileTexts.{table_fault_line}
 
 pub rejected_so : (name bytes : Text) (fault : TabFault) (stop : Stop) → HasTableFault bytes fault → StopsWith (Refused (table_fault_line name fault)) stop → StageGives {A = RawTable} (IsTableFile name bytes) (Err stop)
-rejected_so name bytes fault (Halted cause) has halts = record { fault = fault; has = has; cause_is = halts }
+rejected_so name bytes fault (Halted cause) has halts = record { fault = fault; has_fault = has; cause_is = halts }
 rejected_so name bytes fault OutOfMemory has halts = tt
 rejected_so name bytes fault (ShelfFailed other) has halts = absurd halts
 rejected_so name bytes fault InputFailed has halts = absurd halts

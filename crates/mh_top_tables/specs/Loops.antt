@@ -1,9 +1,10 @@
--- The line on err for a table with a relative run that makes more than 10,000 reductions (the words are this project's
--- own).
+-- The line on err for a table on which a relative run makes more than 10,000 reductions (the words are this project's
+-- own). A relative run makes reductions from a start state alone, or above a state as long as this state is not
+-- removed.
 use Rattle.std.specs.Prelude.{ℕ, List, [], ◌++◌, Option, None, Some, codes, decimal, slice_index_or}
 use Rattle.mh_grammar.specs.Text.{Text}
 
--- The beginning of the line: the state in which a relative run begins, and the state below it if there is one.
+-- The beginning of the line: the state in which the reductions begin, and the state below it if there is one.
 abbrev pub loop_place : Option ℕ → ℕ → Text
 loop_place None s = codes "menhir: loops: state " ++ (decimal s ++ codes " on ")
 loop_place (Some r) s = codes "menhir: loops: state " ++ (decimal s ++ (codes " above state " ++ (decimal r ++ codes " on ")))

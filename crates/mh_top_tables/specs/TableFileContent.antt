@@ -21,7 +21,7 @@ HasTableFault bytes Memory = ⊥
 -- The bytes are no table file, and the cause has the line on err for their fault.
 pub record IsTableFault (name bytes : Text) (cause : Cause) : Type 0 where
   pub fault : TabFault
-  pub has : HasTableFault bytes fault
+  pub has_fault : HasTableFault bytes fault
   pub cause_is : cause ≡ Refused (table_fault_line name fault)
 
 -- The content that the bytes of a table file spell, or the refusal of a file that spells none.

@@ -6,7 +6,7 @@ use Rattle.mh_grammar.specs.Plain.{plain_of}
 use Rattle.mh_items_kernels.specs.KernelTypes.{Automaton}
 use Rattle.mh_canon_states.specs.Canonical.{IsCanonical, CanonicalExceeds}
 use Rattle.mh_pager_steps.specs.MergeSteps.{IsMerged, MergingExceeds}
-use Rattle.mh_canon_states.specs.declared.limits.TheConstants.{MAX_STATES}
+use Rattle.mh_canon_states.specs.Limits.{max_states}
 use Rattle.mh_resolve_cells.specs.declared.kinds.Mode.{Mode}
 use Rattle.mh_resolve_cells.specs.declared.kinds.Mode.TheVariants as modes
 use Rattle.mh_tables_core.specs.declared.parts.StateParts.{StateParts}
@@ -30,10 +30,10 @@ mode_of (File name raw) = raw.mode
 
 -- The automaton from the given source, or the refusal: there are too many states, or the table file is not valid.
 abbrev pub IsAutomatonStage : AutomatonSource → Grammar → StageResult Automaton → Type 0
-IsAutomatonStage Merged g (Go a) = (MergingExceeds (plain_of g) MAX_STATES → ⊥) × IsMerged (plain_of g) a
-IsAutomatonStage Merged g (Halt cause) = MergingExceeds (plain_of g) MAX_STATES × (cause ≡ Refused too_many_states)
-IsAutomatonStage Canonical g (Go a) = (CanonicalExceeds (plain_of g) MAX_STATES → ⊥) × IsCanonical (plain_of g) a
-IsAutomatonStage Canonical g (Halt cause) = CanonicalExceeds (plain_of g) MAX_STATES × (cause ≡ Refused too_many_states)
+IsAutomatonStage Merged g (Go a) = (MergingExceeds (plain_of g) max_states → ⊥) × IsMerged (plain_of g) a
+IsAutomatonStage Merged g (Halt cause) = MergingExceeds (plain_of g) max_states × (cause ≡ Refused too_many_states)
+IsAutomatonStage Canonical g (Go a) = (CanonicalExceeds (plain_of g) max_states → ⊥) × IsCanonical (plain_of g) a
+IsAutomatonStage Canonical g (Halt cause) = CanonicalExceeds (plain_of g) max_states × (cause ≡ Refused too_many_states)
 IsAutomatonStage (File name raw) g (Go a) = (parts : List StateParts) × IsValidFor g raw a parts
 IsAutomatonStage (File name raw) g (Halt cause) = IsInvalidTableFile name g raw cause
 

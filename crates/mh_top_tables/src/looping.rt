@@ -1,4 +1,5 @@
-//! The refusal of a table with a relative run that makes more than 10,000 reductions.
+//! The refusal of a table on which a relative run makes more than 10,000 reductions. A relative run makes reductions
+//! from a start state alone, or above a state as long as this state is not removed.
 ghost use Rattle.std.specs.Prelude.{◌≡◌, ◌<◌, length, IfOk, string_bytes, MatchOption, ⊤};
 ghost use Rattle.mh_top_drive.specs.code.StageCalls.{StopsWith};
 ghost use Rattle.mh_top_drive.specs.declared.stop.Cause.TheVariants.{Refused};
@@ -20,7 +21,7 @@ fn look_name(grammar: &Grammar, token: Option<Token>) -> &[u8]
     }
 }
 
-/// The beginning of the line: the state in which a relative run begins, and the state below it if there is one.
+/// The beginning of the error message: the state in which the reductions begin, and the state below it if there is one.
 fn place_of(alloc: Global, below: Option<u32>, state: u32) -> Result<String, AllocError>
     ensures { IfOk result (λ text. string_bytes text ≡ loop_place below state) }
 {
@@ -30,8 +31,8 @@ fn place_of(alloc: Global, below: Option<u32>, state: u32) -> Result<String, All
     }
 }
 
-/// The refusal of a table with a relative run that makes more than 10,000 reductions, with the state in which the run
-/// begins, the state below it if there is one, and the next token if there is one.
+/// Refuses a table on which a relative run makes more than 10,000 reductions. The message names the state in which the
+/// run begins, the state below it if there is one, and the next token if there is one.
 pub(crate) fn loops(
     alloc: Global,
     grammar: &Grammar,

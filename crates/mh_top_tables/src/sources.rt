@@ -42,7 +42,7 @@ fn file_source<F: Shelf>(alloc: Global, shelf: &mut F, name: &[u8]) -> Result<Au
     ensures source { (canonical : Bool) → FileStageGives (IsAutomatonSourceBy (Some name.now) canonical (F.files shelf.old)) (λ other. other ≡ name.now) result }
     ensures numbered { IfOk result HasNumberedStates }
     ensures kept { F.files shelf.new ≡ F.files shelf.old }
-    ensures may_still { (other : List ℕ) → F.MayAsk shelf.old other → F.MayAsk shelf.new other }
+    ensures may_ask { (other : List ℕ) → F.MayAsk shelf.old other → F.MayAsk shelf.new other }
     ensures counts { StageShelfCounts (F.faults shelf.old) (F.faults shelf.new) result }
 {
     match read_file(alloc, shelf, &TableFiles, name) {
@@ -64,7 +64,7 @@ pub fn source_of<F: Shelf>(
     ensures source { FileStageGives (IsAutomatonSource (F.files shelf.old) order.now) (λ name. order.now.tables ≡ Some name) result }
     ensures numbered { IfOk result HasNumberedStates }
     ensures kept { F.files shelf.new ≡ F.files shelf.old }
-    ensures may_still { (other : List ℕ) → F.MayAsk shelf.old other → F.MayAsk shelf.new other }
+    ensures may_ask { (other : List ℕ) → F.MayAsk shelf.old other → F.MayAsk shelf.new other }
     ensures counts { StageShelfCounts (F.faults shelf.old) (F.faults shelf.new) result }
 {
     match &order.tables {

@@ -18,8 +18,8 @@ abbrev mutual
 abbrev pub all_nodes : List SyntaxTree → ℕ
 all_nodes trees = forest_nodes (forest_of trees)
 
-abbrev pub all_heights : List SyntaxTree → ℕ
-all_heights trees = forest_height (forest_of trees)
+abbrev pub greatest_height : List SyntaxTree → ℕ
+greatest_height trees = forest_height (forest_of trees)
 
 nodes_append : (a b : List SyntaxTree) → all_nodes (a ++ b) ≡ all_nodes a + all_nodes b
 nodes_append [] b = omega arith
@@ -30,7 +30,7 @@ nodes_positive (Leaf z) = omega arith
 nodes_positive (Node p kids) = omega arith
 
 -- The heights and the number of nodes after the last tree is removed from the list.
-pub popped_heights : (old new : List SyntaxTree) (tree : SyntaxTree) → old ≡ new ++ tree ∷ [] → (all_heights new ≤ all_heights old) × (height_of tree ≤ all_heights old)
+pub popped_heights : (old new : List SyntaxTree) (tree : SyntaxTree) → old ≡ new ++ tree ∷ [] → (greatest_height new ≤ greatest_height old) × (height_of tree ≤ greatest_height old)
 popped_heights old new tree e = let h = heights_append new (tree ∷ []) in rw e (omega arith, omega arith)
 
 popped_nodes : (old new : List SyntaxTree) (tree : SyntaxTree) → old ≡ new ++ tree ∷ [] → all_nodes old ≡ all_nodes new + nodes tree
@@ -45,16 +45,16 @@ joined_nodes : (b : Bool) (new kids after : List SyntaxTree) → after ≡ cond 
 joined_nodes true new kids after e = let h = nodes_append new kids in rw e (omega arith)
 joined_nodes false new kids after e = rw e (omega arith)
 
-joined_heights : (b : Bool) (new kids after : List SyntaxTree) → after ≡ cond b (new ++ kids) new → all_heights after ≤ max (all_heights new) (all_heights kids)
+joined_heights : (b : Bool) (new kids after : List SyntaxTree) → after ≡ cond b (new ++ kids) new → greatest_height after ≤ max (greatest_height new) (greatest_height kids)
 joined_heights true new kids after e = let h = heights_append new kids in rw e (omega arith)
 joined_heights false new kids after e = rw e (omega arith)
 
-pub kids_lower : (old new kids : List SyntaxTree) (tree : SyntaxTree) (p : ℕ) → old ≡ new ++ tree ∷ [] → tree ≡ Node p (forest_of kids) → all_heights kids < all_heights old
+pub kids_lower : (old new kids : List SyntaxTree) (tree : SyntaxTree) (p : ℕ) → old ≡ new ++ tree ∷ [] → tree ≡ Node p (forest_of kids) → greatest_height kids < greatest_height old
 kids_lower old new kids tree p e is =
     let h = popped_heights old new tree e in
-    let low : height_of (Node p (forest_of kids)) ≤ all_heights old = rw is at h.1 in omega arith
+    let low : height_of (Node p (forest_of kids)) ≤ greatest_height old = rw is at h.1 in omega arith
 
-pub joined_lower : (b : Bool) (old new kids after : List SyntaxTree) (tree : SyntaxTree) (p : ℕ) → old ≡ new ++ tree ∷ [] → tree ≡ Node p (forest_of kids) → after ≡ cond b (new ++ kids) new → all_heights after ≤ all_heights old
+pub joined_lower : (b : Bool) (old new kids after : List SyntaxTree) (tree : SyntaxTree) (p : ℕ) → old ≡ new ++ tree ∷ [] → tree ≡ Node p (forest_of kids) → after ≡ cond b (new ++ kids) new → greatest_height after ≤ greatest_height old
 joined_lower b old new kids after tree p e is a =
     let h = popped_heights old new tree e in
     let low = h.0 in
@@ -67,11 +67,11 @@ joined_fewer b old new kids after tree p e is a =
     let j = joined_nodes b new kids after a in omega arith
 
 -- The height of the children that are dropped at once.
-pub dropped_low : (b : Bool) (kids after : List SyntaxTree) → after ≡ cond b [] kids → all_heights after ≤ all_heights kids
+pub dropped_low : (b : Bool) (kids after : List SyntaxTree) → after ≡ cond b [] kids → greatest_height after ≤ greatest_height kids
 dropped_low true kids after e = rw e (omega arith)
 dropped_low false kids after e = rw e (omega arith)
 
 -- The measure of a recursion over a list of trees.
-pub most_low : (kids : List SyntaxTree) → most (w_this.weight Tree size-Tree) kids ≤ 2 * (all_heights kids + 1)
-most_low [] = omega arith
-most_low (x ∷ kids) = omega (arith, most_low kids)
+pub recursion_measure_bound : (kids : List SyntaxTree) → most (w_this.weight Tree size-Tree) kids ≤ 2 * (greatest_height kids + 1)
+recursion_measure_bound [] = omega arith
+recursion_measure_bound (x ∷ kids) = omega (arith, recursion_measure_bound kids)

@@ -4,6 +4,7 @@ ghost use Rattle.std.specs.Prelude.{◌<◌, ◌≤◌};
 ghost use Rattle.std.specs.List.{All};
 ghost use Rattle.mh_grammar.specs.Trees.{height_of, forest_height, Leaf, Node, forest_of};
 ghost use Rattle.mh_tree.specs.Shapes.{tree_of};
+ghost use Rattle.mh_grammar.specs.Limits.{max_height};
 
 use mh_grammar::{MAX_HEIGHT, Memory, Token};
 use std::alloc::Global;
@@ -35,12 +36,12 @@ impl Model for Tree {
 
     ghost coded = { tree_code };
 
-    ghost use Rattle.mh_grammar.specs.declared.types.TheConstants.{MAX_HEIGHT};
+    ghost use Rattle.mh_grammar.specs.Limits.{max_height};
     ghost use Rattle.mh_tree.specs.Shapes.{tree_of};
 
     ghost view = { λ t. tree_of t.shape.value };
 
-    ghost invariant = { λ t. (t.height ≡ height_of (tree_of t.shape.value)) × (t.height ≤ MAX_HEIGHT) };
+    ghost invariant = { λ t. (t.height ≡ height_of (tree_of t.shape.value)) × (t.height ≤ max_height) };
 
     ghost size = { height_of };
 
@@ -95,7 +96,7 @@ impl Tree {
     /// most `MAX_HEIGHT`.
     pub fn height(&self) -> u32
         ensures value { result ≡ height_of self.now }
-        ensures bound { result ≤ MAX_HEIGHT }
+        ensures bound { result ≤ max_height }
     {
         self.height
     }
@@ -123,7 +124,7 @@ pub fn leaf(alloc: Global, token: Token) -> Result<Tree, Memory>
 
 /// Whether these trees may become children of a node: none of them has the height `MAX_HEIGHT`.
 pub fn can_be_children(trees: &[Tree]) -> bool
-    ensures { IsTrue result ↔ All (λ t. height_of t < MAX_HEIGHT) trees.now }
+    ensures { IsTrue result ↔ All (λ t. height_of t < max_height) trees.now }
 {
     trees.iter().all(|tree| tree.height() < MAX_HEIGHT)
 }
@@ -131,7 +132,7 @@ pub fn can_be_children(trees: &[Tree]) -> bool
 /// The tree of a production with these children, one higher than the highest of them. Fails only if memory runs out;
 /// then the children are dropped.
 pub fn node(alloc: Global, production: u32, children: Vec<Tree>) -> Result<Tree, Memory>
-    requires { All (λ t. height_of t < MAX_HEIGHT) children.items }
+    requires { All (λ t. height_of t < max_height) children.items }
     ensures { IfOk result (λ t. t ≡ Node production (forest_of children.items)) }
 {
     let height = highest(children.as_slice()) + 1;
@@ -143,9 +144,9 @@ pub fn node(alloc: Global, production: u32, children: Vec<Tree>) -> Result<Tree,
 
 /// The height of the highest tree, or 0 if there are no trees.
 fn highest(trees: &[Tree]) -> u32
-    requires { All (λ t. height_of t < MAX_HEIGHT) trees.now }
+    requires { All (λ t. height_of t < max_height) trees.now }
     ensures value { result ≡ forest_height (forest_of trees.now) }
-    ensures bound { result < MAX_HEIGHT }
+    ensures bound { result < max_height }
 {
     let mut highest = 0u32;
     for tree in trees {

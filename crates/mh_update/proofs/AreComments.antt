@@ -22,8 +22,8 @@ next_taken : (done xs : List MsgSentence) (i : ℕ) (x : MsgSentence) → i < le
 next_taken done xs i x lt is = append_assoc done (take i xs) (x ∷ []) ∙ ap (λ (l : List MsgSentence). done ++ l) (sym (take_step xs i x lt is))
 
 -- The sentences are those up to index i and those after it.
-pub put_split : (done xs : List MsgSentence) (i : ℕ) (x : MsgSentence) → i < length xs → x ≡ get_or xs i x → ((done ++ take i xs) ++ x ∷ []) ++ drop (i + 1) xs ≡ done ++ xs
-put_split done xs i x lt is =
+pub sentences_split : (done xs : List MsgSentence) (i : ℕ) (x : MsgSentence) → i < length xs → x ≡ get_or xs i x → ((done ++ take i xs) ++ x ∷ []) ++ drop (i + 1) xs ≡ done ++ xs
+sentences_split done xs i x lt is =
     ap (λ (l : List MsgSentence). l ++ drop (i + 1) xs) (next_taken done xs i x lt is) ∙ append_assoc done (take (i + 1) xs) (drop (i + 1) xs) ∙ ap (λ (l : List MsgSentence). done ++ l) (take-append-drop (i + 1) xs)
 
 abbrev pub of_entries : List Entry → List MsgSentence

@@ -37,7 +37,7 @@ use Rattle.mh_update.proofs.LineWalk.{IsGeneratedLine}
 
 -- ---- Texts without LF and CR.
 
-in_both : (x y : Text) → HasNoLineEnd x → HasNoLineEnd y → HasNoLineEnd (x ++ y)
+pub in_both : (x y : Text) → HasNoLineEnd x → HasNoLineEnd y → HasNoLineEnd (x ++ y)
 in_both x y a b = list_all-append is_no_line_end x y ∙ rw a (rw b refl)
 
 inner_of : (b : ℕ) (text : Text) → HasNoLineEnd (b ∷ text) → is_no_line_end b ≡ true
@@ -57,7 +57,7 @@ ends_in_cr_not : (front : Text) → HasNoLineEnd (front ++ 13 ∷ []) → ⊥
 ends_in_cr_not [] is = true≢false (sym is)
 ends_in_cr_not (b ∷ front) is = ends_in_cr_not front (rest_of b (front ++ 13 ∷ []) is)
 
-whole : (line : Text) → HasNoLineEnd line → IsReadUnchanged line
+pub whole : (line : Text) → HasNoLineEnd line → IsReadUnchanged line
 whole line is = (All-from_recursion (λ b. b ≢ 10) line (no_ends line is), ends_in_cr line _ refl (λ front e. ends_in_cr_not front (subst HasNoLineEnd e is)))
 
 -- ---- Texts that consist of generated lines.
@@ -65,23 +65,23 @@ whole line is = (All-from_recursion (λ b. b ≢ 10) line (no_ends line is), end
 pub record IsGeneratedText (text : Text) : Type 0 where
   pub lines : List Text
   pub is : text ≡ with_ends lines
-  pub made : AllByRecursion IsGeneratedLine lines
+  pub are_generated : AllByRecursion IsGeneratedLine lines
 
 IsGeneratedText-append : (x y : Text) → IsGeneratedText x → IsGeneratedText y → IsGeneratedText (x ++ y)
 IsGeneratedText-append x y a b = record {
   lines = a.lines ++ b.lines;
   is = ap (λ (t : Text). t ++ y) a.is ∙ ap (λ (t : Text). with_ends a.lines ++ t) b.is ∙ sym (flat_map-append (λ (line : Text). line ++ 10 ∷ []) a.lines b.lines);
-  made = recursion-append IsGeneratedLine a.lines b.lines a.made b.made;
+  are_generated = recursion-append IsGeneratedLine a.lines b.lines a.are_generated b.are_generated;
 }
 
 IsGeneratedText-empty : IsGeneratedText []
-IsGeneratedText-empty = record { lines = []; is = refl; made = tt }
+IsGeneratedText-empty = record { lines = []; is = refl; are_generated = tt }
 
 IsGeneratedText-line : (line : Text) → is_generated line ≡ true → HasNoLineEnd line → IsGeneratedText (line ++ 10 ∷ [])
-IsGeneratedText-line line made is = record { lines = line ∷ []; is = sym (append-nil (line ++ 10 ∷ [])); made = ((made, whole line is), tt) }
+IsGeneratedText-line line made is = record { lines = line ∷ []; is = sym (append-nil (line ++ 10 ∷ [])); are_generated = ((made, whole line is), tt) }
 
 IsGeneratedText-equal : (x y : Text) → x ≡ y → IsGeneratedText y → IsGeneratedText x
-IsGeneratedText-equal x y is tale = subst IsGeneratedText (sym is) tale
+IsGeneratedText-equal x y is comment_block = subst IsGeneratedText (sym is) comment_block
 
 -- ---- Numbers.
 

@@ -101,70 +101,73 @@ generated_is_remark line is = ap (λ (b : Bool). kind_by b (list_all is_blank li
 
 -- ---- Walks.
 
--- A walk over the lines of a file from a place on, with the comment lines to insert after each sentence line. Generated
--- lines are dropped; each other line either is no sentence line, or is a sentence line that comment lines follow.
-pub data Walk (v : Vocabulary) (IsTold : Content → Text → Type 0) : LinePlace → List Text → List (List Text) → Type 0 where
-  Ended : (place : LinePlace) → Walk v IsTold place [] []
-  Dropped : (place : LinePlace) (line : Text) (lines : List Text) (tales : List (List Text)) → is_generated line ≡ true → Walk v IsTold place lines tales → Walk v IsTold place (line ∷ lines) tales
-  Silent : (place : LinePlace) (line : Text) (lines : List Text) (tales : List (List Text)) → is_generated line ≡ false → sentence_content (kind_of line) place (sentence_in v line) ≡ None
-      → Walk v IsTold (place_of_next_line (kind_of line) place) lines tales → Walk v IsTold place (line ∷ lines) tales
-  Telling : (place : LinePlace) (line : Text) (lines : List Text) (content : Content) (tale : List Text) (tales : List (List Text)) → is_generated line ≡ false → sentence_content (kind_of line) place (sentence_in v line) ≡ Some content
-      → IsTold content (with_ends tale) → AllByRecursion IsGeneratedLine tale → Walk v IsTold (place_of_next_line (kind_of line) place) lines tales → Walk v IsTold place (line ∷ lines) (tale ∷ tales)
+-- A walk over the lines of a file from a place on. Generated lines are dropped; each other line either is no sentence
+-- line, or is a sentence line that comment lines follow.
+-- `comment_blocks` has, for each sentence line, the comment lines to insert after it.
+-- `IsCommentOf` relates the content of a sentence line to the text of its comment lines.
+pub data Walk (v : Vocabulary) (IsCommentOf : Content → Text → Type 0) : LinePlace → List Text → List (List Text) → Type 0 where
+  Ended : (place : LinePlace) → Walk v IsCommentOf place [] []
+  Dropped : (place : LinePlace) (line : Text) (lines : List Text) (comment_blocks : List (List Text)) → is_generated line ≡ true → Walk v IsCommentOf place lines comment_blocks → Walk v IsCommentOf place (line ∷ lines) comment_blocks
+  Uncommented : (place : LinePlace) (line : Text) (lines : List Text) (comment_blocks : List (List Text)) → is_generated line ≡ false → sentence_content (kind_of line) place (sentence_in v line) ≡ None
+      → Walk v IsCommentOf (place_of_next_line (kind_of line) place) lines comment_blocks → Walk v IsCommentOf place (line ∷ lines) comment_blocks
+  Commented : (place : LinePlace) (line : Text) (lines : List Text) (content : Content) (comment_block : List Text) (comment_blocks : List (List Text)) → is_generated line ≡ false → sentence_content (kind_of line) place (sentence_in v line) ≡ Some content
+      → IsCommentOf content (with_ends comment_block) → AllByRecursion IsGeneratedLine comment_block → Walk v IsCommentOf (place_of_next_line (kind_of line) place) lines comment_blocks → Walk v IsCommentOf place (line ∷ lines) (comment_block ∷ comment_blocks)
 
-module _ (v : Vocabulary) (IsTold : Content → Text → Type 0) where
+module _ (v : Vocabulary) (IsCommentOf : Content → Text → Type 0) where
   -- The lines of the updated file.
-  abbrev pub updated_lines : (place : LinePlace) (lines : List Text) (tales : List (List Text)) → Walk v IsTold place lines tales → List Text
-  updated_lines place lines tales (Ended p) = []
-  updated_lines place lines tales (Dropped p x xs ls made walk) = updated_lines p xs ls walk
-  updated_lines place lines tales (Silent p x xs ls own none walk) = x ∷ updated_lines (place_of_next_line (kind_of x) p) xs ls walk
-  updated_lines place lines tales (Telling p x xs c l ls own some is all walk) = x ∷ (l ++ updated_lines (place_of_next_line (kind_of x) p) xs ls walk)
+  abbrev pub updated_lines : (place : LinePlace) (lines : List Text) (comment_blocks : List (List Text)) → Walk v IsCommentOf place lines comment_blocks → List Text
+  updated_lines place lines comment_blocks (Ended p) = []
+  updated_lines place lines comment_blocks (Dropped p x xs ls made walk) = updated_lines p xs ls walk
+  updated_lines place lines comment_blocks (Uncommented p x xs ls own none walk) = x ∷ updated_lines (place_of_next_line (kind_of x) p) xs ls walk
+  updated_lines place lines comment_blocks (Commented p x xs c l ls own some is all walk) = x ∷ (l ++ updated_lines (place_of_next_line (kind_of x) p) xs ls walk)
 
   -- The text of the updated file.
-  abbrev pub text_of : (place : LinePlace) (lines : List Text) (tales : List (List Text)) → Walk v IsTold place lines tales → Text
-  text_of place lines tales (Ended p) = []
-  text_of place lines tales (Dropped p x xs ls made walk) = text_of p xs ls walk
-  text_of place lines tales (Silent p x xs ls own none walk) = (x ++ 10 ∷ []) ++ text_of (place_of_next_line (kind_of x) p) xs ls walk
-  text_of place lines tales (Telling p x xs c l ls own some is all walk) = (x ++ 10 ∷ []) ++ (with_ends l ++ text_of (place_of_next_line (kind_of x) p) xs ls walk)
+  abbrev pub text_of : (place : LinePlace) (lines : List Text) (comment_blocks : List (List Text)) → Walk v IsCommentOf place lines comment_blocks → Text
+  text_of place lines comment_blocks (Ended p) = []
+  text_of place lines comment_blocks (Dropped p x xs ls made walk) = text_of p xs ls walk
+  text_of place lines comment_blocks (Uncommented p x xs ls own none walk) = (x ++ 10 ∷ []) ++ text_of (place_of_next_line (kind_of x) p) xs ls walk
+  text_of place lines comment_blocks (Commented p x xs c l ls own some is all walk) = (x ++ 10 ∷ []) ++ (with_ends l ++ text_of (place_of_next_line (kind_of x) p) xs ls walk)
 
   -- The comments of the walk, with the numbers of the sentence lines; `before` lines precede the walk.
-  abbrev pub comments_of : (before : ℕ) (place : LinePlace) (lines : List Text) (tales : List (List Text)) → Walk v IsTold place lines tales → List Comment
-  comments_of before place lines tales (Ended p) = []
-  comments_of before place lines tales (Dropped p x xs ls made walk) = comments_of (before + 1) p xs ls walk
-  comments_of before place lines tales (Silent p x xs ls own none walk) = comments_of (before + 1) (place_of_next_line (kind_of x) p) xs ls walk
-  comments_of before place lines tales (Telling p x xs c l ls own some is all walk) = record { line = before + 1; text = with_ends l } ∷ comments_of (before + 1) (place_of_next_line (kind_of x) p) xs ls walk
+  abbrev pub comments_of : (before : ℕ) (place : LinePlace) (lines : List Text) (comment_blocks : List (List Text)) → Walk v IsCommentOf place lines comment_blocks → List Comment
+  comments_of before place lines comment_blocks (Ended p) = []
+  comments_of before place lines comment_blocks (Dropped p x xs ls made walk) = comments_of (before + 1) p xs ls walk
+  comments_of before place lines comment_blocks (Uncommented p x xs ls own none walk) = comments_of (before + 1) (place_of_next_line (kind_of x) p) xs ls walk
+  comments_of before place lines comment_blocks (Commented p x xs c l ls own some is all walk) = record { line = before + 1; text = with_ends l } ∷ comments_of (before + 1) (place_of_next_line (kind_of x) p) xs ls walk
 
-  pub grown_text : (place : LinePlace) (lines : List Text) (tales : List (List Text)) (walk : Walk v IsTold place lines tales) → with_ends (updated_lines place lines tales walk) ≡ text_of place lines tales walk
-  grown_text place lines tales (Ended p) = refl
-  grown_text place lines tales (Dropped p x xs ls made walk) = grown_text p xs ls walk
-  grown_text place lines tales (Silent p x xs ls own none walk) = ap (λ (l : Text). (x ++ 10 ∷ []) ++ l) (grown_text (place_of_next_line (kind_of x) p) xs ls walk)
-  grown_text place lines tales (Telling p x xs c l ls own some is all walk) =
+  -- The text of the updated lines is the text of the walk.
+  pub updated_text : (place : LinePlace) (lines : List Text) (comment_blocks : List (List Text)) (walk : Walk v IsCommentOf place lines comment_blocks) → with_ends (updated_lines place lines comment_blocks walk) ≡ text_of place lines comment_blocks walk
+  updated_text place lines comment_blocks (Ended p) = refl
+  updated_text place lines comment_blocks (Dropped p x xs ls made walk) = updated_text p xs ls walk
+  updated_text place lines comment_blocks (Uncommented p x xs ls own none walk) = ap (λ (l : Text). (x ++ 10 ∷ []) ++ l) (updated_text (place_of_next_line (kind_of x) p) xs ls walk)
+  updated_text place lines comment_blocks (Commented p x xs c l ls own some is all walk) =
       ap (λ (t : Text). (x ++ 10 ∷ []) ++ t)
-      (flat_map-append (λ (line : Text). line ++ 10 ∷ []) l (updated_lines (place_of_next_line (kind_of x) p) xs ls walk) ∙ ap (λ (t : Text). with_ends l ++ t) (grown_text (place_of_next_line (kind_of x) p) xs ls walk))
+      (flat_map-append (λ (line : Text). line ++ 10 ∷ []) l (updated_lines (place_of_next_line (kind_of x) p) xs ls walk) ∙ ap (λ (t : Text). with_ends l ++ t) (updated_text (place_of_next_line (kind_of x) p) xs ls walk))
 
   -- ---- The walk over the updated file.
 
   -- The walk over lines that begin with generated lines, which it drops.
-  abbrev pub dropping_generated : (place : LinePlace) (tale lines : List Text) (tales : List (List Text)) → AllByRecursion IsGeneratedLine tale → Walk v IsTold place lines tales → Walk v IsTold place (tale ++ lines) tales
-  dropping_generated place [] lines tales all walk = walk
-  dropping_generated place (line ∷ tale) lines tales all walk = Dropped place line (tale ++ lines) tales all.0.0 (dropping_generated place tale lines tales all.1 walk)
+  abbrev pub dropping_generated : (place : LinePlace) (comment_block lines : List Text) (comment_blocks : List (List Text)) → AllByRecursion IsGeneratedLine comment_block → Walk v IsCommentOf place lines comment_blocks → Walk v IsCommentOf place (comment_block ++ lines) comment_blocks
+  dropping_generated place [] lines comment_blocks all walk = walk
+  dropping_generated place (line ∷ comment_block) lines comment_blocks all walk = Dropped place line (comment_block ++ lines) comment_blocks all.0.0 (dropping_generated place comment_block lines comment_blocks all.1 walk)
 
-  drops_text : (place : LinePlace) (tale lines : List Text) (tales : List (List Text)) (all : AllByRecursion IsGeneratedLine tale) (walk : Walk v IsTold place lines tales) → text_of place (tale ++ lines) tales (dropping_generated place tale lines tales all walk) ≡ text_of place lines tales walk
-  drops_text place [] lines tales all walk = refl
-  drops_text place (line ∷ tale) lines tales all walk = drops_text place tale lines tales all.1 walk
+  drops_text : (place : LinePlace) (comment_block lines : List Text) (comment_blocks : List (List Text)) (all : AllByRecursion IsGeneratedLine comment_block) (walk : Walk v IsCommentOf place lines comment_blocks) → text_of place (comment_block ++ lines) comment_blocks (dropping_generated place comment_block lines comment_blocks all walk) ≡ text_of place lines comment_blocks walk
+  drops_text place [] lines comment_blocks all walk = refl
+  drops_text place (line ∷ comment_block) lines comment_blocks all walk = drops_text place comment_block lines comment_blocks all.1 walk
 
-  abbrev pub walk_again : (place : LinePlace) (lines : List Text) (tales : List (List Text)) (walk : Walk v IsTold place lines tales) → Walk v IsTold place (updated_lines place lines tales walk) tales
-  walk_again place lines tales (Ended p) = Ended p
-  walk_again place lines tales (Dropped p x xs ls made walk) = walk_again p xs ls walk
-  walk_again place lines tales (Silent p x xs ls own none walk) = Silent p x (updated_lines (place_of_next_line (kind_of x) p) xs ls walk) ls own none (walk_again (place_of_next_line (kind_of x) p) xs ls walk)
-  walk_again place lines tales (Telling p x xs c l ls own some is all walk) =
-      Telling p x (l ++ updated_lines (place_of_next_line (kind_of x) p) xs ls walk) c l ls own some is all (dropping_generated (place_of_next_line (kind_of x) p) l (updated_lines (place_of_next_line (kind_of x) p) xs ls walk) ls all (walk_again (place_of_next_line (kind_of x) p) xs ls walk))
+  abbrev pub walk_again : (place : LinePlace) (lines : List Text) (comment_blocks : List (List Text)) (walk : Walk v IsCommentOf place lines comment_blocks) → Walk v IsCommentOf place (updated_lines place lines comment_blocks walk) comment_blocks
+  walk_again place lines comment_blocks (Ended p) = Ended p
+  walk_again place lines comment_blocks (Dropped p x xs ls made walk) = walk_again p xs ls walk
+  walk_again place lines comment_blocks (Uncommented p x xs ls own none walk) = Uncommented p x (updated_lines (place_of_next_line (kind_of x) p) xs ls walk) ls own none (walk_again (place_of_next_line (kind_of x) p) xs ls walk)
+  walk_again place lines comment_blocks (Commented p x xs c l ls own some is all walk) =
+      Commented p x (l ++ updated_lines (place_of_next_line (kind_of x) p) xs ls walk) c l ls own some is all (dropping_generated (place_of_next_line (kind_of x) p) l (updated_lines (place_of_next_line (kind_of x) p) xs ls walk) ls all (walk_again (place_of_next_line (kind_of x) p) xs ls walk))
 
   -- The walk over the updated lines has the same text.
-  pub again_text : (place : LinePlace) (lines : List Text) (tales : List (List Text)) (walk : Walk v IsTold place lines tales) → text_of place (updated_lines place lines tales walk) tales (walk_again place lines tales walk) ≡ text_of place lines tales walk
-  again_text place lines tales (Ended p) = refl
-  again_text place lines tales (Dropped p x xs ls made walk) = again_text p xs ls walk
-  again_text place lines tales (Silent p x xs ls own none walk) = ap (λ (l : Text). (x ++ 10 ∷ []) ++ l) (again_text (place_of_next_line (kind_of x) p) xs ls walk)
-  again_text place lines tales (Telling p x xs c l ls own some is all walk) =
+  pub again_text : (place : LinePlace) (lines : List Text) (comment_blocks : List (List Text)) (walk : Walk v IsCommentOf place lines comment_blocks) → text_of place (updated_lines place lines comment_blocks walk) comment_blocks (walk_again place lines comment_blocks walk) ≡ text_of place lines comment_blocks walk
+  again_text place lines comment_blocks (Ended p) = refl
+  again_text place lines comment_blocks (Dropped p x xs ls made walk) = again_text p xs ls walk
+  again_text place lines comment_blocks (Uncommented p x xs ls own none walk) = ap (λ (l : Text). (x ++ 10 ∷ []) ++ l) (again_text (place_of_next_line (kind_of x) p) xs ls walk)
+  again_text place lines comment_blocks (Commented p x xs c l ls own some is all walk) =
       ap (λ (t : Text). (x ++ 10 ∷ []) ++ (with_ends l ++ t))
       (drops_text (place_of_next_line (kind_of x) p) l (updated_lines (place_of_next_line (kind_of x) p) xs ls walk) ls all (walk_again (place_of_next_line (kind_of x) p) xs ls walk) ∙ again_text (place_of_next_line (kind_of x) p) xs ls walk)
 
@@ -174,12 +177,13 @@ module _ (v : Vocabulary) (IsTold : Content → Text → Type 0) where
   made_whole [] all = tt
   made_whole (line ∷ lines) all = (all.0.1, made_whole lines all.1)
 
-  pub grown_whole : (place : LinePlace) (lines : List Text) (tales : List (List Text)) (walk : Walk v IsTold place lines tales) → AllByRecursion IsReadUnchanged lines → AllByRecursion IsReadUnchanged (updated_lines place lines tales walk)
-  grown_whole place lines tales (Ended p) all = tt
-  grown_whole place lines tales (Dropped p x xs ls made walk) all = grown_whole p xs ls walk all.1
-  grown_whole place lines tales (Silent p x xs ls own none walk) all = (all.0, grown_whole (place_of_next_line (kind_of x) p) xs ls walk all.1)
-  grown_whole place lines tales (Telling p x xs c l ls own some is made walk) all =
-      (all.0, recursion-append IsReadUnchanged l (updated_lines (place_of_next_line (kind_of x) p) xs ls walk) (made_whole l made) (grown_whole (place_of_next_line (kind_of x) p) xs ls walk all.1))
+  -- If all lines of the file are read unchanged, so are all lines of the updated file.
+  pub updated_lines_read_unchanged : (place : LinePlace) (lines : List Text) (comment_blocks : List (List Text)) (walk : Walk v IsCommentOf place lines comment_blocks) → AllByRecursion IsReadUnchanged lines → AllByRecursion IsReadUnchanged (updated_lines place lines comment_blocks walk)
+  updated_lines_read_unchanged place lines comment_blocks (Ended p) all = tt
+  updated_lines_read_unchanged place lines comment_blocks (Dropped p x xs ls made walk) all = updated_lines_read_unchanged p xs ls walk all.1
+  updated_lines_read_unchanged place lines comment_blocks (Uncommented p x xs ls own none walk) all = (all.0, updated_lines_read_unchanged (place_of_next_line (kind_of x) p) xs ls walk all.1)
+  updated_lines_read_unchanged place lines comment_blocks (Commented p x xs c l ls own some is made walk) all =
+      (all.0, recursion-append IsReadUnchanged l (updated_lines (place_of_next_line (kind_of x) p) xs ls walk) (made_whole l made) (updated_lines_read_unchanged (place_of_next_line (kind_of x) p) xs ls walk all.1))
 
   one_more : (x : Text) (xs ys : List Text) → filter is_kept_text xs ≡ filter is_kept_text ys → filter is_kept_text (x ∷ xs) ≡ filter is_kept_text (x ∷ ys)
   one_more x xs ys same =
@@ -188,17 +192,17 @@ module _ (v : Vocabulary) (IsTold : Content → Text → Type 0) where
   made_out : (x : Text) (xs : List Text) → is_generated x ≡ true → filter is_kept_text (x ∷ xs) ≡ filter is_kept_text xs
   made_out x xs made = filter_on is_kept_text x xs false (ap not (generated_is_ignored x made))
 
-  generated_filtered_out : (tale lines : List Text) → AllByRecursion IsGeneratedLine tale → filter is_kept_text (tale ++ lines) ≡ filter is_kept_text lines
+  generated_filtered_out : (comment_block lines : List Text) → AllByRecursion IsGeneratedLine comment_block → filter is_kept_text (comment_block ++ lines) ≡ filter is_kept_text lines
   generated_filtered_out [] lines all = refl
-  generated_filtered_out (x ∷ tale) lines all = made_out x (tale ++ lines) all.0.0 ∙ generated_filtered_out tale lines all.1
+  generated_filtered_out (x ∷ comment_block) lines all = made_out x (comment_block ++ lines) all.0.0 ∙ generated_filtered_out comment_block lines all.1
 
   -- The lines that are not ignored are the same in the updated file.
-  pub grown_kept : (place : LinePlace) (lines : List Text) (tales : List (List Text)) (walk : Walk v IsTold place lines tales) → filter is_kept_text (updated_lines place lines tales walk) ≡ filter is_kept_text lines
-  grown_kept place lines tales (Ended p) = refl
-  grown_kept place lines tales (Dropped p x xs ls made walk) = grown_kept p xs ls walk ∙ sym (made_out x xs made)
-  grown_kept place lines tales (Silent p x xs ls own none walk) = one_more x (updated_lines (place_of_next_line (kind_of x) p) xs ls walk) xs (grown_kept (place_of_next_line (kind_of x) p) xs ls walk)
-  grown_kept place lines tales (Telling p x xs c l ls own some is made walk) =
-      one_more x (l ++ updated_lines (place_of_next_line (kind_of x) p) xs ls walk) xs (generated_filtered_out l (updated_lines (place_of_next_line (kind_of x) p) xs ls walk) made ∙ grown_kept (place_of_next_line (kind_of x) p) xs ls walk)
+  pub updated_keeps_lines : (place : LinePlace) (lines : List Text) (comment_blocks : List (List Text)) (walk : Walk v IsCommentOf place lines comment_blocks) → filter is_kept_text (updated_lines place lines comment_blocks walk) ≡ filter is_kept_text lines
+  updated_keeps_lines place lines comment_blocks (Ended p) = refl
+  updated_keeps_lines place lines comment_blocks (Dropped p x xs ls made walk) = updated_keeps_lines p xs ls walk ∙ sym (made_out x xs made)
+  updated_keeps_lines place lines comment_blocks (Uncommented p x xs ls own none walk) = one_more x (updated_lines (place_of_next_line (kind_of x) p) xs ls walk) xs (updated_keeps_lines (place_of_next_line (kind_of x) p) xs ls walk)
+  updated_keeps_lines place lines comment_blocks (Commented p x xs c l ls own some is made walk) =
+      one_more x (l ++ updated_lines (place_of_next_line (kind_of x) p) xs ls walk) xs (generated_filtered_out l (updated_lines (place_of_next_line (kind_of x) p) xs ls walk) made ∙ updated_keeps_lines (place_of_next_line (kind_of x) p) xs ls walk)
 
   -- ---- The text of a walk is the one of the definition.
 
@@ -237,18 +241,18 @@ module _ (v : Vocabulary) (IsTold : Content → Text → Type 0) where
         },
       )
 
-  pub text_is : (all : List Text) (written before : ℕ) (waiting : List Text) (place : LinePlace) (lines : List Text) (tales : List (List Text)) (walk : Walk v IsTold place lines tales) → AreUnwritten all written before waiting lines
-      → kept_texts_of waiting ++ text_of place lines tales walk ≡ updated_from written all (comments_of before place lines tales walk)
-  text_is all written before waiting place lines tales (Ended p) w =
+  pub text_is : (all : List Text) (written before : ℕ) (waiting : List Text) (place : LinePlace) (lines : List Text) (comment_blocks : List (List Text)) (walk : Walk v IsCommentOf place lines comment_blocks) → AreUnwritten all written before waiting lines
+      → kept_texts_of waiting ++ text_of place lines comment_blocks walk ≡ updated_from written all (comments_of before place lines comment_blocks walk)
+  text_is all written before waiting place lines comment_blocks (Ended p) w =
       append-nil (kept_texts_of waiting) ∙ ap kept_texts_of (sym (w.rest ∙ append-nil waiting))
-  text_is all written before waiting place lines tales (Dropped p x xs ls made walk) w =
+  text_is all written before waiting place lines comment_blocks (Dropped p x xs ls made walk) w =
       ap (λ (t : Text). t ++ text_of p xs ls walk) (sym (own_push waiting x ∙ ap (λ (t : Text). kept_texts_of waiting ++ t) (own_none x made) ∙ append-nil (kept_texts_of waiting)))
       ∙ text_is all written (before + 1) (waiting ++ x ∷ []) p xs ls walk (waits_more all written before waiting x xs w)
-  text_is all written before waiting place lines tales (Silent p x xs ls own none walk) w =
+  text_is all written before waiting place lines comment_blocks (Uncommented p x xs ls own none walk) w =
       sym (append_assoc (kept_texts_of waiting) (x ++ 10 ∷ []) (text_of (place_of_next_line (kind_of x) p) xs ls walk))
       ∙ ap (λ (t : Text). t ++ text_of (place_of_next_line (kind_of x) p) xs ls walk) (sym (own_push waiting x ∙ ap (λ (t : Text). kept_texts_of waiting ++ t) (own_some x own)))
       ∙ text_is all written (before + 1) (waiting ++ x ∷ []) (place_of_next_line (kind_of x) p) xs ls walk (waits_more all written before waiting x xs w)
-  text_is all written before waiting place lines tales (Telling p x xs c l ls own some is made walk) w =
+  text_is all written before waiting place lines comment_blocks (Commented p x xs c l ls own some is made walk) w =
       let sentence_content = waits_told all written before waiting x xs w in
       let later : text_of (place_of_next_line (kind_of x) p) xs ls walk ≡ updated_from (before + 1) all (comments_of (before + 1) (place_of_next_line (kind_of x) p) xs ls walk) =
       text_is all (before + 1) (before + 1) [] (place_of_next_line (kind_of x) p) xs ls walk sentence_content.1 in

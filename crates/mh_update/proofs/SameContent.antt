@@ -153,8 +153,8 @@ module _ (v : Vocabulary) (old new : List Text) where
 
   -- The new file has no fault if the old one has none, and their entries have the same content.
   pub record HasSameContent : Type 0 where
-    pub right : faults_in v old (blocks old) ≡ [] → faults_in v new (blocks new) ≡ []
+    pub no_faults : faults_in v old (blocks old) ≡ [] → faults_in v new (blocks new) ≡ []
     pub content : map entry_content (entries_in v old (blocks old)) ≡ map entry_content (entries_in v new (blocks new))
 
   pub alike : filter (λ line. not (is_ignored_line line)) old ≡ filter (λ line. not (is_ignored_line line)) new → HasSameContent
-  alike same = let zip = blocks_alike same in record { right = right_alike (blocks old) (blocks new) zip; content = content_alike (blocks old) (blocks new) zip }
+  alike same = let zip = blocks_alike same in record { no_faults = right_alike (blocks old) (blocks new) zip; content = content_alike (blocks old) (blocks new) zip }

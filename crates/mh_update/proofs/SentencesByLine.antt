@@ -33,8 +33,8 @@ odd_on : (block : List ℕ) (rest : List (List ℕ)) → odd (block ∷ rest) �
 odd_on block [] = sym (append-nil block)
 odd_on block (message ∷ rest) = refl
 
--- The numbers of the sentence lines in these blocks of line numbers, if the reader is here: outside an entry, among
--- sentences, before the message, or in the message.
+-- The numbers of the sentence lines in these blocks of line numbers, if the reader begins in this state: outside an
+-- entry, among sentences, before the message, or in the message.
 abbrev read : LinePlace → List (List ℕ) → List ℕ
 read Outside fs = odd (filter has_items fs)
 read Sentences [] = []
@@ -49,7 +49,8 @@ read_blank Sentences fs = refl
 read_blank BeforeMessage fs = refl
 read_blank Message fs = refl
 
--- The number of a nonblank line, if the reader takes the line for a sentence; the reader is here before the line.
+-- The number of a nonblank line, if the reader takes the line for a sentence when it is at this place before the line;
+-- else none.
 abbrev number_at : LinePlace → ℕ → List ℕ
 number_at Outside n = n ∷ []
 number_at Sentences n = n ∷ []
@@ -173,4 +174,4 @@ module _ (lines : List Text) where
 -- The sentences of a whole file.
 pub sentences_are : (g : Grammar) (bytes : Text) (file : MsgFile) → MsgSpells g bytes file → all_sentences file ≡ sentences (vocabulary_of g) Outside 0 file.lines
 sentences_are g bytes file spells =
-    ap (flat_map (λ (e : Entry). e.sentences)) spells.entries ∙ of_entries file.lines (vocabulary_of g) (blocks file.lines) spells.right ∙ all_read file.lines (vocabulary_of g) 0 file.lines refl Outside
+    ap (flat_map (λ (e : Entry). e.sentences)) spells.entries ∙ of_entries file.lines (vocabulary_of g) (blocks file.lines) spells.no_faults ∙ all_read file.lines (vocabulary_of g) 0 file.lines refl Outside

@@ -33,7 +33,7 @@ use Rattle.mh_update_renewed.specs.Updates.{IsComment, AreComments, updated, IsU
 module _ (t : TableData) where
   -- ---- The fault is unique.
 
-  -- A sentence that fails has no fault.
+  -- A sentence that is refused at its last token does not break soundness.
   never : (x : MsgSentence) (f : SoundnessFault) (s : ℕ) → FailsIn t x s → BreaksSoundness t [] x f → ⊥
   never x f s fails (NotRefused how none verdict) = no_refusal_not_rejected how (length x.tokens - 1) s none (one_verdict t x.start x.tokens how (Rejected (length x.tokens - 1) s) verdict fails.verdict)
   never x f s fails (RefusedEarly at r lt verdict) =
@@ -92,7 +92,7 @@ module _ (t : TableData) where
           let n = fails.verdict.0 in
           let reduced = reduced_since t n (initial x.start x.tokens) [] in (
             record { line = x.line; text = comments g (kernel_at a s).items s best.0 reduced },
-            (refl, record { state = s; fails = fails; item = best.0; farthest = best.1; reduced = reduced; traced = record { steps = n; ends = fails.verdict.1; reduced = refl }; is = refl }),
+            (refl, record { state = s; fails = fails; item = best.0; farthest = best.1; reduced = reduced; trace = record { steps = n; ends = fails.verdict.1; reduced = refl }; is = refl }),
           )
 
       abbrev Settled : List MsgSentence → Type 0

@@ -33,7 +33,7 @@ pub fn updated_or_unfit<const W: usize>(
     table: &Halting,
 )
     ensures fault { (xs : List MsgSentence) (a b : SoundnessFault) → FirstUnfit table.now xs a → FirstUnfit table.now xs b → a ≡ b }
-    ensures apart { (file : MsgFile) (text : List ℕ) (fault : SoundnessFault) → IsUpdated grammar.now automaton.now table.now file text → FirstUnfit table.now (sentences_of file) fault → ⊥ }
+    ensures not_both { (file : MsgFile) (text : List ℕ) (fault : SoundnessFault) → IsUpdated grammar.now automaton.now table.now file text → FirstUnfit table.now (sentences_of file) fault → ⊥ }
     ensures either { IsAutomaton (plain_of grammar.now) automaton.now → length table.now.states ≡ length automaton.now.kernels → (file : MsgFile) → AreSentencesOf (length table.now.grammar.starts) table.now.grammar.tokens file → ((text : List ℕ) × IsUpdated grammar.now automaton.now table.now file text) ⊎ ((fault : SoundnessFault) × FirstUnfit table.now (sentences_of file) fault) }
 {
     let _grammar = grammar;

@@ -77,7 +77,7 @@ module _ (g : Grammar) (apart : AreTokenNamesDistinct g) where
   pub looks_all : (names : List (List ℕ)) (i : ℕ) (looks : List Look) (last : Option Look) → length names ≤ i → LooksSoFar g (take i names) looks last → AreLooksOf g names looks
   looks_all names i looks last past h = read-all (look_name g) Below IsLookBefore names looks i past h.read
 
-  -- Items.
+  -- Lemmas on the items of a list that are read.
 
   pub items_never : (raws : List RawItem) (i : ℕ) (raw : RawItem) (old items : List KernelItem) → i < length raws → raw ≡ get_or raws i raw → AreItemsOf g (take i raws) old
       → ((item : KernelItem) → IsItemOf g raw item → ((z : KernelItem) → Contains old z → IsItemBefore z item) → ⊥) → AreItemsOf g raws items → ⊥

@@ -29,7 +29,8 @@ target_of g a s X u m k same known h = record {
       (y, contains_at (kernel_at a u).items i y there, sym w.production ∙ e, sym w.dot ∙ f, w.looks l in_x);
 }
 
--- The converse.
+-- Lemmas on the converse: if an edge of a move may lead to a state with this kernel, the kernel holds the move, item by
+-- item.
 
 module _ (g : PlainGrammar) where
   -- In a rising list, only the first item has the production and dot of the first item.

@@ -7,3 +7,5 @@ pub mod KernelWithin
 pub mod MatchedEdges
 pub mod FirstRows
 mod Outcomes
+pub mod SomeParts
+pub mod ValidOrInvalid

@@ -45,7 +45,7 @@ pub none_named : (g : Grammar) → AreTokenNamesDistinct g → (name : List ℕ)
 none_named g n name other none (Token z) is =
     let c = count g in
     let lt : z < length (token_names g) = (let b = is.below in omega arith) in
-    let found : number_of (token_names g) (token_name g z) ≡ Some z = number_is (token_names g) (token_name g) (token_at g) (λ y x a b. n.apart y x (omega arith) (omega arith)) z lt in
+    let found : number_of (token_names g) (token_name g z) ≡ Some z = number_is (token_names g) (token_name g) (token_at g) (λ y x a b. n.distinct y x (omega arith) (omega arith)) z lt in
     let gone : number_of (token_names g) (token_name g z) ≡ None = ap (number_of (token_names g)) (sym is.named) ∙ none in
     none-some z (sym gone ∙ found)
 none_named g n name other none End is = other is.named

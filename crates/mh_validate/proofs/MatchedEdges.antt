@@ -79,7 +79,7 @@ module _ (g : Grammar) (raw : RawTable) (ks : List Kernel) (s : ℕ) (moves : Li
   symbol_moves X c =
       let b : IsAfterDot P of.closed X = (of.are.exact X).0 c in
       let (a, held) = Holds-core_item P of.closed of.valid b.production b.dot b.place in
-      let moved : Moved P (Holds of.closed) X b.production (suc b.dot) a = items.Moved.moved held (drop_from-slice_get (rhs_of P b.production) b.dot X b.behind) in
+      let moved : Moved P (Holds of.closed) X b.production (suc b.dot) a = items.Moved.moved held (drop_from-slice_get (rhs_of P b.production) b.dot X b.at_dot) in
       record { production = b.production; dot = suc b.dot; look = a; moves = (Moved-same P (Holds of.closed) (Close P (Holds (slice_index_or ks s no_kernel))) X of.same b.production (suc b.dot) a).0 moved }
 
   moves_symbol : (X : Symbol) → HasMove P (without_edges ks) s X → Contains (symbols_of moves) X
@@ -97,7 +97,7 @@ module _ (g : Grammar) (raw : RawTable) (ks : List Kernel) (s : ℕ) (moves : Li
       let order : IsRising IsEdgeBefore (edges_on moves rs) = edges_rise (edges_on moves rs) (subst (IsRising IsSymbolBefore) (sym on) of.are.rising) in
       record {
         spelled = sym e ∙ on_spelled g ks moves rs z;
-        are = record {
+        are_edges = record {
           order = order;
           edge = λ X m. on_symbol (edges_on moves rs) order X (subst (λ xs. Contains xs X) (sym on) (moves_symbol X m));
           target = λ X u f.
@@ -130,18 +130,18 @@ module _ (g : Grammar) (raw : RawTable) (ks : List Kernel) (s : ℕ) (moves : Li
     zip_leads ms es (tail_equal m.symbol e.symbol (symbols_of ms) (edge_symbols es) on) (λ x c. ins x (contains_there m ms x c)) (λ x c. ts x (contains_there e es x c)) kernels,
   )
 
-  pub edges_lead : AreKernels g raw ks → (rs : List RawEdge) → rs ≡ (raw_state raw s).edges → (es : List Edge) → HasEdges g raw ks s es → AllZip (MatchesMove g ks) moves rs
-  edges_lead are rs e es h =
-      let on : symbols_of moves ≡ edge_symbols es = symbols_unique (symbols_of moves) (edge_symbols es) of.are.rising (symbols_rise es h.are.order)
-      (λ X c. let (u, f) = h.are.edge X (symbol_moves X c) in has_symbol es X u f)
-      (λ X c. let (u, f) = on_symbol es h.are.order X c in moves_symbol X (h.are.target X u f).0) in
+  pub edges_match_moves : AreKernels g raw ks → (rs : List RawEdge) → rs ≡ (raw_state raw s).edges → (es : List Edge) → HasEdges g raw ks s es → AllZip (MatchesMove g ks) moves rs
+  edges_match_moves are rs e es h =
+      let on : symbols_of moves ≡ edge_symbols es = symbols_unique (symbols_of moves) (edge_symbols es) of.are.rising (symbols_rise es h.are_edges.order)
+      (λ X c. let (u, f) = h.are_edges.edge X (symbol_moves X c) in has_symbol es X u f)
+      (λ X c. let (u, f) = on_symbol es h.are_edges.order X c in moves_symbol X (h.are_edges.target X u f).0) in
       subst (λ rs. AllZip (MatchesMove g ks) moves rs) (sym (e ∙ h.spelled))
       (zip_leads moves es on (λ m c. c)
-      (λ f c. let (k, at) = at_contains es f c in (h.are.target f.symbol f.target (edge_found es k f h.are.order at)).1)
+      (λ f c. let (k, at) = at_contains es f c in (h.are_edges.target f.symbol f.target (edge_found es k f h.are_edges.order at)).1)
       (λ u lt. (are.each u (let n = are.count in omega (arith, n, lt))).kernel.kernel))
 
   pub found_row : AreKernels g raw ks → (rs : List RawEdge) → rs ≡ (raw_state raw s).edges → (o : Option (List Edge)) → IsRowOf g ks moves rs o → FindsOne (HasEdges g raw ks s) o
-  found_row are rs e None none = λ es h. none (edges_lead are rs e es h)
+  found_row are rs e None none = λ es h. none (edges_match_moves are rs e es h)
   found_row are rs e (Some row) h = let (z, same) = h in subst (HasEdges g raw ks s) (sym same) (edges_right rs e z)
 
 -- The moves of the kernel of a state.

@@ -1,6 +1,6 @@
 -- Lemmas on the result for a file whose header and kernels are right.
-use Rattle.std.proofs.Common.{◌≡◌, ◌⊎◌, ◌<◌, ◌≤◌, ℕ, Bool, true, false, List, [], length, Option, Some, Result, Ok, Err, IfOk, if◌then◌else◌, get_or, refl, sym, ◌∙◌, subst, arith, inl, inr}
-use Rattle.std.specs.Prelude.{slice_index_or}
+use Rattle.std.proofs.Common.{◌≡◌, ◌⊎◌, ◌<◌, ◌≤◌, ℕ, Bool, true, false, List, [], length, Option, Some, Result, Ok, Err, IfOk, if◌then◌else◌, get_or, refl, sym, ◌∙◌, subst, arith, inl, inr, true≢false}
+use Rattle.std.specs.Prelude.{slice_index_or, is_ok, IsTrue, ◌↔◌}
 use Rattle.mh_grammar.specs.declared.types.Grammar.{Grammar}
 use Rattle.mh_grammar.specs.declared.types.Symbol.TheVariants.{T}
 use Rattle.mh_grammar.specs.declared.edges.Edge.{Edge}
@@ -17,10 +17,11 @@ use Rattle.mh_tabfile_form.specs.declared.types.RawTable.{RawTable}
 use Rattle.mh_tabfile_form.specs.TableContent.{raw_cells}
 use Rattle.mh_validate_valid.specs.declared.reason.Reason.{Reason}
 use Rattle.mh_validate_valid.specs.declared.reason.Reason.TheVariants as reasons
-use Rattle.mh_validate_valid.specs.Valid.{HasHeader, HasStates, AreKernels, HasEdges, IsResolvedAt, IsRightBefore, HasWrongCells, IsInvalidAt, IsValidFor, has_cell_lines, reason_of, without_edges, raw_state}
+use Rattle.mh_validate_valid.specs.Valid.{HasHeader, HasStates, AreKernels, HasEdges, IsResolvedAt, IsRightBefore, HasWrongCells, AreTokenNamesDistinct, IsInvalidAt, IsValid, IsValidFor, has_cell_lines, reason_of, without_edges, raw_state}
+use Rattle.mh_validate_valid.proofs.ValidFailsNone.{valid_not_invalid}
 use Rattle.mh_validate_valid.proofs.ValidIsAutomaton.{IsNamed}
 use Rattle.mh_validate.specs.declared.fault.ValidFault.{ValidFault}
-use Rattle.mh_validate.specs.declared.fault.ValidFault.TheVariants.{Invalid}
+use Rattle.mh_validate.specs.declared.fault.ValidFault.TheVariants.{Invalid, Memory}
 use Rattle.mh_validate.specs.declared.validation.Valid.{Valid}
 use Rattle.mh_validate.specs.Outcome.{IsFault, IsOutcome, IsValidResult}
 use Rattle.mh_validate.specs.code.FirstKernels.{AreFirstKernels}
@@ -35,7 +36,7 @@ all_rows g raw ks rows h past = let count : length rows ≡ length raw.states = 
 
 -- The edges on tokens are edges on tokens of the grammar.
 pub edges_known : (g : Grammar) (raw : RawTable) (ks : List Kernel) (s : ℕ) (edges : List Edge) → IsInRange (plain_of g) → HasEdges g raw ks s edges → AreEdgesKnown (length g.tokens) edges
-edges_known g raw ks s edges range h z j found = moving_symbol (plain_of g) (without_edges ks) range s (T z) (h.are.target (T z) j found).0
+edges_known g raw ks s edges range h z j found = moving_symbol (plain_of g) (without_edges ks) range s (T z) (h.are_edges.target (T z) j found).0
 
 -- A state whose cells are wrong.
 
@@ -52,9 +53,9 @@ module _ (g : Grammar) (raw : RawTable) (header : HasHeader g raw) (states : Has
     header = header;
     states = states;
     kernels = ks;
-    are = are;
+    are_kernels = are;
     known = known;
-    right = λ u lt. (slice_index_or rows u [], slice_index_or parts u no_state, record { has_edges = edges u lt; resolved = resolved u lt; has_cells = told u lt });
+    each_state = λ u lt. (slice_index_or rows u [], slice_index_or parts u no_state, record { has_edges = edges u lt; resolved = resolved u lt; has_cells = told u lt });
   }
 
   pub cell_fault : (s n : ℕ) → s < n → n ≤ length raw.states → ((u : ℕ) → u < n → HasEdges g raw ks u (slice_index_or rows u [])) → ((u : ℕ) → u < n → IsResolvedAt g raw ks u (slice_index_or rows u []) (slice_index_or parts u no_state))
@@ -64,7 +65,7 @@ module _ (g : Grammar) (raw : RawTable) (header : HasHeader g raw) (states : Has
       let due = raw_cells g (slice_index_or parts s no_state) in
       let found = (raw_state raw s).cells in
       let before = right_before s (omega (arith, lt, within)) (λ u l. edges u (omega (arith, l, lt))) (λ u l. resolved u (omega (arith, l, lt))) told in
-      let wrong : (r : Reason) → r ≡ reason_of due found → HasWrongCells g raw ks s r = λ r e. record { edges = slice_index_or rows s []; parts = slice_index_or parts s no_state; has_edges = edges s lt; resolved = resolved s lt; differ = differ; told = e } in
+      let wrong : (r : Reason) → r ≡ reason_of due found → HasWrongCells g raw ks s r = λ r e. record { edges = slice_index_or rows s []; parts = slice_index_or parts s no_state; has_edges = edges s lt; resolved = resolved s lt; differ = differ; reason_is = e } in
       elim (reason_two (has_cell_lines due) (has_cell_lines found)) [
         | inl e ↦ subst (λ r. IsInvalidAt g raw (Some s) r) (sym e) (before, wrong reasons.Cell (sym e))
         | inr e ↦ subst (λ r. IsInvalidAt g raw (Some s) r) (sym e) (before, wrong reasons.Fallback (sym e))
@@ -87,7 +88,7 @@ valid_by_tests g raw a parts header states are rows resolved told = record {
   kernels = are;
   rows = rows.count;
   count = resolved.count ∙ are.count;
-  right = λ s lt. record { has_edges = rows.each s lt; resolved = resolved_at g raw a parts are resolved s lt; has_cells = told s lt };
+  each_state = λ s lt. record { has_edges = rows.each s lt; resolved = resolved_at g raw a parts are resolved s lt; has_cells = told s lt };
 }
 
 -- Lemmas on one state.
@@ -116,7 +117,7 @@ edges_fault g raw s n e h = subst (λ k. IsInvalidAt g raw (Some k) reasons.Edge
 pub named : (g : Grammar) (raw : RawTable) (a : Automaton) → HasStates g raw → AreKernels g raw a.kernels → AreRows g raw a.kernels a.edges → IsNamed g raw a
 named g raw a states are rows = record { states = states; kernels = are; rows = rows.count; each = rows.each }
 
--- Results.
+-- Lemmas on the results of the calls.
 
 pub outcome_ok : {W : ℕ} (g : Grammar) (raw : RawTable) (r : Result (Valid W) ValidFault) → IsOutcome g raw r → IfOk r (λ (v : Valid W). IsValidResult g raw v)
 outcome_ok g raw (Ok v) h = h
@@ -128,6 +129,12 @@ fault_is f g raw state reason h e = subst (IsFault g raw) e h
 pub outcome_fault : {W : ℕ} (g : Grammar) (raw : RawTable) (r : Result (Valid W) ValidFault) → IsOutcome g raw r → (state : Option ℕ) (reason : Reason) → r ≡ Err (Invalid state reason) → IsInvalidAt g raw state reason
 outcome_fault g raw (Ok v) h state reason e = cc
 outcome_fault g raw (Err fault) h state reason e = fault_is fault g raw state reason h cc
+
+-- Unless memory runs out, the result is Ok exactly if the content is valid.
+pub outcome_exact : {W : ℕ} (g : Grammar) → AreTokenNamesDistinct g → (raw : RawTable) (r : Result (Valid W) ValidFault) → IsOutcome g raw r → (r ≡ Err Memory) ⊎ (IsTrue (is_ok r) ↔ IsValid g raw)
+outcome_exact g distinct raw (Ok v) h = inr ((λ t. (v.automaton, v.table.states, h.valid)), λ is. refl)
+outcome_exact g distinct raw (Err (Invalid state reason)) h = inr ((λ t. absurd (true≢false (sym t))), λ is. absurd (valid_not_invalid g distinct raw state reason is h))
+outcome_exact g distinct raw (Err Memory) h = inl refl
 
 -- State `n` has no kernel.
 pub kernel_fault : (g : Grammar) (raw : RawTable) (ks : List Kernel) (n : ℕ) → HasHeader g raw → HasStates g raw → AreFirstKernels g raw ks → n ≡ length ks → length ks < length raw.states → IsInvalidAt g raw (Some n) reasons.Kernel

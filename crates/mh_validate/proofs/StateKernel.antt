@@ -44,7 +44,7 @@ has_may g raw s k h = record {
   moved = λ high. recursion-from (IsNonStartItem g) k.items (λ i c. record { at_end = recursion_contains (HasOnlyEndIfStart g) k.items h.kernel.at_end i c; moved = recursion_contains (λ (x : KernelItem). 0 < x.dot) k.items (h.kernel.moved high) i c });
 }
 
--- The items that a state may have, by the number of the state.
+-- Lemmas on the items that can be the kernel of a state: for start states and for others.
 
 pub may_start : (g : Grammar) (s : ℕ) (items : List KernelItem) (r : Bool) → s < length g.starts → (IsTrue r ↔ (items ≡ (start_kernel s).items)) → IsTrue r ↔ MayHaveItems g s items
 may_start g s items r low e = (λ t. record { start = λ _. e.0 t; some = λ high. absurd (omega (arith, low, high)); moved = λ high. absurd (omega (arith, low, high)) }, λ m. e.1 (m.start low))

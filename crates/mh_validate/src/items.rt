@@ -49,7 +49,7 @@ fn item_of<const W: usize>(
     raw: &RawItem,
 ) -> Option<KernelItem<W>>
     requires fits { FitsSets W grammar.now }
-    requires apart { AreTokenNamesDistinct grammar.now }
+    requires distinct_names { AreTokenNamesDistinct grammar.now }
     requires lexicon { vocabulary_in lexicon.now ≡ vocabulary_of grammar.now }
     ensures { FindsOne (IsItemOf grammar.now raw.now) result }
 {
@@ -97,7 +97,7 @@ pub(crate) fn items_of<const W: usize>(
     raws: &[RawItem],
 ) -> Result<Option<Sequence<KernelItem<W>>>, Memory>
     requires fits { FitsSets W grammar.now }
-    requires apart { AreTokenNamesDistinct grammar.now }
+    requires distinct_names { AreTokenNamesDistinct grammar.now }
     requires lexicon { vocabulary_in lexicon.now ≡ vocabulary_of grammar.now }
     ensures { IfOk result (FindsOne (AreItemsOf grammar.now raws.now)) }
 {

@@ -54,7 +54,8 @@ fn is_start_item<const W: usize>(item: &KernelItem<W>, start: usize) -> bool
     item.production as usize == start && item.dot == 0 && is_end(&item.looks)
 }
 
-/// Returns true if a state may have these rising items.
+/// Returns true if these items, in rising order, can be the kernel of the state. A start state has its start kernel.
+/// Any other kernel has at least one item, and each of its items has its dot after a symbol.
 fn may_have<const W: usize>(grammar: &Grammar, state: usize, items: &[KernelItem<W>]) -> bool
     requires few { W ≤ 8 }
     ensures { IsTrue result ↔ MayHaveItems grammar.now state items.now }
@@ -66,7 +67,7 @@ fn may_have<const W: usize>(grammar: &Grammar, state: usize, items: &[KernelItem
     }
 }
 
-/// The kernel of a state, if its items are a kernel that it may have.
+/// The kernel of a state, if the items of the file can be its kernel.
 fn kernel_at<const W: usize>(
     alloc: Global,
     grammar: &Grammar,
@@ -75,7 +76,7 @@ fn kernel_at<const W: usize>(
     state: usize,
 ) -> Result<Option<Kernel<W>>, Memory>
     requires fits { FitsSets W grammar.now }
-    requires apart { AreTokenNamesDistinct grammar.now }
+    requires distinct_names { AreTokenNamesDistinct grammar.now }
     requires lexicon { vocabulary_in lexicon.now ≡ vocabulary_of grammar.now }
     requires state { state < length raw.now.states }
     ensures { IfOk result (FindsOne (HasKernel grammar.now raw.now state)) }
@@ -98,7 +99,7 @@ fn fill_kernels<const W: usize>(
     kernels: &mut Vec<Kernel<W>>,
 ) -> Result<(), Memory>
     requires fits { FitsSets W grammar.now }
-    requires apart { AreTokenNamesDistinct grammar.now }
+    requires distinct_names { AreTokenNamesDistinct grammar.now }
     requires lexicon { vocabulary_in lexicon.now ≡ vocabulary_of grammar.now }
     requires fresh { kernels.old.items ≡ [] }
     ensures { OnOk result (AreFirstKernels grammar.now raw.now kernels.new.items) }
@@ -121,7 +122,7 @@ fn find_kernels<const W: usize>(
     kernels: &mut Vec<Kernel<W>>,
 ) -> Result<(), Memory>
     requires fits { FitsSets W grammar.now }
-    requires apart { AreTokenNamesDistinct grammar.now }
+    requires distinct_names { AreTokenNamesDistinct grammar.now }
     requires fresh { kernels.old.items ≡ [] }
     ensures { OnOk result (AreFirstKernels grammar.now raw.now kernels.new.items) }
 {
@@ -139,7 +140,7 @@ pub(crate) fn first_kernels<const W: usize>(
     raw: &RawTable,
 ) -> Result<Vec<Kernel<W>>, Memory>
     requires fits { FitsSets W grammar.now }
-    requires apart { AreTokenNamesDistinct grammar.now }
+    requires distinct_names { AreTokenNamesDistinct grammar.now }
     ensures { IfOk result (λ v. AreFirstKernels grammar.now raw.now v.items) }
 {
     let mut kernels = Vec::with_capacity(alloc, raw.states.len())?;

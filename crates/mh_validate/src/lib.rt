@@ -6,10 +6,12 @@ mod edges;
 mod fault;
 mod items;
 mod kernels;
+mod laws;
 mod looks;
 mod rows;
 mod validation;
 
 pub use fault::ValidFault;
+pub use laws::is_valid_or_invalid;
 pub use mh_validate_valid::Reason;
 pub use validation::{Valid, validate};

@@ -13,7 +13,7 @@ use mh_validate_valid::is_named;
 
 /// The look that a name denotes: `#` is the end of the stream, and any other name is that of a token.
 fn look_of(grammar: &Grammar, lexicon: &Lexicon, name: &Name) -> Option<Look>
-    requires apart { AreTokenNamesDistinct grammar.now }
+    requires distinct_names { AreTokenNamesDistinct grammar.now }
     requires lexicon { vocabulary_in lexicon.now ≡ vocabulary_of grammar.now }
     ensures { FindsOne (IsLookOf grammar.now name.now) result }
 {
@@ -55,7 +55,7 @@ pub(crate) fn looks_of<const W: usize>(
     names: &[Name],
 ) -> Option<TokenSet<W>>
     requires fits { FitsSets W grammar.now }
-    requires apart { AreTokenNamesDistinct grammar.now }
+    requires distinct_names { AreTokenNamesDistinct grammar.now }
     requires lexicon { vocabulary_in lexicon.now ≡ vocabulary_of grammar.now }
     ensures { FindsOne (AreLooksOf grammar.now names.now) result }
 {

@@ -1,5 +1,5 @@
 //! Validates a table file for a grammar.
-ghost use Rattle.std.specs.Prelude.{◌≡◌, ◌<◌, ◌^◌, ℕ, [], Option, Some, Err, length, IfOk, OnOk};
+ghost use Rattle.std.specs.Prelude.{◌≡◌, ◌<◌, ◌^◌, ◌⊎◌, ◌↔◌, ℕ, [], Option, Some, Err, length, IfOk, IsTrue, OnOk, is_ok};
 ghost use Rattle.mh_grammar.specs.Costs.{HaveCosts};
 ghost use Rattle.mh_grammar.specs.Plain.{plain_of};
 ghost use Rattle.mh_items.specs.Fitting.{FitsSets};
@@ -8,7 +8,7 @@ ghost use Rattle.mh_items_kernels.specs.Automaton.{IsAutomaton};
 ghost use Rattle.mh_resolve_cells.specs.States.{IsTableOf};
 ghost use Rattle.mh_resolve_cells.specs.Conflicts.{AreConflicts};
 ghost use Rattle.mh_validate_valid.specs.declared.reason.Reason.{Reason as ReasonOf};
-ghost use Rattle.mh_validate_valid.specs.Valid.{AreKernels, AreTokenNamesDistinct, HasHeader, HasStates, IsInvalidAt, IsValidFor, reason_of, raw_state};
+ghost use Rattle.mh_validate_valid.specs.Valid.{AreKernels, AreTokenNamesDistinct, HasHeader, HasStates, IsInvalidAt, IsValid, IsValidFor, reason_of, raw_state};
 ghost use Rattle.mh_tabfile_form.specs.TableContent.{raw_cells};
 ghost use Rattle.mh_validate.specs.code.FirstRows.{AreFirstRows, AreRows, AreResolvedRows};
 ghost use Rattle.mh_validate.specs.Outcome.{IsFault, IsOutcome};
@@ -218,7 +218,7 @@ fn with_kernels<const W: usize>(
     )
 }
 
-/// The result of `validate`, stated by one clause.
+/// Returns the result unchanged. The contract is that of `validate`, in one clause.
 fn validation_of<const W: usize>(
     alloc: Global,
     grammar: &Grammar,
@@ -226,7 +226,7 @@ fn validation_of<const W: usize>(
 ) -> Result<Valid<W>, ValidFault>
     requires fits { FitsSets W grammar.now }
     requires costs { HaveCosts grammar.now.tokens }
-    requires apart { AreTokenNamesDistinct grammar.now }
+    requires distinct_names { AreTokenNamesDistinct grammar.now }
     requires small { length raw.now.states < 2 ^ 32 }
     ensures { IsOutcome grammar.now raw.now result }
 {
@@ -264,8 +264,9 @@ pub fn validate<const W: usize>(
 ) -> Result<Valid<W>, ValidFault>
     requires fits { FitsSets W grammar.now }
     requires costs { HaveCosts grammar.now.tokens }
-    requires apart { AreTokenNamesDistinct grammar.now }
+    requires distinct_names { AreTokenNamesDistinct grammar.now }
     requires small { length raw.now.states < 2 ^ 32 }
+    ensures exact { (result ≡ Err ValidFault.Memory) ⊎ (IsTrue (is_ok result) ↔ IsValid grammar.now raw.now) }
     ensures valid { IfOk result (λ v. IsValidFor grammar.now raw.now v.automaton v.table.states) }
     ensures automaton { IfOk result (λ v. IsAutomaton (plain_of grammar.now) v.automaton) }
     ensures table { IfOk result (λ v. IsTableOf grammar.now v.automaton raw.now.mode v.table) }

@@ -16,7 +16,7 @@ use Rattle.mh_resolve_cells.specs.Names.{look_name}
 use Rattle.mh_tabfile_form.specs.TableContent.{raw_item}
 
 pub same_look : (g : Grammar) → AreTokenNamesDistinct g → (l m : Look) → IsLookBelow (length g.tokens) l → IsLookBelow (length g.tokens) m → look_name g l ≡ look_name g m → l ≡ m
-same_look g n (Token y) (Token z) h k e = ap Token (n.apart y z h k e)
+same_look g n (Token y) (Token z) h k e = ap Token (n.distinct y z h k e)
 same_look g n (Token y) End h k e = absurd (n.no_end y h e)
 same_look g n End (Token z) h k e = absurd (n.no_end z k (sym e))
 same_look g n End End h k e = refl

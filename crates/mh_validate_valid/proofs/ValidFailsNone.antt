@@ -39,20 +39,20 @@ raw_targets-of_edges g (e ∷ es) = ap (λ ts. e.target ∷ ts) (raw_targets-of_
 -- Two right lists of edges of one state are equal.
 pub same_edges : (g : Grammar) (raw : RawTable) (ks : List Kernel) (s : ℕ) (es fs : List Edge) → HasEdges g raw ks s es → HasEdges g raw ks s fs → es ≡ fs
 same_edges g raw ks s es fs h k =
-    let on : edge_symbols es ≡ edge_symbols fs = same_symbols es fs h.are.order k.are.order (moved es fs h k) (moved fs es k h) in
+    let on : edge_symbols es ≡ edge_symbols fs = same_symbols es fs h.are_edges.order k.are_edges.order (moved es fs h k) (moved fs es k h) in
     let to : targets_of es ≡ targets_of fs = sym (raw_targets-of_edges g es) ∙ ap raw_targets (sym h.spelled ∙ k.spelled) ∙ raw_targets-of_edges g fs in
     rows_same es fs on to
   where
     moved : (xs ys : List Edge) → HasEdges g raw ks s xs → HasEdges g raw ks s ys → (x : Symbol) → Contains (edge_symbols xs) x → Contains (edge_symbols ys) x
     moved xs ys i j x c =
-        let (u, at) = on_symbol xs i.are.order x c in
-        let (m, t) = i.are.target x u at in
-        let (v, there) = j.are.edge x m in
+        let (u, at) = on_symbol xs i.are_edges.order x c in
+        let (m, t) = i.are_edges.target x u at in
+        let (v, there) = j.are_edges.edge x m in
         has_symbol ys x v there
 
 -- The edges and the actions of a state of a valid file.
 pub right_at : (g : Grammar) (n : AreTokenNamesDistinct g) (raw : RawTable) (a : Automaton) (parts : List StateParts) → IsValidFor g raw a parts → (ks : List Kernel) → AreKernels g raw ks → (s : ℕ) → s < length raw.states → IsRightState g raw ks s (slice_index_or a.edges s []) (slice_index_or parts s no_state)
-right_at g n raw a parts v ks are s known = let same = same_kernels g n raw a.kernels ks v.kernels are in rw (← same) (v.right s known)
+right_at g n raw a parts v ks are s known = let same = same_kernels g n raw a.kernels ks v.kernels are in rw (← same) (v.each_state s known)
 
 pub never_wrong : (g : Grammar) (raw : RawTable) (ks : List Kernel) (s : ℕ) (edges : List Edge) (parts : StateParts) (reason : Reason) → IsRightState g raw ks s edges parts → HasWrongCells g raw ks s reason → ⊥
 never_wrong g raw ks s edges parts reason r w =
@@ -71,6 +71,6 @@ valid_not_invalid g n raw None reasons.Fallback v i = i
 valid_not_invalid g n raw (Some s) reasons.Header v i = i
 valid_not_invalid g n raw (Some s) reasons.States v i = i
 valid_not_invalid g n raw (Some s) reasons.Kernel (a, parts, v) i = i.none (slice_index_or a.kernels s no_kernel) (v.kernels.each s i.known)
-valid_not_invalid g n raw (Some s) reasons.Edge (a, parts, v) (h, none) = none (slice_index_or a.edges s []) (right_at g n raw a parts v h.kernels h.are s h.known).has_edges
-valid_not_invalid g n raw (Some s) reasons.Cell (a, parts, v) (h, w) = never_wrong g raw h.kernels s (slice_index_or a.edges s []) (slice_index_or parts s no_state) reasons.Cell (right_at g n raw a parts v h.kernels h.are s h.known) w
-valid_not_invalid g n raw (Some s) reasons.Fallback (a, parts, v) (h, w) = never_wrong g raw h.kernels s (slice_index_or a.edges s []) (slice_index_or parts s no_state) reasons.Fallback (right_at g n raw a parts v h.kernels h.are s h.known) w
+valid_not_invalid g n raw (Some s) reasons.Edge (a, parts, v) (h, none) = none (slice_index_or a.edges s []) (right_at g n raw a parts v h.kernels h.are_kernels s h.known).has_edges
+valid_not_invalid g n raw (Some s) reasons.Cell (a, parts, v) (h, w) = never_wrong g raw h.kernels s (slice_index_or a.edges s []) (slice_index_or parts s no_state) reasons.Cell (right_at g n raw a parts v h.kernels h.are_kernels s h.known) w
+valid_not_invalid g n raw (Some s) reasons.Fallback (a, parts, v) (h, w) = never_wrong g raw h.kernels s (slice_index_or a.edges s []) (slice_index_or parts s no_state) reasons.Fallback (right_at g n raw a parts v h.kernels h.are_kernels s h.known) w

@@ -25,7 +25,7 @@ pub resolved_of : (g : Grammar) (raw : RawTable) (a : Automaton) (parts : List S
 unfolding kernel_at edges_at
 resolved_of g raw a parts v = record {
   count = v.count ∙ sym v.kernels.count;
-  each = λ s h. (v.right s (subst (λ n. s < n) v.kernels.count h)).resolved;
+  each = λ s h. (v.each_state s (subst (λ n. s < n) v.kernels.count h)).resolved;
 }
 
 -- Kernels.
@@ -65,7 +65,7 @@ target_from g a s X u t = record { known = t.known; core = t.core; looks = t.loo
 
 edges_are : (g : Grammar) (raw : RawTable) (a : Automaton) → IsNamed g raw a → (s : ℕ) → s < length a.kernels → AreEdgesAt g a.kernels s (edges_at a s)
 unfolding edges_at
-edges_are g raw a v s h = (v.each s (subst (λ n. s < n) v.kernels.count h)).are
+edges_are g raw a v s h = (v.each s (subst (λ n. s < n) v.kernels.count h)).are_edges
 
 no_edge : (X : Symbol) (u : ℕ) → find_edge [] X ≡ Some u → ⊥
 no_edge X u e = cc
@@ -79,7 +79,7 @@ automaton_named g raw small a v =
     let rows : length a.edges ≡ length a.kernels = v.rows ∙ sym v.kernels.count in
     let at = kernel_is g raw a v in
     record {
-      enough = omega (arith, v.states, v.kernels.count);
+      enough_states = omega (arith, v.states, v.kernels.count);
       few = omega (arith, small, v.kernels.count);
       rows = rows;
       each = λ s h. (at s h).kernel;
@@ -101,4 +101,4 @@ automaton_named g raw small a v =
 
 -- The automaton of a valid file is an automaton of the grammar.
 pub automaton_of : (g : Grammar) (raw : RawTable) → length raw.states < 2 ^ 32 → (a : Automaton) (parts : List StateParts) → IsValidFor g raw a parts → IsAutomaton (plain_of g) a
-automaton_of g raw small a parts v = automaton_named g raw small a (record { states = v.states; kernels = v.kernels; rows = v.rows; each = λ s h. (v.right s h).has_edges })
+automaton_of g raw small a parts v = automaton_named g raw small a (record { states = v.states; kernels = v.kernels; rows = v.rows; each = λ s h. (v.each_state s h).has_edges })

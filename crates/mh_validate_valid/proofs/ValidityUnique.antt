@@ -32,7 +32,7 @@ module _ (g : Grammar) (n : AreTokenNamesDistinct g) (raw : RawTable) where
       let inside : s < length raw.states = (let c = v.rows in omega (arith, c, lt)) in
       let other : s < length b.edges = (let c = w.rows in omega (arith, c, inside)) in
       let one : slice_index_or a.edges s [] ≡ slice_index_or b.edges s [] =
-      same_edges g raw a.kernels s (slice_index_or a.edges s []) (slice_index_or b.edges s []) (v.right s inside).has_edges (right_at g n raw b qs w a.kernels v.kernels s inside).has_edges in
+      same_edges g raw a.kernels s (slice_index_or a.edges s []) (slice_index_or b.edges s []) (v.each_state s inside).has_edges (right_at g n raw b qs w a.kernels v.kernels s inside).has_edges in
       get_or_default a.edges s d [] lt ∙ one ∙ sym (get_or_default b.edges s d [] other)) in
       λ i. record { kernels = kernels i; edges = edges i }
 
@@ -61,16 +61,16 @@ module _ (g : Grammar) (n : AreTokenNamesDistinct g) (raw : RawTable) where
   -- If all tests pass before state `t`, state `s < t` is right.
   earlier : (s t : ℕ) → IsRightBefore g raw t → s < t → (ks : List Kernel) → AreKernels g raw ks → (edges : List Edge) × (parts : StateParts) × IsRightState g raw ks s edges parts
   earlier s t h lt ks are =
-      subst (λ (l : List Kernel). (edges : List Edge) × (parts : StateParts) × IsRightState g raw l s edges parts) (same_kernels g n raw h.kernels ks h.are are) (h.right s lt)
+      subst (λ (l : List Kernel). (edges : List Edge) × (parts : StateParts) × IsRightState g raw l s edges parts) (same_kernels g n raw h.kernels ks h.are_kernels are) (h.each_state s lt)
 
   no_edges_before : (s t : ℕ) (h : IsRightBefore g raw s) → ((edges : List Edge) → HasEdges g raw h.kernels s edges → ⊥) → IsRightBefore g raw t → s < t → ⊥
-  no_edges_before s t h none k lt = let r = earlier s t k lt h.kernels h.are in none r.0 r.2.has_edges
+  no_edges_before s t h none k lt = let r = earlier s t k lt h.kernels h.are_kernels in none r.0 r.2.has_edges
 
   no_cells_before : (s t : ℕ) (reason : Reason) (h : IsRightBefore g raw s) → HasWrongCells g raw h.kernels s reason → IsRightBefore g raw t → s < t → ⊥
-  no_cells_before s t reason h w k lt = let r = earlier s t k lt h.kernels h.are in never_wrong g raw h.kernels s r.0 r.1 reason r.2 w
+  no_cells_before s t reason h w k lt = let r = earlier s t k lt h.kernels h.are_kernels in never_wrong g raw h.kernels s r.0 r.1 reason r.2 w
 
   has_kernel : (s t : ℕ) → s < length raw.states → IsRightBefore g raw t → HasNoKernel g raw s → ⊥
-  has_kernel s t known h none = none.none _ (h.are.each s known)
+  has_kernel s t known h none = none.none _ (h.are_kernels.each s known)
 
   kernel_before : (s t : ℕ) → HasNoKernel g raw s → HasNoKernel g raw t → s < t → ⊥
   kernel_before s t h k lt = h.none (k.before s lt).0 (k.before s lt).1
@@ -82,7 +82,7 @@ module _ (g : Grammar) (n : AreTokenNamesDistinct g) (raw : RawTable) where
     | inr (inl gt) ↦ no_cells_before t s reason k w h gt
     | inr (inr same) ↦ (
         let here : HasEdges g raw k.kernels s w.edges = subst (λ (u : ℕ). HasEdges g raw k.kernels u w.edges) (sym same) w.has_edges in
-        none w.edges (subst (λ (l : List Kernel). HasEdges g raw l s w.edges) (same_kernels g n raw k.kernels h.kernels k.are h.are) here))
+        none w.edges (subst (λ (l : List Kernel). HasEdges g raw l s w.edges) (same_kernels g n raw k.kernels h.kernels k.are_kernels h.are_kernels) here))
   ]
 
   -- The reason that is reported for wrong cells is unique.
@@ -91,7 +91,7 @@ module _ (g : Grammar) (n : AreTokenNamesDistinct g) (raw : RawTable) where
       let edges : w.edges ≡ v.edges = same_edges g raw ks s w.edges v.edges w.has_edges v.has_edges in
       let resolved = rw edges at w.resolved in
       let parts : w.parts ≡ v.parts = resolved_once raw.mode _ _ w.parts v.parts resolved v.resolved in
-      w.told ∙ ap (λ (p : StateParts). reason_of (raw_cells g p) (raw_state raw s).cells) parts ∙ sym v.told
+      w.reason_is ∙ ap (λ (p : StateParts). reason_of (raw_cells g p) (raw_state raw s).cells) parts ∙ sym v.reason_is
 
   cells_one : (s t : ℕ) (r q : Reason) (h : IsRightBefore g raw s) → HasWrongCells g raw h.kernels s r → (k : IsRightBefore g raw t) → HasWrongCells g raw k.kernels t q → (s ≡ t) × (r ≡ q)
   cells_one s t r q h w k v = elim (cases_of s t) [
@@ -99,7 +99,7 @@ module _ (g : Grammar) (n : AreTokenNamesDistinct g) (raw : RawTable) where
     | inr (inl gt) ↦ absurd (no_cells_before t s q k v h gt)
     | inr (inr same) ↦ (
         let here : HasWrongCells g raw k.kernels s q = subst (λ (u : ℕ). HasWrongCells g raw k.kernels u q) (sym same) v in
-        (same, cells_once h.kernels s r q w (subst (λ (l : List Kernel). HasWrongCells g raw l s q) (same_kernels g n raw k.kernels h.kernels k.are h.are) here)))
+        (same, cells_once h.kernels s r q w (subst (λ (l : List Kernel). HasWrongCells g raw l s q) (same_kernels g n raw k.kernels h.kernels k.are_kernels h.are_kernels) here)))
   ]
 
   edges_one : (s t : ℕ) (h : IsRightBefore g raw s) → ((edges : List Edge) → HasEdges g raw h.kernels s edges → ⊥) → (k : IsRightBefore g raw t) → ((edges : List Edge) → HasEdges g raw k.kernels t edges → ⊥) → s ≡ t

@@ -77,12 +77,12 @@ written_is_valid_for g a mode parts h r =
     let at = λ (s : ℕ) (l : s < length (raw_states g a.kernels a.edges parts)). state_at g a.kernels a.edges parts h.rows r.count s (inside s l) in
     record {
       header = record { tokens = refl; costs = refl; starts = refl; productions = refl };
-      states = omega (arith, h.enough, count);
+      states = omega (arith, h.enough_states, count);
       kernels = record { count = sym count; each = λ s l. record { spelled = ap (λ (x : RawState). x.items) (at s l); kernel = kernel_of_state g a h s (inside s l) } };
       rows = h.rows ∙ sym count;
       count = r.count ∙ sym count;
-      right = λ s l. record {
-        has_edges = record { spelled = ap (λ (x : RawState). x.edges) (at s l); are = edges_of_state g a h s (inside s l) };
+      each_state = λ s l. record {
+        has_edges = record { spelled = ap (λ (x : RawState). x.edges) (at s l); are_edges = edges_of_state g a h s (inside s l) };
         resolved = r.each s (inside s l);
         has_cells = ap (λ (x : RawState). x.cells) (at s l);
       };

@@ -89,7 +89,7 @@ pub record AreEdgesAt (g : Grammar) (ks : List Kernel) (s : ℕ) (edges : List E
 
 pub record HasEdges (g : Grammar) (raw : RawTable) (ks : List Kernel) (s : ℕ) (edges : List Edge) : Type 0 where
   pub spelled : (raw_state raw s).edges ≡ map (raw_edge g) edges
-  pub are : AreEdgesAt g ks s edges
+  pub are_edges : AreEdgesAt g ks s edges
 
 -- The actions that conflict resolution gives for state `s`.
 abbrev pub IsResolvedAt : Grammar → RawTable → List Kernel → ℕ → List Edge → StateParts → Type 0
@@ -118,7 +118,7 @@ pub record HasWrongCells (g : Grammar) (raw : RawTable) (ks : List Kernel) (s : 
   pub has_edges : HasEdges g raw ks s edges
   pub resolved : IsResolvedAt g raw ks s edges parts
   pub differ : (raw_state raw s).cells ≡ raw_cells g parts → ⊥
-  pub told : reason ≡ reason_of (raw_cells g parts) (raw_state raw s).cells
+  pub reason_is : reason ≡ reason_of (raw_cells g parts) (raw_state raw s).cells
 
 -- The whole file.
 
@@ -129,7 +129,7 @@ pub record IsValidFor (g : Grammar) (raw : RawTable) (a : Automaton) (parts : Li
   pub kernels : AreKernels g raw a.kernels
   pub rows : length a.edges ≡ length raw.states
   pub count : length parts ≡ length raw.states
-  pub right : (s : ℕ) → s < length raw.states → IsRightState g raw a.kernels s (slice_index_or a.edges s []) (slice_index_or parts s no_state)
+  pub each_state : (s : ℕ) → s < length raw.states → IsRightState g raw a.kernels s (slice_index_or a.edges s []) (slice_index_or parts s no_state)
 
 abbrev pub IsValid : Grammar → RawTable → Type 0
 IsValid g raw = (a : Automaton) × (parts : List StateParts) × IsValidFor g raw a parts
@@ -139,9 +139,9 @@ pub record IsRightBefore (g : Grammar) (raw : RawTable) (s : ℕ) : Type 0 where
   pub header : HasHeader g raw
   pub states : HasStates g raw
   pub kernels : List Kernel
-  pub are : AreKernels g raw kernels
+  pub are_kernels : AreKernels g raw kernels
   pub known : s < length raw.states
-  pub right : (u : ℕ) → u < s → (edges : List Edge) × (parts : StateParts) × IsRightState g raw kernels u edges parts
+  pub each_state : (u : ℕ) → u < s → (edges : List Edge) × (parts : StateParts) × IsRightState g raw kernels u edges parts
 
 -- The first two tests pass, and the third passes for all states before `s`, but state `s` has no kernel.
 pub record HasNoKernel (g : Grammar) (raw : RawTable) (s : ℕ) : Type 0 where
@@ -163,5 +163,5 @@ IsInvalidAt g raw _ _ = ⊥
 
 -- The names of the tokens are pairwise different, and none is `#`, the name of the end of the stream.
 pub record AreTokenNamesDistinct (g : Grammar) : Type 0 where
-  pub apart : (y z : ℕ) → y < length g.tokens → z < length g.tokens → token_name g y ≡ token_name g z → y ≡ z
+  pub distinct : (y z : ℕ) → y < length g.tokens → z < length g.tokens → token_name g y ≡ token_name g z → y ≡ z
   pub no_end : (z : ℕ) → z < length g.tokens → token_name g z ≡ codes "#" → ⊥

@@ -1,11 +1,11 @@
 //! Compares the cells or the default actions of states with the right ones, and names the test that fails.
 ghost use Rattle.std.specs.Prelude.{◌≡◌, ◌<◌, ◌≤◌, ◌↔◌, ◌∷◌, [], ℕ, IsTrue, length, slice_index_or};
-ghost use Rattle.mh_grammar.specs.declared.types.TheConstants.{MAX_NUMBERED};
 ghost use Rattle.mh_tables_core.specs.Table.{no_state};
 ghost use Rattle.mh_tabfile_form.specs.declared.types.RawCells.TheVariants as lines;
 ghost use Rattle.mh_tabfile_form.specs.TableContent.{raw_cell, raw_row, raw_cells};
 ghost use Rattle.mh_validate_valid.specs.Valid.{has_cell_lines, reason_of, raw_state};
 ghost use Rattle.mh_validate_valid.specs.code.FirstCells.{AreFirstCells};
+ghost use Rattle.mh_grammar.specs.Limits.{max_numbered};
 
 use crate::reason::Reason;
 use mh_grammar::{Grammar, Token, token_name};
@@ -28,7 +28,7 @@ fn is_cell(grammar: &Grammar, raw: &RawCell, token: Token, action: Action) -> bo
 
 /// Returns true if the cell lines are exactly those of a row of cells.
 fn are_cells(grammar: &Grammar, raws: &[RawCell], cells: &[Action]) -> bool
-    requires { length cells.now ≤ MAX_NUMBERED }
+    requires { length cells.now ≤ max_numbered }
     ensures { IsTrue result ↔ (raws.now ≡ raw_row grammar.now 0 cells.now) }
 {
     let mut next = 0usize;
@@ -49,7 +49,7 @@ fn are_cells(grammar: &Grammar, raws: &[RawCell], cells: &[Action]) -> bool
 
 /// Returns true if the cells or the default action of a state are those of its parts of the table.
 fn has_parts(grammar: &Grammar, raw: &RawCells, parts: &StateParts) -> bool
-    requires { length parts.now.cells ≤ MAX_NUMBERED }
+    requires { length parts.now.cells ≤ max_numbered }
     ensures { IsTrue result ↔ (raw.now ≡ raw_cells grammar.now parts.now) }
 {
     match (raw, parts.fallback) {
@@ -119,7 +119,7 @@ pub fn cells_at(raw: &RawTable, state: usize) -> &RawCells
 /// The number of states before the first one whose cells or default action are not those of these parts.
 pub fn count_right(grammar: &Grammar, raw: &RawTable, parts: &[StateParts]) -> usize
     requires states { length parts.now ≤ length raw.now.states }
-    requires narrow { (s : ℕ) → s < length parts.now → length (slice_index_or parts.now s no_state).cells ≤ MAX_NUMBERED }
+    requires narrow { (s : ℕ) → s < length parts.now → length (slice_index_or parts.now s no_state).cells ≤ max_numbered }
     ensures { AreFirstCells grammar.now raw.now parts.now result }
 {
     for state in 0..parts.len() {

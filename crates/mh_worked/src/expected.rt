@@ -1,5 +1,5 @@
 //! Tests of expected tokens: after refusals, and for the branches of sessions.
-use crate::runs::check_cases;
+use mh_worked_cases::check_cases;
 use std::test::Fail;
 
 // In the third run, state 3 refuses the second `X` and has a cell for `EOF` alone. The run reached this state by the
@@ -269,15 +269,15 @@ menhir: warning: end-of-stream conflict in state 2
 
 #[test]
 fn after_refusals(rt: HostRuntime) -> Result<(), Fail> {
-    check_cases(&rt, rt.alloc(), REFUSALS)
+    check_cases(rt.alloc(), REFUSALS)
 }
 
 #[test]
 fn misplaced_words(rt: HostRuntime) -> Result<(), Fail> {
-    check_cases(&rt, rt.alloc(), MISUSES)
+    check_cases(rt.alloc(), MISUSES)
 }
 
 #[test]
 fn of_branches(rt: HostRuntime) -> Result<(), Fail> {
-    check_cases(&rt, rt.alloc(), REPLIES)
+    check_cases(rt.alloc(), REPLIES)
 }

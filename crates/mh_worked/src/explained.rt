@@ -1,9 +1,9 @@
 //! Explanations of the sentence on the first line of the input.
-use crate::runs::{ONE_SENTENCE_FILE, check_cases, check_cases_with};
+use mh_worked_cases::{ONE_SENTENCE_FILE, check_cases, check_cases_with};
 use std::test::Fail;
 
-// Only the first line is read; without lines, the sentence is empty. If the sentence has no entry, the reason is
-// reported.
+// Only the first line is read; without lines, the sentence is empty. If there is nothing to explain for the
+// sentence, the reason is reported.
 const CASES: &str = "0 --interpret-error g.mly
 ~
 A A
@@ -128,6 +128,6 @@ menhir: input: missing start
 #[test]
 fn explained(rt: HostRuntime) -> Result<(), Fail> {
     let alloc = rt.alloc();
-    check_cases_with(&rt, alloc, ONE_SENTENCE_FILE, CASES)?;
-    check_cases(&rt, alloc, GRAMMARS)
+    check_cases_with(alloc, ONE_SENTENCE_FILE, CASES)?;
+    check_cases(alloc, GRAMMARS)
 }

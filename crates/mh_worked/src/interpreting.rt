@@ -1,5 +1,5 @@
 //! Verdicts on the lines of the input.
-use crate::runs::{Outcome, check_cases, run_with};
+use mh_worked_cases::{Outcome, check_cases, run_with};
 use mh_worked_files::put;
 use std::process::Abort;
 use std::test::Fail;
@@ -391,14 +391,15 @@ fn check_sums(rt: &impl Abort, got: &Outcome) {
     assert_eq!(rt; got.out.len(), 3000 * 7);
 }
 
-// Of the numbers, 1,000 are multiples of 3, and 59 of these are multiples of 17.
+// The numbers of the sums are 0 to 2,999. Of these, 1,000 are multiples of 3, and 59 of them are multiples of 17 too,
+// so they have no parentheses. The other 941 sums lack a closing parenthesis and are rejected.
 #[test]
 fn three_thousand_sums(rt: HostRuntime) -> Result<(), Fail> {
     let mut input = Vec::new(rt.alloc());
     for number in 0..3000 {
         push_sum(&mut input, number);
     }
-    let got = run_with(&rt, rt.alloc(), "--interpret g.mly", SUMS, &input);
+    let got = run_with(rt.alloc(), "--interpret g.mly", SUMS, &input);
     drop(input);
     check_sums(&rt, &got?);
     Ok(())
@@ -407,8 +408,8 @@ fn three_thousand_sums(rt: HostRuntime) -> Result<(), Fail> {
 #[test]
 fn verdicts_of_lines(rt: HostRuntime) -> Result<(), Fail> {
     let alloc = rt.alloc();
-    check_cases(&rt, alloc, VERDICTS)?;
-    check_cases(&rt, alloc, STARTS)?;
-    check_cases(&rt, alloc, FORMS)?;
-    check_cases(&rt, alloc, LEVELS)
+    check_cases(alloc, VERDICTS)?;
+    check_cases(alloc, STARTS)?;
+    check_cases(alloc, FORMS)?;
+    check_cases(alloc, LEVELS)
 }

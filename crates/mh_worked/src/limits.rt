@@ -1,5 +1,5 @@
 //! Limits of files, lines, inputs and automata.
-use crate::runs::{ONE_SENTENCE_FILE, check_cases, check_cases_with};
+use mh_worked_cases::{ONE_SENTENCE_FILE, check_cases, check_cases_with};
 use std::test::Fail;
 
 // A line has at most 1,048,576 bytes, an input at most 1,000,000 lines, and a file at most 16,777,216 bytes.
@@ -46,8 +46,8 @@ menhir: too big: g.mly
 
 #[test]
 fn sizes(rt: HostRuntime) -> Result<(), Fail> {
-    check_cases_with(&rt, rt.alloc(), ONE_SENTENCE_FILE, SIZES)?;
-    check_cases(&rt, rt.alloc(), LARGE_FILE)
+    check_cases_with(rt.alloc(), ONE_SENTENCE_FILE, SIZES)?;
+    check_cases(rt.alloc(), LARGE_FILE)
 }
 
 // The rules are `qI: A qJ | B qJ`, where J is I + 1, up to the last, `qN: A | B`; the first rule is also recursive. The
@@ -86,12 +86,12 @@ menhir: too many states
 
 #[test]
 fn too_many_states(rt: HostRuntime) -> Result<(), Fail> {
-    check_cases(&rt, rt.alloc(), STATES)
+    check_cases(rt.alloc(), STATES)
 }
 
 #[test]
 fn too_many_canonical_states(rt: HostRuntime) -> Result<(), Fail> {
-    check_cases(&rt, rt.alloc(), CANONICAL_STATES)
+    check_cases(rt.alloc(), CANONICAL_STATES)
 }
 
 // A right side of 8,192 symbols, by inlining. At most 10,000 symbols are allowed.
@@ -114,5 +114,5 @@ ACCEPT
 
 #[test]
 fn a_long_production(rt: HostRuntime) -> Result<(), Fail> {
-    check_cases(&rt, rt.alloc(), LONG_PRODUCTION)
+    check_cases(rt.alloc(), LONG_PRODUCTION)
 }

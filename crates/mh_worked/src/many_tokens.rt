@@ -1,6 +1,6 @@
 //! Grammars with as many tokens as a set of a given width holds, with one token more, and with the most tokens that are
 //! allowed, in both modes; and the list of errors with the most tokens.
-use crate::runs::check_cases;
+use mh_worked_cases::check_cases;
 use std::test::Fail;
 
 // Each token may come before T0. The last token is accepted before T0, and refused after T0.
@@ -139,10 +139,10 @@ s: T0
 
 #[test]
 fn are_interpreted(rt: HostRuntime) -> Result<(), Fail> {
-    check_cases(&rt, rt.alloc(), CASES)
+    check_cases(rt.alloc(), CASES)
 }
 
 #[test]
 fn errors_are_listed(rt: HostRuntime) -> Result<(), Fail> {
-    check_cases(&rt, rt.alloc(), ERRORS)
+    check_cases(rt.alloc(), ERRORS)
 }

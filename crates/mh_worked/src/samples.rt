@@ -1,10 +1,10 @@
 //! Samples: the counts of generated grammars, and usage faults of `--sample`. No file is read.
-use crate::runs::check_cases;
+use mh_worked_cases::check_cases;
 use std::test::Fail;
 
 // With k levels of operators, here 2 and 3, a sample has k + 4 tokens and 2k + 3 productions. The merged automaton has
-// 3k + 8 states, of which k + 6 are listed; the canonical one has 6k + 12, of which 2k + 7 are listed. Every third of
-// the 3,000 sentences lacks a parenthesis, except for 59 that open none, so 941 are rejected.
+// 3k + 8 states, of which k + 6 have a row in the catalogue; the canonical one has 6k + 12, of which 2k + 7 have a row.
+// Every third of the 3,000 sentences lacks a parenthesis, except for 59 that open none, so 941 are rejected.
 const MERGED: &str = "0 --sample 0
 ~
 ~
@@ -92,9 +92,9 @@ menhir: usage: bad words
 #[test]
 fn samples(rt: HostRuntime) -> Result<(), Fail> {
     let alloc = rt.alloc();
-    check_cases(&rt, alloc, MERGED)?;
-    check_cases(&rt, alloc, CANONICAL)?;
-    check_cases(&rt, alloc, MORE_LEVELS)?;
-    check_cases(&rt, alloc, UNWRITTEN)?;
-    check_cases(&rt, alloc, WORDS)
+    check_cases(alloc, MERGED)?;
+    check_cases(alloc, CANONICAL)?;
+    check_cases(alloc, MORE_LEVELS)?;
+    check_cases(alloc, UNWRITTEN)?;
+    check_cases(alloc, WORDS)
 }

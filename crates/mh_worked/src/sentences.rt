@@ -1,6 +1,6 @@
 //! Examples of shortest words and random sentences. The script `bench/random_sentences.py` computes the random
 //! sentences from the definition of the generator.
-use crate::runs::{check_cases, run_with};
+use mh_worked_cases::{check_cases, run_with};
 use std::alloc::Global;
 use std::process::Abort;
 use std::test::Fail;
@@ -310,22 +310,22 @@ const SUMS: &str =
     "%token INT PLUS TIMES EOF\n%start main\n%%\nmain: e EOF {}\ne: e PLUS t {} | t {}\nt: t TIMES INT {} | INT {}\n";
 
 /// The texts of a run on the sums.
-fn written(rt: &impl Abort, alloc: Global, words: &str, input: &[u8]) -> Result<Vec<u8>, Fail> {
-    let outcome = run_with(rt, alloc, words, SUMS, input)?;
+fn written(alloc: Global, words: &str, input: &[u8]) -> Result<Vec<u8>, Fail> {
+    let outcome = run_with(alloc, words, SUMS, input)?;
     Ok(outcome.out)
 }
 
 /// The answer of `--interpret` to the random sentence of a seed.
-fn judged(rt: &impl Abort, alloc: Global, seed: u64) -> Result<Vec<u8>, Fail> {
+fn judged(alloc: Global, seed: u64) -> Result<Vec<u8>, Fail> {
     let words = format!(in alloc; "--random-sentence {seed} --length 50 g.mly")?;
-    let sentence = written(rt, alloc, words.as_str(), b"")?;
-    written(rt, alloc, "--interpret g.mly", sentence.as_slice())
+    let sentence = written(alloc, words.as_str(), b"")?;
+    written(alloc, "--interpret g.mly", sentence.as_slice())
 }
 
 /// The program accepts the random sentences of the first seeds.
 fn check_accepted(rt: &impl Abort, alloc: Global, seeds: u64) -> Result<(), Fail> {
     for seed in 0..seeds {
-        let answer = judged(rt, alloc, seed)?;
+        let answer = judged(alloc, seed)?;
         assert!(rt; answer.as_slice() == b"ACCEPT\n".as_slice(), "seed {seed}");
     }
     Ok(())
@@ -333,14 +333,14 @@ fn check_accepted(rt: &impl Abort, alloc: Global, seeds: u64) -> Result<(), Fail
 
 #[test]
 fn shortest_sentences(rt: HostRuntime) -> Result<(), Fail> {
-    check_cases(&rt, rt.alloc(), SHORTEST)?;
-    check_cases(&rt, rt.alloc(), LONGEST)
+    check_cases(rt.alloc(), SHORTEST)?;
+    check_cases(rt.alloc(), LONGEST)
 }
 
 #[test]
 fn random_sentences(rt: HostRuntime) -> Result<(), Fail> {
-    check_cases(&rt, rt.alloc(), RANDOM)?;
-    check_cases(&rt, rt.alloc(), MISUSED)
+    check_cases(rt.alloc(), RANDOM)?;
+    check_cases(rt.alloc(), MISUSED)
 }
 
 #[test]

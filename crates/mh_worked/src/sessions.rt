@@ -1,5 +1,5 @@
 //! Sessions.
-use crate::runs::{check_cases, check_cases_with};
+use mh_worked_cases::{check_cases, check_cases_with};
 use std::test::Fail;
 
 const REPLIES: &str = "0 --session g.mly
@@ -120,7 +120,7 @@ error: unknown token Z
 
 #[test]
 fn each_reply_is_that_of_its_branch(rt: HostRuntime) -> Result<(), Fail> {
-    check_cases(&rt, rt.alloc(), REPLIES)
+    check_cases(rt.alloc(), REPLIES)
 }
 
 /// A list with its items before the rest of the list.
@@ -152,7 +152,7 @@ a shifting 1 A
 
 #[test]
 fn a_step_may_be_too_deep(rt: HostRuntime) -> Result<(), Fail> {
-    check_cases_with(&rt, rt.alloc(), CHAIN, DEEP)
+    check_cases_with(rt.alloc(), CHAIN, DEEP)
 }
 
 // If forks copied stacks, they would copy 2,000,000,000 entries.
@@ -177,5 +177,5 @@ n500000 input-needed 1
 
 #[test]
 fn half_a_million_forks_of_a_deep_stack(rt: HostRuntime) -> Result<(), Fail> {
-    check_cases_with(&rt, rt.alloc(), CHAIN, FORKS)
+    check_cases_with(rt.alloc(), CHAIN, FORKS)
 }

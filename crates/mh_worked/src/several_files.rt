@@ -1,5 +1,5 @@
 //! Grammars of several files.
-use crate::runs::check_cases;
+use mh_worked_cases::check_cases;
 use std::test::Fail;
 
 // Tokens, aliases and public rules are shared by all files. Other rules belong to their file. If another file has a
@@ -370,9 +370,9 @@ menhir: b.mly:2: syntax error
 #[test]
 fn several_files(rt: HostRuntime) -> Result<(), Fail> {
     let alloc = rt.alloc();
-    check_cases(&rt, alloc, JOINED)?;
-    check_cases(&rt, alloc, SHADOWED)?;
-    check_cases(&rt, alloc, APART)?;
-    check_cases(&rt, alloc, REFUSED)?;
-    check_cases(&rt, alloc, IN_TURN)
+    check_cases(alloc, JOINED)?;
+    check_cases(alloc, SHADOWED)?;
+    check_cases(alloc, APART)?;
+    check_cases(alloc, REFUSED)?;
+    check_cases(alloc, IN_TURN)
 }

@@ -1,5 +1,5 @@
 //! Trees of accepted sentences.
-use crate::runs::{check_cases, check_cases_with};
+use mh_worked_cases::{check_cases, check_cases_with};
 use std::test::Fail;
 
 const TREES: &str = "0 --interpret --interpret-show-cst g.mly
@@ -208,8 +208,8 @@ ACCEPT
 ~
 ";
 
-// `s: B` makes a tree of height 2, and each A one that is higher by 1. At most 4,000 is allowed. A verdict has no such
-// limit.
+// The sentence B has a tree of height 2, and each A before it makes the tree higher by 1. Trees of a height over 4,000
+// are refused; verdicts without trees have no such limit.
 const NESTED: &str = "g.mly
 %token A B
 %start s
@@ -250,9 +250,9 @@ ACCEPT
 #[test]
 fn trees_of_lines(rt: HostRuntime) -> Result<(), Fail> {
     let alloc = rt.alloc();
-    check_cases(&rt, alloc, TREES)?;
-    check_cases(&rt, alloc, BRANCHES)?;
-    check_cases(&rt, alloc, LEVELS)?;
-    check_cases(&rt, alloc, PRELUDE)?;
-    check_cases_with(&rt, alloc, NESTED, HEIGHTS)
+    check_cases(alloc, TREES)?;
+    check_cases(alloc, BRANCHES)?;
+    check_cases(alloc, LEVELS)?;
+    check_cases(alloc, PRELUDE)?;
+    check_cases_with(alloc, NESTED, HEIGHTS)
 }

@@ -326,7 +326,7 @@ const COUNTS: &str = " %start s %% s: {}~1802~Pp_ >0:s0|1.0;^\
      \x20Z %start s %% s: {} %prec y~3~L y";
 
 /// Fails if the joined rules of 512 tokens and a text are not the wanted ones.
-fn check_behind(alloc: Global, more: &str, wanted: &Wanted) -> Result<(), Fail> {
+fn check_after(alloc: Global, more: &str, wanted: &Wanted) -> Result<(), Fail> {
     let mut files = String::new(alloc);
     push_tokens(&mut files, more);
     check_built(alloc, &Subject::Joined(false), files, wanted)
@@ -337,7 +337,7 @@ fn check_count(alloc: Global, case: &str) -> Result<(), Fail> {
     let more = parts.next().unwrap_or("");
     let length = parts.next().unwrap_or("").parse().unwrap_or(0);
     let end = parts.next().unwrap_or("another end");
-    check_behind(alloc, more, &Wanted::Ends(length, "", end))
+    check_after(alloc, more, &Wanted::Ends(length, "", end))
 }
 
 /// Each of the 256 pairs of tokens takes 7 bytes of the result.

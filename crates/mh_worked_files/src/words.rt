@@ -17,6 +17,7 @@ fn job_name(job: &Job) -> &'static [u8] {
         Job::CompareErrors { .. } => b"compare",
         Job::EchoErrors { .. } => b"echo",
         Job::UpdateErrors { .. } => b"update",
+        Job::RebaseErrors { .. } => b"rebase",
         Job::Sample { .. } => b"sample",
         Job::ShortestSentences => b"shortest",
         Job::RandomSentence { .. } => b"random",
@@ -111,6 +112,9 @@ const CASES: &str = "--interpret g.mly~interpret :g.mly^\
     --echo-errors m --compile-errors m g.mly~two modes^\
     --update-errors m g.mly~update :g.mly^\
     --update-errors m --echo-errors m g.mly~two modes^\
+    --rebase-errors m g.mly~rebase :g.mly^\
+    --rebase-errors m --list-errors g.mly~two modes^\
+    --rebase-errors m~no grammar^\
     --sample 7~sample 7^\
     --sample=9999 --canonical~sample 9999 canonical^\
     --sample=0070 --strict~sample 70 strict^\
@@ -199,6 +203,6 @@ pub fn put_words(alloc: Global, text: &mut Vec<u8>, line: &str) {
 
 #[test]
 fn cases(rt: HostRuntime) -> Result<(), Fail> {
-    check_cases(rt.alloc(), &Subject::Words, CASES, 87)?;
+    check_cases(rt.alloc(), &Subject::Words, CASES, 90)?;
     check_cases(rt.alloc(), &Subject::NoWords, "~no mode", 1)
 }

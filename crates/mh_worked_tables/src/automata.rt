@@ -1,9 +1,9 @@
 //! Canonical automata that were worked out by hand, by Knuth's construction.
-use crate::cases::{check_cases, put};
-use crate::made::{automaton_of, grammar_of};
+use crate::cases::check_cases;
 use mh_canon::{canonical, is_one_automaton};
 use mh_grammar::{Edge, Grammar, Symbol, is_in_range};
 use mh_items_kernels::Automaton;
+use mh_worked_grammars::{canonical_of, grammar_of, put};
 use std::alloc::Global;
 use std::fmt::Write;
 use std::process::Abort;
@@ -30,7 +30,7 @@ pub fn put_edges<const W: usize>(text: &mut String, automaton: &Automaton<W>) {
 
 /// Appends `:` and the edges of a grammar's automaton.
 pub fn put_edges_of(alloc: Global, text: &mut String, grammar: &Grammar) -> Result<(), Fail> {
-    let automaton = automaton_of(alloc, grammar)?;
+    let automaton = canonical_of(alloc, grammar)?;
     put(text, ":");
     put_edges(text, &automaton);
     drop(automaton);
@@ -58,7 +58,7 @@ edges = : t0-1 n0-2 n1-3 n2-4/// t1-5 t3-6/ t2-7/ t0-1 n2-8// t0-9/ t2-7/";
 
 #[test]
 fn edges(rt: HostRuntime) -> Result<(), Fail> {
-    check_cases(&rt, rt.alloc(), EDGES)
+    check_cases(rt.alloc(), EDGES)
 }
 
 fn check_one(rt: &impl Abort, alloc: Global, grammar: &Grammar) -> Result<(), Fail> {

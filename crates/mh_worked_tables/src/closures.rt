@@ -4,10 +4,11 @@ ghost use Rattle.mh_grammar.specs.Plain.{plain_of};
 ghost use Rattle.mh_items_kernels.specs.Kernels.{IsItemList};
 ghost use Rattle.mh_items.specs.Fitting.{FitsSets};
 
-use crate::cases::{check_cases, put};
+use crate::cases::check_cases;
 use mh_grammar::{Grammar, Look, Memory, Symbol, is_in_range};
 use mh_items::{closure, firsts, moved};
-use mh_items_kernels::{Kernel, are_equal, one_list, start_kernel, symbol_at};
+use mh_items_kernels::{Kernel, are_equal, same_items_same_kernel, start_kernel, symbol_at};
+use mh_worked_grammars::put;
 use std::alloc::Global;
 use std::fmt::Write;
 use std::test::Fail;
@@ -108,7 +109,7 @@ pub fn put_states(
     if symbol_at(grammar, 0, 0).is_none() {
         return Err(Fail::from("out of range"));
     }
-    one_list(grammar);
+    same_items_same_kernel(grammar);
     let first = first_state(alloc, grammar)?;
     put_kernel(text, &first);
     put(text, "/ ");
@@ -126,5 +127,5 @@ states 2 = 0.0 #; 1.0 #; 4.0 0 #; / 1.1 #; 2.0 #; 3.0 #; other";
 
 #[test]
 fn states(rt: HostRuntime) -> Result<(), Fail> {
-    check_cases(&rt, rt.alloc(), STATES)
+    check_cases(rt.alloc(), STATES)
 }

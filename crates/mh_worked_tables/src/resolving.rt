@@ -1,10 +1,10 @@
 //! Cells, defaults, reductions on errors and conflicts that were worked out by hand. Each grammar begins with the token
 //! A, and state 1 is the state after A.
-use crate::cases::{check_cases, put, put_comma};
-use crate::made::resolved;
+use crate::cases::check_cases;
 use mh_grammar::Grammar;
 use mh_resolve_cells::{Conflict, Mode};
 use mh_tables_core::Table;
+use mh_worked_grammars::{put, put_comma, resolved};
 use std::alloc::Global;
 use std::fmt::Write;
 use std::test::Fail;
@@ -154,9 +154,8 @@ cell 1 1 = Reduce(2)
 A T%10l; s x y; s: x T; x: A %20l; s: y T; y: A %12n
 cell 1 1 = Reduce(2) Unsolved";
 
-/// The action of state 1 on T, on which no item of the state acts. In the last two grammars it is the action of state
-/// 2, after `s`, whose start production is not a candidate; the state has an action at the end of the stream and
-/// another on U.
+/// The action of state 1 on T, on which no item of the state acts. For the last two grammars it is state 2, after `s`.
+/// Its start production is not a candidate; it has an action at the end of the stream and another action on U.
 const ERRORS: &str = "A T U; s a<1; s: a U; a: A
 cell 1 1 = Reduce(2)
 
@@ -217,8 +216,8 @@ conflicts = 1 Token(1) Unsolved, 1 End Unsolved, 1 End Stream, 3 End Stream";
 
 #[test]
 fn resolved_tables(rt: HostRuntime) -> Result<(), Fail> {
-    check_cases(&rt, rt.alloc(), CELLS)?;
-    check_cases(&rt, rt.alloc(), ERRORS)?;
-    check_cases(&rt, rt.alloc(), DEFAULTS)?;
-    check_cases(&rt, rt.alloc(), CONFLICTS)
+    check_cases(rt.alloc(), CELLS)?;
+    check_cases(rt.alloc(), ERRORS)?;
+    check_cases(rt.alloc(), DEFAULTS)?;
+    check_cases(rt.alloc(), CONFLICTS)
 }

@@ -1,13 +1,13 @@
 //! Nullable and productive nonterminals, first sets, names and edges, worked out by hand.
 ghost use Rattle.mh_grammar.specs.Plain.{plain_of, IsInRange};
 
-use crate::cases::{check_cases, put, put_bytes, put_comma};
-use crate::made::grammar_of;
+use crate::cases::check_cases;
 use mh_grammar::{
     Edge, Grammar, Memory, NontermInfo, Production, Sequence, Symbol, Token, TokenInfo, find_edge,
     first, from_bytes, is_in_range, left_side_name, nonterminal_name, nullable, productive,
     start_name, symbol_name, token_name, words_begin_with_first,
 };
+use mh_worked_grammars::{grammar_of, put, put_bytes, put_comma};
 use std::alloc::Global;
 use std::fmt::Write;
 use std::process::Abort;
@@ -86,7 +86,7 @@ first = [0, 1], [1], [], [1]";
 
 #[test]
 fn sets_of_a_sample(rt: HostRuntime) -> Result<(), Fail> {
-    check_cases(&rt, rt.alloc(), SETS)
+    check_cases(rt.alloc(), SETS)
 }
 
 fn production(lhs: u16, rhs: Vec<Symbol>) -> Production {

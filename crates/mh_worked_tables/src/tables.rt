@@ -1,9 +1,9 @@
 //! Tables that were worked out by hand, and whether every run on them ends.
 use crate::cases::check_cases;
-use crate::made::resolved;
 use mh_grammar::Grammar;
 use mh_resolve_cells::Mode;
 use mh_tables::check_halts;
+use mh_worked_grammars::resolved;
 use std::alloc::Global;
 use std::fmt::Write;
 use std::test::Fail;
@@ -44,5 +44,5 @@ halting = Loops { below: None, state: 0, token: Some(0) }";
 
 #[test]
 fn tables(rt: HostRuntime) -> Result<(), Fail> {
-    check_cases(&rt, rt.alloc(), TABLES)
+    check_cases(rt.alloc(), TABLES)
 }

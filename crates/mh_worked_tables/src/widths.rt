@@ -5,11 +5,12 @@ ghost use Rattle.mh_canon_states.specs.Canonical.{IsCanonical};
 ghost use Rattle.mh_items.specs.Fitting.{FitsSets};
 
 use crate::automata::put_edges;
-use crate::cases::{check_cases, put};
+use crate::cases::check_cases;
 use crate::closures::put_kernel;
 use mh_canon::{canonical, is_one_automaton};
 use mh_grammar::{Grammar, is_in_range};
 use mh_items_kernels::Automaton;
+use mh_worked_grammars::put;
 use std::alloc::Global;
 use std::fmt::Write;
 use std::test::Fail;
@@ -102,5 +103,5 @@ widths = 10 states, true, true";
 
 #[test]
 fn of_three_grammars(rt: HostRuntime) -> Result<(), Fail> {
-    check_cases(&rt, rt.alloc(), WIDTHS)
+    check_cases(rt.alloc(), WIDTHS)
 }

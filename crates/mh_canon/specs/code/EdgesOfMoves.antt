@@ -15,5 +15,5 @@ pub record HasEdges (g : PlainGrammar) (state : ℕ) (old new : List Kernel) (ro
   pub kernel : Kernel
   pub at : slice_get old state ≡ Some kernel
   pub moves : List Move
-  pub of : AreMovesOf g kernel moves
-  pub edges : AreStateEdges g of.closed (symbols_of moves) old new row
+  pub are_moves : AreMovesOf g kernel moves
+  pub edges : AreStateEdges g are_moves.closed (symbols_of moves) old new row

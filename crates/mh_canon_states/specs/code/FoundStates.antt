@@ -16,7 +16,7 @@ use Rattle.mh_canon_states.specs.Canonical.{IsReachedSet}
 -- The kernel is a state of the canonical collection.
 pub record IsCanonicalState (g : PlainGrammar) (k : Kernel) : Type 0 where
   pub kernel : IsItemList g k
-  pub some : HasItem (Holds k)
+  pub has_item : HasItem (Holds k)
   pub reach : IsReachedSet g (Holds k)
 
 -- The kernels are states of the canonical collection, each once.
@@ -37,5 +37,5 @@ pub record IsStateClosure (g : PlainGrammar) (closed : Items) : Type 0 where
 pub record AreStateEdges (g : PlainGrammar) (closed : Items) (symbols : List Symbol) (old new : List Kernel) (row : List Edge) : Type 0 where
   pub moves : List Kernel
   pub each : AllZip (IsMove g closed) symbols moves
-  pub on : map (λ e. e.symbol) row ≡ symbols
+  pub symbols_are : map (λ e. e.symbol) row ≡ symbols
   pub placed : AllPlaced old new moves (targets_of row)

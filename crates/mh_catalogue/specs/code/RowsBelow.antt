@@ -11,6 +11,6 @@ pub record RowsBelow (t : TableData) (limit : ℕ) (rows : List TableRow) : Type
   pub rising : IsRising IsRowBefore rows
   pub each : AllByRecursion (λ row. FailsFirst t row.start row.sentence row.state) rows
   pub below : AllByRecursion (λ row. row.state < limit) rows
-  pub short : AreShort rows
+  pub are_short : AreShort rows
   pub complete : (s : ℕ) → s < limit → Failing t s → (row : TableRow) × Contains rows row × (row.state ≡ s)
-  pub cheap : (s : ℕ) → s < limit → Failing t s → FailsWithinMaxCost t s
+  pub failing_are_cheap : (s : ℕ) → s < limit → Failing t s → FailsWithinMaxCost t s

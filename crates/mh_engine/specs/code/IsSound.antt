@@ -6,5 +6,5 @@ use Rattle.mh_tables_core.specs.TooDeep.{too_deep}
 
 -- The trees are those of a run to these states, and they are not too deep.
 pub record IsSound (c : Position) : Type 0 where
-  pub grown : TreesMatchStack c.table c.pairs.states c.pairs.trees
-  pub fits : too_deep c.pairs.trees ≡ false
+  pub trees_match : TreesMatchStack c.table c.pairs.states c.pairs.trees
+  pub not_too_deep : too_deep c.pairs.trees ≡ false

@@ -37,13 +37,13 @@ pub record IsBeforeToken (t : TableData) (start : ℕ) (w : List ℕ) (i : ℕ) 
   pub steps : ℕ
   pub leads : StepsLeadTo steps (initial_position t start (take i w)) c
   pub empty : c.left ≡ []
-  pub calm : c.refused ≡ false
+  pub not_refused : c.refused ≡ false
   pub within : i ≤ length w
 
 -- The run has shifted the first i tokens of w, and the token at index i is z.
 pub record IsBeforeGivenToken (t : TableData) (start : ℕ) (w : List ℕ) (i z : ℕ) (c : Position) : Type 0 where
   pub reads : IsBeforeToken t start w i c
-  pub here : i < length w
+  pub index_known : i < length w
   pub token_is : z ≡ get_or w i 0
 
 -- The outcome of the token at index i: the run has shifted the token, or the run on w has ended.

@@ -19,20 +19,20 @@ pub record CheckpointFacts (c : Position) : Type 0 where
 
 -- After n steps the run from `first` is at `now`, and no position on the way is too deep.
 pub record StepsLeadTo (n : ℕ) (first now : Position) : Type 0 where
-  pub made : CanMakeSteps n first
-  pub there : after_steps n first ≡ now
-  pub fits : (m : ℕ) → m ≤ n → too_deep (after_steps m first).pairs.trees ≡ false
+  pub can_step : CanMakeSteps n first
+  pub reaches : after_steps n first ≡ now
+  pub not_too_deep : (m : ℕ) → m ≤ n → too_deep (after_steps m first).pairs.trees ≡ false
 
 -- Steps that shift no token lead from `first` to `now`, where no reduction comes next.
 pub record SettlesTo (first now : Position) : Type 0 where
   pub steps : ℕ
   pub leads : StepsLeadTo steps first now
   pub left : now.left ≡ first.left
-  pub calm : first.refused ≡ false → now.refused ≡ false
+  pub not_refused : first.refused ≡ false → now.refused ≡ false
   pub settled : (s p : ℕ) → phase_of now ≡ phases.AboutToReduce s p → ⊥
 
 -- After some steps the run from `first` is at a position that is too deep.
 pub record SettlesTooDeep (first : Position) : Type 0 where
   pub steps : ℕ
-  pub made : CanMakeSteps steps first
+  pub can_step : CanMakeSteps steps first
   pub deep : too_deep (after_steps steps first).pairs.trees ≡ true

@@ -12,4 +12,4 @@ pub record ExpandContract (j : Joined) (e : Expanded) : Type 0 where
   pub expanded : IsExpanded j e
   pub ready : IsJoinedReady j → IsExpandedReady e
   pub sentences : HasSameSentences j e
-  pub exact : (fault : ExpandFault) → IsFirstFault j fault → ⊥
+  pub no_fault : (fault : ExpandFault) → IsFirstFault j fault → ⊥

@@ -3,9 +3,9 @@ use Rattle.std.specs.Prelude.{◌≡◌, ◌<◌, ◌≤◌, ℕ, List, [], ◌�
 use Rattle.std.specs.List.{All, AllZip, Contains}
 use Rattle.mh_grammar.specs.Numbering.{AreDistinct, AreNumbersOf}
 use Rattle.mh_rules.specs.declared.joined.Joined.{Joined}
-use Rattle.mh_rules.specs.declared.instances.TheConstants.{MAX_INSTANCES}
+use Rattle.mh_rules.specs.Limits.{max_instances}
 use Rattle.mh_rules.specs.declared.instances.Part.{Part}
-use Rattle.mh_expand.specs.declared.search.TheConstants.{MAX_NAME}
+use Rattle.mh_expand.specs.Limits.{max_name}
 use Rattle.mh_expand.specs.Terms.{Term, text}
 use Rattle.mh_rules.specs.declared.joined.Applied.{Applied}
 use Rattle.mh_rules.specs.declared.joined.JoinedAlternative.{JoinedAlternative}
@@ -17,12 +17,12 @@ use Rattle.mh_expand.specs.code.SharedTerms.{terms_at, IsExtendedBy}
 -- The first occurrence of the instance t in the list `before`: all instances in front of it are among the earlier
 -- instances, and t is not.
 pub record IsFirstOccurrence (before earlier : List Term) (t : Term) : Type 0 where
-  pub front : List Term
-  pub behind : List Term
-  pub split : before ≡ front ++ t ∷ behind
+  pub prefix : List Term
+  pub suffix : List Term
+  pub split : before ≡ prefix ++ t ∷ suffix
   pub instance : IsInstance t
   pub new : Contains earlier t → ⊥
-  pub others : (x : Term) → Contains front x → IsInstance x → Contains earlier x
+  pub others : (x : Term) → Contains prefix x → IsInstance x → Contains earlier x
 
 -- The terms ts are the instances in the list `before`, in order of first occurrence.
 pub record AreFound (before ts : List Term) : Type 0 where
@@ -55,23 +55,23 @@ pub record FindsTerms (j : Joined) (before seen ts us : List Term) (old new : Li
 
 -- All producers of an alternative have been found, and p is its production.
 pub record FindsAlternative (j : Joined) (before ts us : List Term) (old new : List ℕ) (t : Term) (a : JoinedAlternative) (p : InstanceProduction) : Type 0 where
-  pub went : FindsTerms j before (right_side t a) ts us old new
-  pub made : IsProduction (terms_at us new) t a p
+  pub terms_found : FindsTerms j before (right_side t a) ts us old new
+  pub is_production : IsProduction (terms_at us new) t a p
 
 -- All producers of these alternatives have been found, and these are their productions.
 pub record FindsAlternatives (j : Joined) (before ts us : List Term) (old new : List ℕ) (t : Term) (alternatives : List JoinedAlternative) (productions : List InstanceProduction) : Type 0 where
-  pub went : FindsTerms j before (flat_map (right_side t) alternatives) ts us old new
-  pub made : AllZip (IsProduction (terms_at us new) t) alternatives productions
+  pub terms_found : FindsTerms j before (flat_map (right_side t) alternatives) ts us old new
+  pub are_productions : AllZip (IsProduction (terms_at us new) t) alternatives productions
 
 -- All producers of an instance have been found, and i is the instance.
 pub record FindsInstance (j : Joined) (before ts us : List Term) (old new : List ℕ) (t : Term) (i : Instance) : Type 0 where
-  pub went : FindsTerms j before (producers_of j t) ts us old new
-  pub made : IsInstanceOf j (terms_at us new) t i
+  pub terms_found : FindsTerms j before (producers_of j t) ts us old new
+  pub is_instance : IsInstanceOf j (terms_at us new) t i
 
 -- The start symbols have been found, and these are their numbers.
 pub record FindsStarts (j : Joined) (ts us : List Term) (old new starts : List ℕ) : Type 0 where
-  pub went : FindsTerms j [] (start_terms j) ts us old new
-  pub made : AreNumbersOf (terms_at us new) starts (start_terms j)
+  pub terms_found : FindsTerms j [] (start_terms j) ts us old new
+  pub are_starts : AreNumbersOf (terms_at us new) starts (start_terms j)
 
 -- The ranks are those of the declarations: each term that a declaration names is in the list and has the number of the
 -- first such declaration, and no other term has a rank.
@@ -89,8 +89,8 @@ pub record AddsRank (old new : ℕ → Option ℕ) (number rank : ℕ) : Type 0 
 -- An instance without a fault, other than the limit on the number of instances.
 pub record IsExpandable (j : Joined) (t : Term) : Type 0 where
   pub instance : IsInstance t
-  pub fits : HasRightArity j t
-  pub short : length (text j t) ≤ MAX_NAME
+  pub right_arity : HasRightArity j t
+  pub short_name : length (text j t) ≤ max_name
 
 -- The list ys is the list xs with more terms appended.
 pub record IsPrefixOf (xs ys : List Term) : Type 0 where
@@ -100,7 +100,7 @@ pub record IsPrefixOf (xs ys : List Term) : Type 0 where
 -- The invariant of the loop over the instances: the instances expanded so far are right for a prefix of the terms
 -- found.
 pub record IsExpanding (j : Joined) (ts : List Term) (numbers : List ℕ) (instances : List Instance) (rank : ℕ → Option ℕ) : Type 0 where
-  pub few : length numbers ≤ MAX_INSTANCES
+  pub few : length numbers ≤ max_instances
   pub within : length instances ≤ length numbers
   pub search : IsInstanceSearch j (found_terms j (take (length instances) (terms_at ts numbers))) ts numbers
   pub order : IsFindingOrder j (take (length instances) (terms_at ts numbers))

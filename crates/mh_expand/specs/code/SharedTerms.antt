@@ -38,4 +38,4 @@ IsExtendedBy old new = (more : List Term) × (new ≡ old ++ more)
 -- The node n is that of the term t over the terms ts.
 pub record IsNode (ts : List Term) (n : Application) (t : Term) : Type 0 where
   pub below : All (λ a. a < length ts) n.args
-  pub means : node_term ts n ≡ t
+  pub term_is : node_term ts n ≡ t

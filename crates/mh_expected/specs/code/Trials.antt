@@ -1,4 +1,4 @@
--- Definitions on trying tokens on a stack.
+-- Definitions on the tokens that are tried on a stack.
 use Rattle.std.specs.Prelude.{◌≡◌, ◌↔◌, ◌<◌, ◌^◌, ℕ, Bool, true, false, List, [], ◌∷◌, length, Option, Some}
 use Rattle.std.specs.List.{Contains}
 use Rattle.mh_grammar.specs.Edges.{IsRising}
@@ -8,13 +8,14 @@ use Rattle.mh_run.specs.code.Observers.{Observer}
 use Rattle.mh_run.specs.code.Reductions.{SettlesTo}
 
 -- The observer that records nothing.
-abbrev pub alone : Observer (Unit {0})
-alone = record { shifted = λ s z. s; reduced = λ s m p. s }
+abbrev pub null_observer : Observer (Unit {0})
+null_observer = record { shifted = λ s z. s; reduced = λ s m p. s }
 
--- The stack after all reductions before the next token, and the move that comes then.
+-- All reductions on the next token turn the old stack into the new stack, on which the next move is this one.
 abbrev pub Settles : TableData → Option ℕ → List ℕ → List ℕ → RunMove → Type 0
-Settles t look old new move = SettlesTo alone t look old new tt tt move
+Settles t look old new move = SettlesTo null_observer t look old new tt tt move
 
+-- True if the move is a shift.
 abbrev pub is_shift : RunMove → Bool
 is_shift Accepts = false
 is_shift Asks = false
@@ -22,7 +23,7 @@ is_shift Refuses = false
 is_shift (Shifts j) = true
 is_shift (Reduces p) = false
 
--- The result of trying a token on a stack: whether the token is shifted after the reductions before the token.
+-- A token was tried on a stack: whether the run on the stack shifts the token, at once or after reductions.
 pub record IsTried (t : TableData) (stack : List ℕ) (z : ℕ) (shifted : Bool) : Type 0 where
   pub new : List ℕ
   pub move : RunMove
@@ -39,5 +40,5 @@ pub record AreTried (t : TableData) (stack list : List ℕ) (bound : ℕ) : Type
 pub record AsksOn (t : TableData) (start : ℕ) (tokens stack : List ℕ) : Type 0 where
   pub steps : ℕ
   pub read : ℕ
-  pub there : after t steps (initial start tokens) ≡ record { stack = stack; read = read; left = [] }
+  pub reaches : after t steps (initial start tokens) ≡ record { stack = stack; read = read; left = [] }
   pub asks : run_move_of t (top_of stack) [] ≡ Asks

@@ -1,10 +1,14 @@
 -- Definitions of the best-first search, for any order of words: closure under the rules, soundness, completeness and
--- the invariant. The letters below are those of `Search`: the key (r, p, d, a, z) is a path from the state r along the
--- first d symbols of the production p, with the first token a and the next token z (or y); s is the state in which the
--- path ends. A complete path of the production q begins in s and ends in e; its goto leads from s to g. A shift of the
--- token x leads to j. The letter n is a nonterminal, i is a start, u, v, w and m are words, and k and l are keys or
--- labels. `rep s z` is the representative of the token z in the state s, `store` has the words by keys, `ways` the goto
--- facts, and `reached` the labels by state and next token.
+-- the invariant. The letters are those of `Search`:
+-- - The key (r, p, d, a, z) is a path from the state r along the first d symbols of the production p; a is its first
+--   token, and z (or y) the next token after it. The state s is the end of the path.
+-- - A complete path of the production q begins in s and ends in e; its goto leads from s to g.
+-- - A goto fact (s, n, y, x, v) says that the word v leads from the state s over the goto on the nonterminal n, where y
+--   is the first token and x the next token after the word.
+-- - A shift of the token x leads to j. The letter n is a nonterminal, i is a start, u, v, w and m are words, and k and
+--   l are keys or labels.
+-- - `rep s z` is the representative of the token z in the state s, `store` has the words by keys, `goto_words` the goto
+--   facts with their words, and `reached` the labels by state and next token.
 use Rattle.std.specs.Prelude.{◌≡◌, ℕ, zero, suc, List, [], ◌∷◌, ◌++◌, length, slice_get, Option, Some, ◌<◌, ◌≤◌, ◌⊎◌, ◌+◌}
 use Rattle.mh_grammar.specs.declared.types.Symbol.{Symbol}
 use Rattle.mh_grammar.specs.declared.types.Symbol.TheVariants.{T, N}
@@ -23,11 +27,11 @@ IsPathEnd t r p (suc d) s = (b : ℕ) × (x : Symbol) × IsPathEnd t r p d b × 
 -- The laws of an order of words: reflexive, transitive, monotone under concatenation, and no word comes before its
 -- prefixes or suffixes.
 pub record WordOrderLaws (Le : List ℕ → List ℕ → Type 0) : Type 0 where
-  pub same : (u : List ℕ) → Le u u
-  pub after : (u v w : List ℕ) → Le u v → Le v w → Le u w
-  pub both : (u u' v v' : List ℕ) → Le u u' → Le v v' → Le (u ++ v) (u' ++ v')
-  pub front : (u v : List ℕ) → Le u (u ++ v)
-  pub back : (u v : List ℕ) → Le v (u ++ v)
+  pub reflexive : (u : List ℕ) → Le u u
+  pub transitive : (u v w : List ℕ) → Le u v → Le v w → Le u w
+  pub monotone : (u u' v v' : List ℕ) → Le u u' → Le v v' → Le (u ++ v) (u' ++ v')
+  pub prefix : (u v : List ℕ) → Le u (u ++ v)
+  pub suffix : (u v : List ℕ) → Le v (u ++ v)
 
 abbrev pub key : ℕ → ℕ → ℕ → ℕ → ℕ → FactKey
 key r p d a z = record { from = r; production = p; dot = d; first = a; next = z }
@@ -77,10 +81,10 @@ extended_label l v = record { start = l.start; word = l.word ++ v }
 
 -- The laws of an order of labels that agrees with an order of words.
 pub record LabelOrderLaws (Le : List ℕ → List ℕ → Type 0) (LeAt : Label → Label → Type 0) : Type 0 where
-  pub same : (l : Label) → LeAt l l
-  pub after : (k l m : Label) → LeAt k l → LeAt l m → LeAt k m
-  pub both : (k l : Label) (u v : List ℕ) → LeAt k l → Le u v → LeAt (extended_label k u) (extended_label l v)
-  pub front : (k : Label) (v : List ℕ) → LeAt k (extended_label k v)
+  pub reflexive : (l : Label) → LeAt l l
+  pub transitive : (k l m : Label) → LeAt k l → LeAt l m → LeAt k m
+  pub monotone : (k l : Label) (u v : List ℕ) → LeAt k l → Le u v → LeAt (extended_label k u) (extended_label l v)
+  pub prefix : (k : Label) (v : List ℕ) → LeAt k (extended_label k v)
 
 abbrev pub HasNoLaterLabel : (Label → Label → Type 0) → (ℕ → ℕ → Option Label) → ℕ → ℕ → Label → Type 0
 HasNoLaterLabel LeAt reached s z l = (k : Label) × (reached s z ≡ Some k) × LeAt k l
@@ -92,10 +96,10 @@ pub record LabelsClosedBy (t : TableData) (rep : ℕ → ℕ → ℕ) (store : F
       → edge_of t s (N (lhs_of t.grammar q)) ≡ Some g → z < t.grammar.tokens → H g (rep g z) (extended_label l v)
 
 -- Where the premises of a rule on goto facts hold in the second search, H holds of the conclusion.
-pub record LabelsClosedByGotos (t : TableData) (rep : ℕ → ℕ → ℕ) (ways : (from nonterminal first next : ℕ) → List ℕ → Type 0) (reached : ℕ → ℕ → Option Label) (H : ℕ → ℕ → Label → Type 0) : Type 0 where
+pub record LabelsClosedByGotos (t : TableData) (rep : ℕ → ℕ → ℕ) (goto_words : (from nonterminal first next : ℕ) → List ℕ → Type 0) (reached : ℕ → ℕ → Option Label) (H : ℕ → ℕ → Label → Type 0) : Type 0 where
   pub begins : (i z : ℕ) → i < length t.grammar.starts → z < t.grammar.tokens → H i (rep i z) (record { start = i; word = [] })
   pub shifts : (s x z j : ℕ) (l : Label) → reached s (rep s x) ≡ Some l → run_move_of t s (x ∷ []) ≡ Shifts j → z < t.grammar.tokens → H j (rep j z) (extended_label l (x ∷ []))
-  pub goes : (s n y x g : ℕ) (l : Label) (v : List ℕ) → reached s y ≡ Some l → ways s n y x v → edge_of t s (N n) ≡ Some g → H g x (extended_label l v)
+  pub gotos : (s n y x g : ℕ) (l : Label) (v : List ℕ) → reached s y ≡ Some l → goto_words s n y x v → edge_of t s (N n) ≡ Some g → H g x (extended_label l v)
 
 -- For each token that y represents in s, the label reaches s with this token next.
 abbrev pub SoundLabel : TableData → (ℕ → ℕ → ℕ) → ℕ → ℕ → Label → Type 0
@@ -117,41 +121,43 @@ IsPending Le store queue k w = HasNoLater Le store k w ⊎ QueueHasNoLater Le qu
 
 -- Where the premises of a rule are stored, H holds of its conclusion. Of all complete paths with one goto fact, only
 -- one with a least word needs to be kept.
-pub record ClosedByGotos (t : TableData) (rep : ℕ → ℕ → ℕ) (Le : List ℕ → List ℕ → Type 0) (store : FactKey → Option (List ℕ)) (ways : (from nonterminal first next : ℕ) → List ℕ → Type 0) (H : FactKey → List ℕ → Type 0) : Type 0 where
+pub record ClosedByGotos (t : TableData) (rep : ℕ → ℕ → ℕ) (Le : List ℕ → List ℕ → Type 0) (store : FactKey → Option (List ℕ)) (goto_words : (from nonterminal first next : ℕ) → List ℕ → Type 0) (H : FactKey → List ℕ → Type 0) : Type 0 where
   pub begins : (r p a : ℕ) → r < length t.states → a < t.grammar.tokens → length t.grammar.starts ≤ p → p < production_count t.grammar → HasGoto t r p → H (key r p 0 (rep r a) (rep r a)) []
   pub shifts : (r p d a x z s j : ℕ) (v : List ℕ) → store (key r p d a (rep s x)) ≡ Some v → IsPathEnd t r p d s → slice_get (rhs_of t.grammar p) d ≡ Some (T x) → run_move_of t s (x ∷ []) ≡ Shifts j → z < t.grammar.tokens
       → H (key r p (suc d) a (rep j z)) (v ++ x ∷ [])
-  pub wholes : (y z q s e g : ℕ) (v : List ℕ) → store (key s q (length (rhs_of t.grammar q)) y (rep e z)) ≡ Some v → IsPathEnd t s q (length (rhs_of t.grammar q)) e → run_move_of t e (z ∷ []) ≡ Reduces q
-      → edge_of t s (N (lhs_of t.grammar q)) ≡ Some g → z < t.grammar.tokens → (u : List ℕ) × ways s (lhs_of t.grammar q) y (rep g z) u × Le u v
-  pub joins : (r p d a y s n x : ℕ) (u v : List ℕ) → store (key r p d a y) ≡ Some u → IsPathEnd t r p d s → slice_get (rhs_of t.grammar p) d ≡ Some (N n) → ways s n y x v → H (key r p (suc d) a x) (u ++ v)
+  pub complete_paths : (y z q s e g : ℕ) (v : List ℕ) → store (key s q (length (rhs_of t.grammar q)) y (rep e z)) ≡ Some v → IsPathEnd t s q (length (rhs_of t.grammar q)) e → run_move_of t e (z ∷ []) ≡ Reduces q
+      → edge_of t s (N (lhs_of t.grammar q)) ≡ Some g → z < t.grammar.tokens → (u : List ℕ) × goto_words s (lhs_of t.grammar q) y (rep g z) u × Le u v
+  pub joins : (r p d a y s n x : ℕ) (u v : List ℕ) → store (key r p d a y) ≡ Some u → IsPathEnd t r p d s → slice_get (rhs_of t.grammar p) d ≡ Some (N n) → goto_words s n y x v → H (key r p (suc d) a x) (u ++ v)
 
 -- The invariant of the best-first search, between two steps.
-pub record SearchInvariant (t : TableData) (rep : ℕ → ℕ → ℕ) (Le : List ℕ → List ℕ → Type 0) (store : FactKey → Option (List ℕ)) (ways : (from nonterminal first next : ℕ) → List ℕ → Type 0) (queue : FactKey → List ℕ → Type 0) : Type 0 where
-  pub closed : ClosedByGotos t rep Le store ways (IsPending Le store queue)
+pub record SearchInvariant (t : TableData) (rep : ℕ → ℕ → ℕ) (Le : List ℕ → List ℕ → Type 0) (store : FactKey → Option (List ℕ)) (goto_words : (from nonterminal first next : ℕ) → List ℕ → Type 0) (queue : FactKey → List ℕ → Type 0) : Type 0 where
+  pub closed : ClosedByGotos t rep Le store goto_words (IsPending Le store queue)
   pub stored : (k : FactKey) (u : List ℕ) → store k ≡ Some u → SoundFact t rep k u
   pub queued : (k : FactKey) (u : List ℕ) → queue k u → SoundFact t rep k u
   -- Stored words come no later than words in the queue.
   pub before : (k l : FactKey) (u m : List ℕ) → store k ≡ Some u → queue l m → Le u m
 
--- A step of the search, which settles the key k with the word m: how the store, the goto facts and the queue change.
-pub record SettlingStep (t : TableData) (rep : ℕ → ℕ → ℕ) (Le : List ℕ → List ℕ → Type 0) (store new : FactKey → Option (List ℕ)) (ways over : (from nonterminal first next : ℕ) → List ℕ → Type 0) (queue later : FactKey → List ℕ → Type 0) (k : FactKey) (m : List ℕ) : Type 0 where
+-- A step of the search, which settles the key k with the word m. It changes the store from `store` to `new`, the goto
+-- facts from `goto_words` to `over`, and the queue from `queue` to `later`.
+pub record SettlingStep (t : TableData) (rep : ℕ → ℕ → ℕ) (Le : List ℕ → List ℕ → Type 0) (store new : FactKey → Option (List ℕ)) (goto_words over : (from nonterminal first next : ℕ) → List ℕ → Type 0) (queue later : FactKey → List ℕ → Type 0) (k : FactKey) (m : List ℕ) : Type 0 where
   pub only : (other : FactKey) (u : List ℕ) → new other ≡ Some u → (store other ≡ Some u) ⊎ ((other ≡ k) × (u ≡ m))
   pub kept : (other : FactKey) (u : List ℕ) → store other ≡ Some u → new other ≡ Some u
-  pub here : new k ≡ Some m
-  pub waits : (other : FactKey) (u : List ℕ) → queue other u → later other u ⊎ ((v : List ℕ) × (new other ≡ Some v) × Le v u)
-  pub ways_kept : (s n y x : ℕ) (v : List ℕ) → ways s n y x v → over s n y x v
+  pub settled : new k ≡ Some m
+  pub still_pending : (other : FactKey) (u : List ℕ) → queue other u → later other u ⊎ ((v : List ℕ) × (new other ≡ Some v) × Le v u)
+  pub gotos_kept : (s n y x : ℕ) (v : List ℕ) → goto_words s n y x v → over s n y x v
   pub shifts : (r p d a x z s j : ℕ) → key r p d a (rep s x) ≡ k → IsPathEnd t r p d s → slice_get (rhs_of t.grammar p) d ≡ Some (T x) → run_move_of t s (x ∷ []) ≡ Shifts j → z < t.grammar.tokens → IsPending Le new later (key r p (suc d) a (rep j z)) (m ++ x ∷ [])
-  pub wholes : (y z q s e g : ℕ) → key s q (length (rhs_of t.grammar q)) y (rep e z) ≡ k → IsPathEnd t s q (length (rhs_of t.grammar q)) e → run_move_of t e (z ∷ []) ≡ Reduces q → edge_of t s (N (lhs_of t.grammar q)) ≡ Some g → z < t.grammar.tokens
+  pub complete_paths : (y z q s e g : ℕ) → key s q (length (rhs_of t.grammar q)) y (rep e z) ≡ k → IsPathEnd t s q (length (rhs_of t.grammar q)) e → run_move_of t e (z ∷ []) ≡ Reduces q → edge_of t s (N (lhs_of t.grammar q)) ≡ Some g → z < t.grammar.tokens
       → (u : List ℕ) × over s (lhs_of t.grammar q) y (rep g z) u × Le u m
   -- The conclusions from k as a path and each goto fact after it.
   pub path : (r p d a y s n x : ℕ) (v : List ℕ) → key r p d a y ≡ k → IsPathEnd t r p d s → slice_get (rhs_of t.grammar p) d ≡ Some (N n) → over s n y x v → IsPending Le new later (key r p (suc d) a x) (m ++ v)
   -- The conclusions from each stored path and each new goto fact after it.
-  pub over_more : (r p d a y s n x : ℕ) (u v : List ℕ) → store (key r p d a y) ≡ Some u → IsPathEnd t r p d s → slice_get (rhs_of t.grammar p) d ≡ Some (N n) → over s n y x v → ways s n y x v ⊎ IsPending Le new later (key r p (suc d) a x) (u ++ v)
+  pub new_gotos : (r p d a y s n x : ℕ) (u v : List ℕ) → store (key r p d a y) ≡ Some u → IsPathEnd t r p d s → slice_get (rhs_of t.grammar p) d ≡ Some (N n) → over s n y x v → goto_words s n y x v ⊎ IsPending Le new later (key r p (suc d) a x) (u ++ v)
   pub sound : (other : FactKey) (u : List ℕ) → later other u → SoundFact t rep other u
   pub after : (other : FactKey) (u : List ℕ) → later other u → Le m u
 
--- Each token is reduced on exactly where its representative is, and the two have one representative in the reducing
--- state.
+-- For each complete path and its goto: the path's last state e reduces the production on a token exactly if it does so
+-- on the token's representative in the target g of the goto. Then the token and this representative have the same
+-- representative in e.
 pub record RepresentativesAgree (t : TableData) (rep : ℕ → ℕ → ℕ) : Type 0 where
-  pub there : (s q e g z : ℕ) → IsPathEnd t s q (length (rhs_of t.grammar q)) e → edge_of t s (N (lhs_of t.grammar q)) ≡ Some g → z < t.grammar.tokens → run_move_of t e (z ∷ []) ≡ Reduces q → (run_move_of t e (rep g z ∷ []) ≡ Reduces q) × (rep e z ≡ rep e (rep g z))
-  pub back : (s q e g z : ℕ) → IsPathEnd t s q (length (rhs_of t.grammar q)) e → edge_of t s (N (lhs_of t.grammar q)) ≡ Some g → z < t.grammar.tokens → run_move_of t e (rep g z ∷ []) ≡ Reduces q → run_move_of t e (z ∷ []) ≡ Reduces q
+  pub to_representative : (s q e g z : ℕ) → IsPathEnd t s q (length (rhs_of t.grammar q)) e → edge_of t s (N (lhs_of t.grammar q)) ≡ Some g → z < t.grammar.tokens → run_move_of t e (z ∷ []) ≡ Reduces q → (run_move_of t e (rep g z ∷ []) ≡ Reduces q) × (rep e z ≡ rep e (rep g z))
+  pub from_representative : (s q e g z : ℕ) → IsPathEnd t s q (length (rhs_of t.grammar q)) e → edge_of t s (N (lhs_of t.grammar q)) ≡ Some g → z < t.grammar.tokens → run_move_of t e (rep g z ∷ []) ≡ Reduces q → run_move_of t e (z ∷ []) ≡ Reduces q

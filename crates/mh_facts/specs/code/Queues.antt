@@ -8,7 +8,7 @@ abbrev pub items_of : {X : Type 0} → Option (Vec X) → List X
 items_of None = []
 items_of (Some v) = v.items
 
--- The items of row n, or none if there is no such row.
+-- The items of row n; none if there is no row n.
 abbrev pub row_of : {X : Type 0} → List (Vec X) → ℕ → List X
 row_of rows n = items_of (slice_get rows n)
 
@@ -32,7 +32,7 @@ IsOne cost i c o = (c ≡ cost) × (o ≡ i)
 
 -- The item i is taken out of the queue.
 pub record TakesItem {X : Type 0} (old new : List (Vec X)) (cost : ℕ) (i : X) : Type 0 where
-  pub was : Waits old cost i
+  pub waited : Waits old cost i
   pub kept : (c : ℕ) (o : X) → Waits old c o → Waits new c o ⊎ IsOne cost i c o
   pub only : (c : ℕ) (o : X) → Waits new c o → Waits old c o
   pub fewer : length (row_of new cost) < length (row_of old cost)
@@ -58,7 +58,7 @@ Below rule n cost o = (k : ℕ) × (k < n) × rule k cost o
 -- The item x is added to the row n, and the other rows stay.
 pub record AddsToRow {X : Type 0} (old new : List (Vec X)) (n : ℕ) (x : X) : Type 0 where
   pub rows : length new ≡ length old
-  pub here : Contains (row_of new n) x
+  pub added : Contains (row_of new n) x
   pub kept : (m : ℕ) (y : X) → Contains (row_of old m) y → Contains (row_of new m) y
   pub only : (m : ℕ) (y : X) → Contains (row_of new m) y → Contains (row_of old m) y ⊎ ((m ≡ n) × (y ≡ x))
 

@@ -33,8 +33,8 @@ pub record InRange (t : TableData) (p : SettledFact) : Type 0 where
   pub cost : p.cost ≤ cap
 
 -- The settled fact of a queued fact, with its cost.
-abbrev pub path_of : ℕ → QueuedFact → SettledFact
-path_of cost i = record { key = i.key; end = i.end; cost = cost }
+abbrev pub settled_of : ℕ → QueuedFact → SettledFact
+settled_of cost i = record { key = i.key; end = i.end; cost = cost }
 
 -- The key with the dot moved past one more symbol, and with the token z next.
 abbrev pub key_further : FactKey → ℕ → FactKey
@@ -42,20 +42,20 @@ key_further k z = record { from = k.from; production = k.production; dot = k.dot
 
 -- The fact o extends the path p by a token that is shifted.
 pub record FollowsShift (t : TableData) (rep : ℕ → ℕ → ℕ) (p : SettledFact) (cost : ℕ) (o : QueuedFact) : Type 0 where
-  pub x : ℕ
+  pub shifted : ℕ
   pub end : ℕ
-  pub z : ℕ
-  pub symbol : slice_get (rhs_of t.grammar p.key.production) p.key.dot ≡ Some (T x)
-  pub token : rep p.end x ≡ p.key.next
-  pub move : run_move_of t p.end (x ∷ []) ≡ Shifts end
-  pub known : z < t.grammar.tokens
-  pub cost_is : cost ≡ min (p.cost + cost_of_token t x) cap
-  pub is : o ≡ record { key = key_further p.key (rep end z); end = end; back = backs.Shifted p.key }
+  pub following : ℕ
+  pub symbol : slice_get (rhs_of t.grammar p.key.production) p.key.dot ≡ Some (T shifted)
+  pub token : rep p.end shifted ≡ p.key.next
+  pub move : run_move_of t p.end (shifted ∷ []) ≡ Shifts end
+  pub known : following < t.grammar.tokens
+  pub cost_is : cost ≡ min (p.cost + cost_of_token t shifted) cap
+  pub is : o ≡ record { key = key_further p.key (rep end following); end = end; back = backs.Shifted p.key }
 
 -- The goto of w begins where the path p ends, on the nonterminal after the dot of p and with the token that p has next.
 pub record Fits (t : TableData) (p : SettledFact) (w : CompletePath) : Type 0 where
   pub symbol : slice_get (rhs_of t.grammar p.key.production) p.key.dot ≡ Some (N w.nonterminal)
-  pub meets : w.inner.from ≡ p.end
+  pub at_end : w.inner.from ≡ p.end
   pub begins : w.inner.first ≡ p.key.next
 
 pub record FollowsGoto (t : TableData) (p : SettledFact) (w : CompletePath) (cost : ℕ) (o : QueuedFact) : Type 0 where
@@ -63,7 +63,8 @@ pub record FollowsGoto (t : TableData) (p : SettledFact) (w : CompletePath) (cos
   pub cost_is : cost ≡ min (p.cost + w.cost) cap
   pub is : o ≡ record { key = key_further p.key w.next; end = w.target; back = backs.Reduced p.key w.inner }
 
--- Exactly the given item with its cost has the property P, or no item has it.
+-- If an item is given, it is the only one that has the property P with a cost, and it has this cost. If none is given,
+-- no item has the property.
 abbrev pub IsUniqueItem : {Y : Type 0} → (ℕ → Y → Type 0) → ℕ → Option Y → Type 0
 IsUniqueItem {Y} P cost None = (c : ℕ) (o : Y) → P c o → ⊥
 IsUniqueItem {Y} P cost (Some i) = P cost i × ((c : ℕ) (o : Y) → P c o → IsOne cost i c o)
@@ -71,24 +72,25 @@ IsUniqueItem {Y} P cost (Some i) = P cost i × ((c : ℕ) (o : Y) → P c o → 
 -- The path p is complete and is reduced on x, a representative of the state `target` to which the goto on its left side
 -- leads.
 pub record IsReducedOn (t : TableData) (c : TokenClasses) (p : SettledFact) (target x : ℕ) : Type 0 where
-  pub whole : p.key.dot ≡ length (rhs_of t.grammar p.key.production)
+  pub complete : p.key.dot ≡ length (rhs_of t.grammar p.key.production)
   pub edge : edge_of t p.key.from (N (lhs_of t.grammar p.key.production)) ≡ Some target
   pub listed : Contains (representatives_at c target) x
   pub move : run_move_of t p.end (x ∷ []) ≡ Reduces p.key.production
-  pub after : rep_of c p.end x ≡ p.key.next
+  pub representative_is : rep_of c p.end x ≡ p.key.next
 
 -- The complete path p, which is reduced on x, with the goto to `target` on its left side.
-abbrev pub complete_path : TableData → SettledFact → ℕ → ℕ → CompletePath
-complete_path t p target x = record { inner = p.key; nonterminal = lhs_of t.grammar p.key.production; target = target; next = x; cost = p.cost }
+abbrev pub complete_path_of : TableData → SettledFact → ℕ → ℕ → CompletePath
+complete_path_of t p target x = record { inner = p.key; nonterminal = lhs_of t.grammar p.key.production; target = target; next = x; cost = p.cost }
 
--- The goto fact of a complete path.
+-- The goto fact that a complete path gives: the state in which the path begins, the nonterminal on its left side, its
+-- first token, and the next token.
 abbrev pub goto_fact : CompletePath → GotoFact
 goto_fact w = record { from = w.inner.from; nonterminal = w.nonterminal; first = w.inner.first; next = w.next }
 
 -- This complete path is p, reduced on one of the representatives of its target.
 pub record IsCompletePathOf (t : TableData) (c : TokenClasses) (p : SettledFact) (w : CompletePath) : Type 0 where
-  pub goes : IsReducedOn t c p w.target w.next
-  pub is : w ≡ complete_path t p w.target w.next
+  pub reduced : IsReducedOn t c p w.target w.next
+  pub is : w ≡ complete_path_of t p w.target w.next
 
 -- The rows of the queue, by cost.
 abbrev pub queue_of : SearchData → List (Rattle.std.specs.Global.Vec QueuedFact)
@@ -100,22 +102,22 @@ paths_at work n = row_of work.paths.items n
 
 -- The complete paths that are filed at this class number.
 abbrev pub complete_paths_at : SearchData → ℕ → List CompletePath
-complete_paths_at work n = row_of work.wholes.items n
+complete_paths_at work n = row_of work.complete_paths.items n
 
--- The search has recorded this goto fact.
+-- The search has recorded this goto fact (a state, a nonterminal, a first and a next token).
 abbrev pub KnowsGoto : SearchData → GotoFact → Type 0
 KnowsGoto work k = Contains work.known.keys k
 
 -- There is a row for each class number, and the paths in the rows are in range.
 pub record HasRows (t : TableData) (c : TokenClasses) (work : SearchData) : Type 0 where
   pub paths : length work.paths.items ≡ c.places
-  pub wholes : length work.wholes.items ≡ c.places
+  pub complete_paths : length work.complete_paths.items ≡ c.places
   pub each_path : (n : ℕ) (p : SettledFact) → Contains (paths_at work n) p → InRange t p
 
 -- There are rows, and the costs of the complete paths in them are at most the highest cost.
 pub record IsReady (t : TableData) (c : TokenClasses) (work : SearchData) : Type 0 where
   pub rows : HasRows t c work
-  pub each_whole : (n : ℕ) (w : CompletePath) → Contains (complete_paths_at work n) w → w.cost ≤ cap
+  pub each_complete_path : (n : ℕ) (w : CompletePath) → Contains (complete_paths_at work n) w → w.cost ≤ cap
 
 -- The facts that follow from the newly settled fact p and those that were settled before.
 pub data Follows (t : TableData) (c : TokenClasses) (old new : SearchData) (p : SettledFact) (cost : ℕ) (o : QueuedFact) : Type 0 where
@@ -126,7 +128,7 @@ pub data Follows (t : TableData) (c : TokenClasses) (old new : SearchData) (p : 
 -- The settled fact p is filed, and all facts that follow from it wait in the queue.
 pub record ExpandsFact (t : TableData) (c : TokenClasses) (old new : SearchData) (p : SettledFact) : Type 0 where
   pub paths_rows : length new.paths.items ≡ length old.paths.items
-  pub wholes_rows : length new.wholes.items ≡ length old.wholes.items
+  pub complete_paths_rows : length new.complete_paths.items ≡ length old.complete_paths.items
   pub kept : (cost : ℕ) (o : QueuedFact) → Waits (queue_of old) cost o → Waits (queue_of new) cost o
   pub only : (cost : ℕ) (o : QueuedFact) → Waits (queue_of new) cost o → Waits (queue_of old) cost o ⊎ Follows t c old new p cost o
   pub shifts : (cost : ℕ) (o : QueuedFact) → FollowsShift t (rep_of c) p cost o → Waits (queue_of new) cost o
@@ -134,9 +136,9 @@ pub record ExpandsFact (t : TableData) (c : TokenClasses) (old new : SearchData)
   pub path_only : (n : ℕ) (q : SettledFact) → Contains (paths_at new n) q → Contains (paths_at old n) q ⊎ (q ≡ p)
   pub path_here : (n : ℕ) → slice_get (rhs_of t.grammar p.key.production) p.key.dot ≡ Some (N n) → Contains (paths_at new (place_of c p.end p.key.next)) p
   pub path_joins : (w : CompletePath) (cost : ℕ) (o : QueuedFact) → Contains (complete_paths_at new (place_of c p.end p.key.next)) w → FollowsGoto t p w cost o → Waits (queue_of new) cost o
-  pub way_kept : (n : ℕ) (w : CompletePath) → Contains (complete_paths_at old n) w → Contains (complete_paths_at new n) w
-  pub way_only : (n : ℕ) (w : CompletePath) → Contains (complete_paths_at new n) w → Contains (complete_paths_at old n) w ⊎ (IsCompletePathOf t c p w × ((q : SettledFact) (cost : ℕ) (o : QueuedFact) → Contains (paths_at old (place_of c p.key.from p.key.first)) q → FollowsGoto t q w cost o → Waits (queue_of new) cost o))
-  pub way_all : (target x : ℕ) → IsReducedOn t c p target x → KnowsGoto new (goto_fact (complete_path t p target x))
+  pub complete_kept : (n : ℕ) (w : CompletePath) → Contains (complete_paths_at old n) w → Contains (complete_paths_at new n) w
+  pub complete_only : (n : ℕ) (w : CompletePath) → Contains (complete_paths_at new n) w → Contains (complete_paths_at old n) w ⊎ (IsCompletePathOf t c p w × ((q : SettledFact) (cost : ℕ) (o : QueuedFact) → Contains (paths_at old (place_of c p.key.from p.key.first)) q → FollowsGoto t q w cost o → Waits (queue_of new) cost o))
+  pub gotos_known : (target x : ℕ) → IsReducedOn t c p target x → KnowsGoto new (goto_fact (complete_path_of t p target x))
   pub known_kept : (k : GotoFact) → KnowsGoto old k → KnowsGoto new k
   pub known_only : (k : GotoFact) → KnowsGoto new k → KnowsGoto old k ⊎ ((w : CompletePath) × Contains (complete_paths_at new (place_of c k.from k.first)) w × (goto_fact w ≡ k))
 

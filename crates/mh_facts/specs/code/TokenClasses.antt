@@ -36,4 +36,4 @@ pub record AreTokenClasses (t : TableData) (c : TokenClasses) : Type 0 where
   pub in_range : (s z : ℕ) → z < t.grammar.tokens → rep_of c s z < t.grammar.tokens
   pub list_all : (s z : ℕ) → s < length t.states → z < t.grammar.tokens → Contains (representatives_at c s) (rep_of c s z)
   pub list_only : (s x : ℕ) → Contains (representatives_at c s) x → (x < t.grammar.tokens) × (rep_of c s x ≡ x)
-  pub like : RepresentativesAgree t (rep_of c)
+  pub agree : RepresentativesAgree t (rep_of c)

@@ -73,7 +73,7 @@ pub record IsFactOfWord (t : TableData) (words : FactKey → Option (List ℕ)) 
   pub cost_is : f.cost ≡ cost_up_to_cap t word
   -- A word of cost 0 is empty, for each token costs something.
   pub short : f.cost ≡ 0 → word ≡ []
-  pub by : WordBy t words k f.back word
+  pub word_by : WordBy t words k f.back word
   pub size : size_by sizes f.back ≤ sizes k
 
 -- Words for exactly the stored facts, each with the cost of its fact.

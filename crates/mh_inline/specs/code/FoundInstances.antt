@@ -13,7 +13,7 @@ pub record FlagsMatchQueue (f : FoundInstances) : Type 0 where
 pub record AddsFound (P : ℕ → Type 0) (old new : FoundInstances) : Type 0 where
   pub len : length new.flags.items ≡ length old.flags.items
   pub sets : FlagsMatchQueue new
-  pub room : count_by not new.flags.items + length new.queue.items ≡ count_by not old.flags.items + length old.queue.items
+  pub measure : count_by not new.flags.items + length new.queue.items ≡ count_by not old.flags.items + length old.queue.items
   pub kept : (i m : ℕ) → slice_get old.queue.items i ≡ Some m → slice_get new.queue.items i ≡ Some m
   pub origin : (m : ℕ) → Contains new.queue.items m → Contains old.queue.items m ⊎ P m
   pub added : (m : ℕ) → P m → Contains new.queue.items m

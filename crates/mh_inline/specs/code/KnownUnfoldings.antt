@@ -35,6 +35,6 @@ pub record IsNextToUnfold (is : List Instance) (sizes : List (Option Size)) (kno
   pub inlined : is_inlined is n ≡ true
   pub size : Size
   pub sized : slice_get sizes n ≡ Some (Some size)
-  pub right : IsPartSize is (Applied n) size
+  pub size_is : IsPartSize is (Applied n) size
   pub some : (m : ℕ) → Inlines is n m → (us : List Unfolding) × UnfoldsPart is (Applied m) us
-  pub behind : (m : ℕ) (us : List Unfolding) → Inlines is n m → UnfoldsPart is (Applied m) us → AreSmall us → slice_get known m ≡ Some us
+  pub inlined_known : (m : ℕ) (us : List Unfolding) → Inlines is n m → UnfoldsPart is (Applied m) us → AreSmall us → slice_get known m ≡ Some us

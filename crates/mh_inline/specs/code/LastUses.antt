@@ -13,7 +13,7 @@ use Rattle.mh_inline_unfold.specs.code.UsedInstances.{UsesInline}
 pub record IsUsedByKept (is : List Instance) (m : ℕ) : Type 0 where
   pub user : ℕ
   pub kept : is_inlined is user ≡ false
-  pub made : UsesInline is user m
+  pub uses : UsesInline is user m
 
 -- The instance n is not inline and uses the instance m.
 abbrev pub KeptUses : List Instance → ℕ → ℕ → Type 0

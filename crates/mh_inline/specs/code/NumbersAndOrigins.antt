@@ -8,12 +8,12 @@ use Rattle.mh_rules.specs.declared.instances.Part.{Part}
 use Rattle.mh_rules.specs.declared.instances.Part.TheVariants.{Token, Instance as Applied}
 use Rattle.mh_rules.specs.declared.instances.Instance.{Instance}
 use Rattle.mh_inline.specs.declared.origins.Origin.{Origin}
-use Rattle.mh_inline.specs.Kept.{number_of, IsOrigin, IsOriginBefore}
+use Rattle.mh_inline.specs.Kept.{nonterminal_number, IsOrigin, IsOriginBefore}
 
 -- The list has the number of each instance as a nonterminal.
 pub record AreNumbers (is : List Instance) (numbers : List ℕ) : Type 0 where
   pub len : length numbers ≡ length is
-  pub each : (n : ℕ) → n < length is → slice_index numbers n ≡ number_of is n
+  pub each : (n : ℕ) → n < length is → slice_index numbers n ≡ nonterminal_number is n
 
 abbrev pub symbol_by : List ℕ → Part → Symbol
 symbol_by numbers (Token a) = T a

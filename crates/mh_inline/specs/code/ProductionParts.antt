@@ -9,7 +9,7 @@ use Rattle.mh_rules.specs.declared.instances.Instance.{Instance}
 use Rattle.mh_rules.specs.declared.instances.InstanceProduction.{InstanceProduction}
 use Rattle.mh_inline_unfold.specs.declared.unfolding.Unfolding.{Unfolding}
 use Rattle.mh_inline.specs.declared.origins.Origin.{Origin}
-use Rattle.mh_inline_unfold.specs.declared.sizes.TheConstants.{MAX_PRODUCTIONS, MAX_SYMBOLS}
+use Rattle.mh_inline_unfold.specs.Limits.{max_productions, max_symbols}
 use Rattle.mh_inline_unfold.specs.declared.sizes.Size.{Size}
 use Rattle.mh_inline_unfold.specs.Instances.{IsAlternative}
 use Rattle.mh_rules.specs.Ready.{IsPartBelow}
@@ -32,15 +32,15 @@ longest_side (p ∷ ps) = max (length p.rhs) (longest_side ps)
 -- The size of the productions of these origins; both numbers are capped at one more than their limits.
 pub record IsOriginsSize (tokens : List TokenInfo) (is : List Instance) (origins : List Origin) (z : Size) : Type 0 where
   pub productions : List Production
-  pub made : AreProductions tokens is origins productions
-  pub count : z.count ≡ min (length productions) (MAX_PRODUCTIONS + 1)
-  pub longest : z.longest ≡ min (longest_side productions) (MAX_SYMBOLS + 1)
+  pub are_productions : AreProductions tokens is origins productions
+  pub count : z.count ≡ min (length productions) (max_productions + 1)
+  pub longest : z.longest ≡ min (longest_side productions) (max_symbols + 1)
 
 pub record AreOriginsSmall (tokens : List TokenInfo) (is : List Instance) (origins : List Origin) : Type 0 where
   pub productions : List Production
-  pub made : AreProductions tokens is origins productions
-  pub few : length productions ≤ MAX_PRODUCTIONS
-  pub short : longest_side productions ≤ MAX_SYMBOLS
+  pub are_productions : AreProductions tokens is origins productions
+  pub few : length productions ≤ max_productions
+  pub short : longest_side productions ≤ max_symbols
 
 -- The productions of an origin have been appended.
 pub record AddsOrigin (tokens : List TokenInfo) (is : List Instance) (s : Origin) (old new : List Production) : Type 0 where

@@ -19,7 +19,7 @@ pub record HasEmptyStart (e : Expanded) (place : ℕ) : Type 0 where
   pub kept : HasNoInlineStart e
   pub grammar : Grammar
   pub inlined : IsInlined e grammar
-  pub small : IsWithinLimits grammar
+  pub within_limits : IsWithinLimits grammar
   pub number : ℕ
   pub at : slice_get e.starts place ≡ Some number
   pub first : IsFirstEmptyAt e grammar number

@@ -7,7 +7,7 @@ use Rattle.mh_rules.specs.declared.instances.Part.TheVariants.{Instance as Appli
 use Rattle.mh_rules.specs.declared.instances.InstanceProduction.{InstanceProduction}
 use Rattle.mh_rules.specs.declared.instances.Instance.{Instance}
 use Rattle.mh_inline_unfold.specs.declared.unfolding.Unfolding.{Unfolding}
-use Rattle.mh_inline_unfold.specs.declared.sizes.TheConstants.{MAX_PRODUCTIONS, MAX_SYMBOLS}
+use Rattle.mh_inline_unfold.specs.Limits.{max_productions, max_symbols}
 use Rattle.mh_inline_unfold.specs.declared.sizes.Size.{Size}
 use Rattle.mh_inline_unfold.specs.declared.sizes.SizeTable.{SizeTable}
 use Rattle.mh_inline_unfold.specs.Instances.{is_inlined, Inlines}
@@ -19,17 +19,17 @@ longest (u ∷ us) = max (length u.rhs) (longest us)
 
 -- Both numbers are exact, but capped at one more than their limits.
 pub record IsSize (us : List Unfolding) (s : Size) : Type 0 where
-  pub count : s.count ≡ min (length us) (MAX_PRODUCTIONS + 1)
-  pub longest : s.longest ≡ min (longest us) (MAX_SYMBOLS + 1)
+  pub count : s.count ≡ min (length us) (max_productions + 1)
+  pub longest : s.longest ≡ min (longest us) (max_symbols + 1)
 
 -- The unfoldings are within the limits.
 pub record AreSmall (us : List Unfolding) : Type 0 where
-  pub few : length us ≤ MAX_PRODUCTIONS
-  pub short : longest us ≤ MAX_SYMBOLS
+  pub few : length us ≤ max_productions
+  pub short : longest us ≤ max_symbols
 
 abbrev pub IsSmallSize : Option Size → Type 0
 IsSmallSize None = ⊥
-IsSmallSize (Some s) = (s.count ≤ MAX_PRODUCTIONS) × (s.longest ≤ MAX_SYMBOLS)
+IsSmallSize (Some s) = (s.count ≤ max_productions) × (s.longest ≤ max_symbols)
 
 -- The size of the unfoldings of a producer, of a list of producers, and of a list of alternatives.
 pub record IsPartSize (is : List Instance) (X : Part) (s : Size) : Type 0 where
@@ -81,10 +81,10 @@ pub record IsOrdered (is : List Instance) (sizes : List (Option Size)) (before :
   pub inlined : is_inlined is n ≡ true
   pub size : Size
   pub sized : slice_get sizes n ≡ Some (Some size)
-  pub behind : (m : ℕ) → Inlines is n m → Contains before m
+  pub inlined_before : (m : ℕ) → Inlines is n m → Contains before m
 
 pub record AreOrdered (is : List Instance) (sizes : List (Option Size)) (order : List ℕ) : Type 0 where
-  pub right : AreSizes is sizes
+  pub are_sizes : AreSizes is sizes
   pub listed : (n : ℕ) (z : Size) → slice_get sizes n ≡ Some (Some z) → Contains order n
   pub ordered : (i n : ℕ) → slice_get order i ≡ Some n → IsOrdered is sizes (take i order) n
 

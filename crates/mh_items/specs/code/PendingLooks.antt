@@ -31,9 +31,9 @@ AreQueued done s = (n : ℕ) → IsWaiting s n → (i : ℕ) × (done ≤ i) × 
 pub record ArePendingLooks {W : ℕ} (s : PendingLooks W) : Type 0 where
   pub rows : vec_len s.waiting ≡ vec_len s.looks
   pub sets : All (IsSet W) s.looks.items
-  pub busy : (n : ℕ) → Contains s.queue.items n → (b : Look) × HasLook s n b
-  pub touched : (n : ℕ) (b : Look) → HasLook s n b → Contains s.queue.items n
-  pub stands : (n : ℕ) → IsWaiting s n → Contains s.queue.items n
+  pub queued_has_look : (n : ℕ) → Contains s.queue.items n → (b : Look) × HasLook s n b
+  pub looks_queued : (n : ℕ) (b : Look) → HasLook s n b → Contains s.queue.items n
+  pub waiting_queued : (n : ℕ) → IsWaiting s n → Contains s.queue.items n
 
 -- The record is for `rows` nonterminals, and holds no looks.
 pub record HasNoLooks {W : ℕ} (rows : ℕ) (s : PendingLooks W) : Type 0 where
@@ -41,7 +41,7 @@ pub record HasNoLooks {W : ℕ} (rows : ℕ) (s : PendingLooks W) : Type 0 where
   pub size : vec_len s.looks ≡ rows
   pub empty : (n : ℕ) (b : Look) → HasLook s n b → ⊥
   pub queue : s.queue.items ≡ []
-  pub rest : (n : ℕ) → IsWaiting s n → ⊥
+  pub none_waits : (n : ℕ) → IsWaiting s n → ⊥
 
 -- The new record has the looks of the old one and those of P, and no others.
 pub record AddsLooks {W : ℕ} (P : ℕ → Look → Type 0) (old new : PendingLooks W) : Type 0 where
@@ -50,20 +50,20 @@ pub record AddsLooks {W : ℕ} (P : ℕ → Look → Type 0) (old new : PendingL
   pub kept : (n : ℕ) (b : Look) → HasLook old n b → HasLook new n b
   pub origin : (n : ℕ) (b : Look) → HasLook new n b → HasLook old n b ⊎ P n b
   pub added : (n : ℕ) (b : Look) → P n b → HasLook new n b
-  pub waits : (n : ℕ) → IsWaiting old n → IsWaiting new n
+  pub still_waiting : (n : ℕ) → IsWaiting old n → IsWaiting new n
   pub changes : (n : ℕ) → IsWaiting new n ⊎ (looks_at new n ≡ looks_at old n)
-  pub front : (i n : ℕ) → slice_get old.queue.items i ≡ Some n → slice_get new.queue.items i ≡ Some n
+  pub queue_extends : (i n : ℕ) → slice_get old.queue.items i ≡ Some n → slice_get new.queue.items i ≡ Some n
   pub queued : (done : ℕ) → done ≤ length old.queue.items → AreQueued done old → AreQueued done new
   pub less : work_left new ≤ work_left old
 
 -- The look is in the list, and the nonterminal is n.
 pub record IsLookFor (n : ℕ) (looks : List Look) (m : ℕ) (b : Look) : Type 0 where
-  pub row : m ≡ n
+  pub same : m ≡ n
   pub among : Contains looks b
 
 -- The link passes the look on to its nonterminal, from a nonterminal with the given looks.
 pub record IsPassedOn {W : ℕ} (looks : List Look) (link : FirstLink W) (n : ℕ) (b : Look) : Type 0 where
-  pub row : n ≡ link.to
+  pub target_is : n ≡ link.to
   pub passed : Contains link.tokens b ⊎ ((link.passes ≡ true) × Contains looks b)
 
 -- One of the links passes the look on to the nonterminal n, from a nonterminal with the given looks.

@@ -11,7 +11,7 @@ pub record IsAfterDot (g : PlainGrammar) (k : Kernel) (X : Symbol) : Type 0 wher
   pub production : ℕ
   pub dot : ℕ
   pub place : HasCoreItem k production dot
-  pub behind : slice_get (rhs_of g production) dot ≡ Some X
+  pub at_dot : slice_get (rhs_of g production) dot ≡ Some X
 
 -- The kernel k lists the move of the closure on X.
 pub record IsMove (g : PlainGrammar) (closed : Items) (X : Symbol) (k : Kernel) : Type 0 where

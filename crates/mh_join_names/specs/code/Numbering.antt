@@ -39,9 +39,13 @@ pub record AddsNumber (old : Numbering) (owner : Option ℕ) (name : Text) (numb
   pub rules : new.rules.items ≡ old.rules.items
   pub owners : length new.own.items ≡ length old.own.items
 
+-- The outline of the rule r of file k, where `all` are the rules of the file and `starts` the names of the start
+-- symbols, which are public.
 abbrev pub outline_in : List Text → ℕ → List Rule → Rule → Outline
 outline_in starts k all r = outline_by (owner_in starts k all r.name) r
 
+-- The outlines of the rules of a file, which is given by its number and its module; `starts` are the names of the start
+-- symbols.
 abbrev pub outlines_in : List Text → ℕ × Module → List Outline
 outlines_in starts f = map (outline_in starts f.0 f.1.rules) f.1.rules
 

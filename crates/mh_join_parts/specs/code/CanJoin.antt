@@ -1,7 +1,7 @@
 -- The preconditions of building the joined files: every name in the rules is defined, also the name `error`.
 use Rattle.std.specs.Prelude.{◌≡◌, ◌≤◌, ◌++◌, [], ℕ, length, false, List, map, Option, Some, slice_get}
 use Rattle.std.specs.List.{All, flat_map}
-use Rattle.mh_rules.specs.declared.joined.TheConstants.{MAX_TOKENS}
+use Rattle.mh_rules.specs.Limits.{max_tokens}
 use Rattle.mh_rules.specs.declared.modules.Ref.{Ref}
 use Rattle.mh_rules.specs.declared.modules.Alternative.{Alternative}
 use Rattle.mh_rules.specs.declared.modules.Rule.{Rule}
@@ -40,7 +40,7 @@ unresolved_on_error w f = flat_map (undefined_in_on_error (meant_by w f.0 (forma
 -- The files can be joined: they have no fault that would stop the building, and no actual in them or in the prelude is
 -- too deep.
 pub record CanJoin (n : SymbolTables) (ms : List Module) (from_prelude : List Rule) : Type 0 where
-  pub few : length n.tokens.keys ≤ MAX_TOKENS
+  pub few : length n.tokens.keys ≤ max_tokens
   pub starts : flat_map (undefined_start (meanings_in n)) (meanings_in n).starts ≡ []
   pub on_error : flat_map (unresolved_on_error (meanings_in n)) (files ms) ≡ []
   pub rules : flat_map (unresolved_in_file (meanings_in n)) (files ms) ≡ []

@@ -59,7 +59,7 @@ impl Shelf for MemShelf {
         requires asked { ⊤ }
         ensures answer { ReadsFile (Some (shelf_files self.old)) name.now limit result }
         ensures kept { Some (shelf_files self.new) ≡ Some (shelf_files self.old) }
-        ensures may_still { (other : List ℕ) → ⊤ → ⊤ }
+        ensures may_ask { (other : List ℕ) → ⊤ → ⊤ }
         ensures counts { CountsShelfFault (shelf_calls self.old).faults (shelf_calls self.new).faults result }
         ensures fails { FailsExactly (fails_next (shelf_calls self.old)) result }
         ensures calls { shelf_calls self.new ≡ after_call (fails_next (shelf_calls self.old)) (shelf_calls self.old) }

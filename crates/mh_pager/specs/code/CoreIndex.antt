@@ -18,11 +18,11 @@ pub record AreGroupsOfCores (places : GroupNumbers) (groups : List (List ℕ)) :
 
 -- State n, with the kernel k, is in the group of its core.
 pub record IsInItsGroup (places : GroupNumbers) (groups : List (List ℕ)) (k : Kernel) (n : ℕ) : Type 0 where
-  pub core : ℕ
+  pub group_number : ℕ
   pub group : List ℕ
-  pub at : Contains places (core_of k, core)
-  pub of_core : slice_get groups core ≡ Some group
-  pub has : Contains group n
+  pub at : Contains places (core_of k, group_number)
+  pub of_core : slice_get groups group_number ≡ Some group
+  pub in_group : Contains group n
 
 -- The index is correct for the kernels: each group holds exactly the states with its core, rising.
 pub record IsCoreIndex (kernels : List Kernel) (places : GroupNumbers) (groups : List (List ℕ)) : Type 0 where
@@ -36,4 +36,4 @@ pub record IsCoreIndex (kernels : List Kernel) (places : GroupNumbers) (groups :
 pub record HasGroupNumber (places : GroupNumbers) (groups : List (List ℕ)) (core : Kernel) (c : ℕ) : Type 0 where
   pub group : List ℕ
   pub at : Contains places (core, c)
-  pub of : slice_get groups c ≡ Some group
+  pub group_is : slice_get groups c ≡ Some group

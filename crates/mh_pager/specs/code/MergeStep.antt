@@ -17,18 +17,18 @@ with_oldest l n = record { kernels = l.kernels.items; rows = l.rows.items; queue
 
 -- The row has an edge for each symbol, to the state where the move of the closure on this symbol was placed.
 pub record IsPlacedRow (g : PlainGrammar) (closed : Items) (symbols : List Symbol) (row : List Edge) (old new : MergeState) : Type 0 where
-  pub on : edge_symbols row ≡ symbols
-  pub put : (k : Kernel) → AreSameItems (Holds closed) (Close g (Holds k)) → PlacesMoves g k symbols (targets_of row) old new
+  pub symbols_are : edge_symbols row ≡ symbols
+  pub moves_placed : (k : Kernel) → AreSameItems (Holds closed) (Close g (Holds k)) → PlacesMoves g k symbols (targets_of row) old new
 
 -- The list holds more states than the limit after the moves on some prefix of the symbols were placed.
 pub record ExceedsAtPrefix (g : PlainGrammar) (closed : Items) (symbols : List Symbol) (old : MergeState) (limit : ℕ) : Type 0 where
-  pub front : List Symbol
+  pub prefix : List Symbol
   pub rest : List Symbol
-  pub are : symbols ≡ front ++ rest
+  pub split : symbols ≡ prefix ++ rest
   pub targets : List ℕ
   pub placed : MergeState
-  pub put : (k : Kernel) → AreSameItems (Holds closed) (Close g (Holds k)) → PlacesMoves g k front targets old placed
-  pub over : limit < length placed.kernels
+  pub moves_placed : (k : Kernel) → AreSameItems (Holds closed) (Close g (Holds k)) → PlacesMoves g k prefix targets old placed
+  pub exceeds : limit < length placed.kernels
 
 -- All moves are placed, or the list exceeds the limit, for every closure with these moves.
 abbrev pub PlacesAllMoves : PlainGrammar → List Move → MergeState → MergeState → List Edge → Type 0

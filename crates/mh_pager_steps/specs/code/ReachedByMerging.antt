@@ -16,7 +16,7 @@ pub record IsWellFormed (g : PlainGrammar) (w : MergeState) : Type 0 where
 -- The steps reach this moment from the first moment.
 pub record IsReachedByMerging (g : PlainGrammar) (w : MergeState) : Type 0 where
   pub first : MergeState
-  pub begun : IsInitial g first
+  pub is_initial : IsInitial g first
   pub steps : MergeSteps g first w
 
 -- The first `count` start kernels, all of them queued.

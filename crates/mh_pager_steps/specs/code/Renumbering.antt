@@ -6,23 +6,23 @@ use Rattle.mh_grammar.specs.Numbering.{AreDistinct, IsNumbering}
 use Rattle.mh_grammar.specs.Placed.{AllPlaced}
 use Rattle.mh_items_kernels.specs.Collection.{targets_of, edge_symbols}
 use Rattle.mh_pager_steps.specs.MergeSteps.{HasTargets, HasSymbolsOfRow}
-use Rattle.mh_canon_states.specs.declared.limits.TheConstants.{MAX_STATES}
+use Rattle.mh_canon_states.specs.Limits.{max_states}
 
 -- The numbers are different and below the upper bound `count`.
 pub record AreDistinctBelow (count : ℕ) (states : List ℕ) : Type 0 where
   pub distinct : AreDistinct states
   pub below : All (λ n. n < count) states
 
--- The states, and the targets of a row, are below some number of states that is within `MAX_STATES`.
+-- The states, and the targets of a row, are below some number of states that is within `max_states`.
 pub record AreWithinLimit (states : List ℕ) (row : List Edge) : Type 0 where
   pub count : ℕ
-  pub few : count ≤ MAX_STATES
+  pub few : count ≤ max_states
   pub below : AreDistinctBelow count states
   pub targets : All (λ t. t < count) (targets_of row)
 
 -- The new row has the symbols of the old row and the new numbers of its targets; states without a number were appended.
 pub record IsRenumbered (row new : List Edge) (old states : List ℕ) : Type 0 where
-  pub on : edge_symbols new ≡ edge_symbols row
+  pub symbols_are : edge_symbols new ≡ edge_symbols row
   pub placed : AllPlaced old states (targets_of row) (targets_of new)
 
 -- The list holds the states that the starts reach, with their renumbered edges.

@@ -77,12 +77,12 @@ IsBestBelow t c facts spots s n (Some b) = ((z : ℕ) (r : Arrival) → z < n �
 
 -- The best candidate of each state below n.
 pub record AreBest (t : TableData) (c : TokenClasses) (facts : Facts) (spots : ArrivalList) (n : ℕ) (best : List (Option FailureCandidate)) : Type 0 where
-  pub long : length best ≡ n
+  pub len : length best ≡ n
   pub each : (s : ℕ) (b : Option FailureCandidate) → slice_get best s ≡ Some b → IsBestBelow t c facts spots s t.grammar.tokens b
 
 -- The result of both searches, with the best candidate of each state.
 pub record IsReachResult (t : TableData) (facts : Facts) (spots : ArrivalList) (best : List (Option FailureCandidate)) : Type 0 where
-  pub tale : WordAssignment t facts
-  pub journey : LabelAssignment t tale.words spots
-  pub long : length best ≡ length t.states
-  pub each : (s : ℕ) (b : Option FailureCandidate) → slice_get best s ≡ Some b → IsBestAt t tale.words journey.labels s b
+  pub word_assignment : WordAssignment t facts
+  pub label_assignment : LabelAssignment t word_assignment.words spots
+  pub len : length best ≡ length t.states
+  pub each : (s : ℕ) (b : Option FailureCandidate) → slice_get best s ≡ Some b → IsBestAt t word_assignment.words label_assignment.labels s b

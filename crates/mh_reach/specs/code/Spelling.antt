@@ -13,11 +13,11 @@ use Rattle.mh_reach_found.specs.code.Arrivals.{ArrivalList, LabelAssignment}
 
 -- The fact has a word.
 abbrev pub HasWord : TableData → Facts → FactKey → Type 0
-HasWord t facts k = (tale : WordAssignment t facts) × (w : List ℕ) × (tale.words k ≡ Some w)
+HasWord t facts k = (word_assignment : WordAssignment t facts) × (w : List ℕ) × (word_assignment.words k ≡ Some w)
 
 -- The word of the fact is written before the tokens that are written already.
 abbrev pub WritesWord : TableData → Facts → FactKey → List ℕ → List ℕ → Type 0
-WritesWord t facts k old new = (tale : WordAssignment t facts) (w : List ℕ) → tale.words k ≡ Some w → reverse new ≡ w ++ reverse old
+WritesWord t facts k old new = (word_assignment : WordAssignment t facts) (w : List ℕ) → word_assignment.words k ≡ Some w → reverse new ≡ w ++ reverse old
 
 -- The fact is replaced on the stack by the facts that it was derived from, and the token that its word ends with is
 -- written.
@@ -37,8 +37,8 @@ WordsOf words (k ∷ ks) u = (v : List ℕ) × (r : List ℕ) × (words k ≡ So
 
 -- The spot is reached, and has a label.
 abbrev pub HasLabel : TableData → Facts → ArrivalList → StateAndNext → Type 0
-HasLabel t facts spots k = (tale : WordAssignment t facts) × (journey : LabelAssignment t tale.words spots) × (l : Label) × (journey.labels k ≡ Some l)
+HasLabel t facts spots k = (word_assignment : WordAssignment t facts) × (label_assignment : LabelAssignment t word_assignment.words spots) × (l : Label) × (label_assignment.labels k ≡ Some l)
 
 -- The sentence of the spot is written before the tokens that are written already.
 abbrev pub WritesSentence : TableData → Facts → ArrivalList → StateAndNext → ℕ → List ℕ → List ℕ → Type 0
-WritesSentence t facts spots k start old new = (tale : WordAssignment t facts) (journey : LabelAssignment t tale.words spots) (l : Label) → journey.labels k ≡ Some l → (start ≡ l.start) × (reverse new ≡ l.word ++ reverse old)
+WritesSentence t facts spots k start old new = (word_assignment : WordAssignment t facts) (label_assignment : LabelAssignment t word_assignment.words spots) (l : Label) → label_assignment.labels k ≡ Some l → (start ≡ l.start) × (reverse new ≡ l.word ++ reverse old)

@@ -34,12 +34,12 @@ StepsOn cost state step z = IsOne cost (record { spot = spot state z; step = ste
 -- The arrival o follows from an arrival at the spot k by a shift of the token x.
 pub record StepsAlong (t : TableData) (c : TokenClasses) (k : StateAndNext) (cost x at : ℕ) (o : WaitingArrival) : Type 0 where
   pub end : ℕ
-  pub z : ℕ
+  pub following : ℕ
   pub token : rep_of c k.state x ≡ k.next
   pub move : run_move_of t k.state (x ∷ []) ≡ Shifts end
-  pub listed : Contains (representatives_at c end) z
+  pub listed : Contains (representatives_at c end) following
   pub cost_is : at ≡ min (cost + cost_of_token t x) cap
-  pub is : o ≡ record { spot = spot end z; step = steps.Shift k x }
+  pub is : o ≡ record { spot = spot end following; step = steps.Shift k x }
 
 abbrev pub StepsShift : TableData → TokenClasses → StateAndNext → ℕ → ℕ → WaitingArrival → Type 0
 StepsShift t c k cost at o = (x : ℕ) × StepsAlong t c k cost x at o
@@ -50,7 +50,7 @@ StepsEdge t c k cost edge at o = (x : ℕ) × (edge.symbol ≡ T x) × StepsAlon
 
 -- The arrival follows by the complete path w and its goto.
 pub record StepsOverGoto (k : StateAndNext) (cost : ℕ) (w : CompletePath) (at : ℕ) (o : WaitingArrival) : Type 0 where
-  pub meets : w.inner.from ≡ k.state
+  pub at_state : w.inner.from ≡ k.state
   pub begins : w.inner.first ≡ k.next
   pub cost_is : at ≡ min (cost + w.cost) cap
   pub is : o ≡ record { spot = spot w.target w.next; step = steps.Goto k w.inner }
@@ -71,7 +71,7 @@ pub record IsSoundArrival (t : TableData) (c : TokenClasses) (words : FactKey �
   pub token : o.spot.next < t.grammar.tokens
   pub few : cost ≤ cap
   pub label : Label
-  pub by : LabelBy words labels o.step label
+  pub label_by : LabelBy words labels o.step label
   pub cost_is : cost ≡ cost_up_to_cap t label.word
   pub sound : SoundLabel t (rep_of c) o.spot.state o.spot.next label
 
@@ -87,14 +87,14 @@ IsPendingLabel t words labels waits s z l = HasNoLaterLabel (LabelNoLater t) (la
 -- The invariant of the second search at a level: all arrivals of a lower cost are settled. Arrivals of the level's cost
 -- may wait in the separate list `beside`.
 pub record ArrivalInvariant (t : TableData) (c : TokenClasses) (words : FactKey → Option (List ℕ)) (work : SearchData) (spots : ArrivalList) (q : List (Rattle.std.specs.Global.Vec WaitingArrival)) (level : ℕ) (beside : List WaitingArrival) : Type 0 where
-  pub journey : LabelAssignment t words spots
-  pub closed : LabelsClosedByGotos t (rep_of c) (GotoFactsIn c words work) (labels_at journey.labels) (IsPendingLabel t words journey.labels (Waiting q level beside))
-  pub sound : (s z : ℕ) (l : Label) → journey.labels (spot s z) ≡ Some l → SoundLabel t (rep_of c) s z l
-  pub items : (cost : ℕ) (o : WaitingArrival) → Waiting q level beside cost o → IsSoundArrival t c words journey.labels cost o
-  pub low : (cost : ℕ) (o : WaitingArrival) → Waiting q level beside cost o → level ≤ cost
-  pub high : (k : StateAndNext) (r : Arrival) → arrival_at spots k ≡ Some r → r.cost ≤ level
+  pub label_assignment : LabelAssignment t words spots
+  pub closed : LabelsClosedByGotos t (rep_of c) (GotoFactsIn c words work) (labels_at label_assignment.labels) (IsPendingLabel t words label_assignment.labels (Waiting q level beside))
+  pub sound : (s z : ℕ) (l : Label) → label_assignment.labels (spot s z) ≡ Some l → SoundLabel t (rep_of c) s z l
+  pub items : (cost : ℕ) (o : WaitingArrival) → Waiting q level beside cost o → IsSoundArrival t c words label_assignment.labels cost o
+  pub at_least_level : (cost : ℕ) (o : WaitingArrival) → Waiting q level beside cost o → level ≤ cost
+  pub at_most_level : (k : StateAndNext) (r : Arrival) → arrival_at spots k ≡ Some r → r.cost ≤ level
   -- Stored labels come no later than the sentences of arrivals that wait.
-  pub before : (k : StateAndNext) (l m : Label) (cost : ℕ) (o : WaitingArrival) → journey.labels k ≡ Some l → Waiting q level beside cost o → LabelBy words journey.labels o.step m → LabelNoLater t l m
+  pub before : (k : StateAndNext) (l m : Label) (cost : ℕ) (o : WaitingArrival) → label_assignment.labels k ≡ Some l → Waiting q level beside cost o → LabelBy words label_assignment.labels o.step m → LabelNoLater t l m
 
 -- The sentence of x comes no later than the sentence of y.
 abbrev pub NoLaterBy : TableData → (FactKey → Option (List ℕ)) → (StateAndNext → Option Label) → WaitingArrival → WaitingArrival → Type 0
@@ -103,15 +103,15 @@ NoLaterBy t words labels x y = (k l : Label) → LabelBy words labels x.step k �
 -- Each arrival of the level in the queue comes no later than all arrivals that wait, and the separate list is sorted by
 -- sentences.
 pub record ArrivalsInOrder (t : TableData) (c : TokenClasses) (words : FactKey → Option (List ℕ)) (work : SearchData) (spots : ArrivalList) (q : List (Rattle.std.specs.Global.Vec WaitingArrival)) (level : ℕ) (beside : List WaitingArrival) : Type 0 where
-  pub good : ArrivalInvariant t c words work spots q level beside
-  pub flat : (x y : WaitingArrival) (cost : ℕ) → Waits q level x → Waiting q level beside cost y → NoLaterBy t words good.journey.labels x y
-  pub rising : IsSorted (NoLaterBy t words good.journey.labels) beside
+  pub invariant : ArrivalInvariant t c words work spots q level beside
+  pub none_earlier : (x y : WaitingArrival) (cost : ℕ) → Waits q level x → Waiting q level beside cost y → NoLaterBy t words invariant.label_assignment.labels x y
+  pub rising : IsSorted (NoLaterBy t words invariant.label_assignment.labels) beside
 
 -- No arrival of the level waits in the queue, and the separate list is sorted by sentences.
 pub record ArrivalsReady (t : TableData) (c : TokenClasses) (words : FactKey → Option (List ℕ)) (work : SearchData) (spots : ArrivalList) (q : List (Rattle.std.specs.Global.Vec WaitingArrival)) (level : ℕ) (beside : List WaitingArrival) : Type 0 where
-  pub good : ArrivalInvariant t c words work spots q level beside
+  pub invariant : ArrivalInvariant t c words work spots q level beside
   pub none : (o : WaitingArrival) → Waits q level o → ⊥
-  pub rising : IsSorted (NoLaterBy t words good.journey.labels) beside
+  pub rising : IsSorted (NoLaterBy t words invariant.label_assignment.labels) beside
 
 abbrev pub IsReachedAlready : ArrivalList → WaitingArrival → Type 0
 IsReachedAlready spots o = HasArrival spots o.spot
@@ -129,7 +129,7 @@ TakesNextArrival spots old new cost (Some i) = TakesUnreached spots old new cost
 
 -- There is a row of complete paths for each class number, and their costs are at most the highest cost.
 pub record HasGotoRows (t : TableData) (c : TokenClasses) (work : SearchData) : Type 0 where
-  pub rows : length work.wholes.items ≡ c.places
+  pub rows : length work.complete_paths.items ≡ c.places
   pub few : (n : ℕ) (w : CompletePath) → Contains (complete_paths_at work n) w → w.cost ≤ cap
 
 -- The arrival is appended to a list, unless its spot is reached.
@@ -147,12 +147,12 @@ TakesAllUnreached spots old new cost all = DrawsAll (IsReachedAlready spots) old
 -- The invariant of the second search, on a result of the first search.
 pub record ArrivalInvariantFor (t : TableData) (c : TokenClasses) (found : SearchResult) (spots : ArrivalList) (q : List (Rattle.std.specs.Global.Vec WaitingArrival)) (level : ℕ) (beside : List WaitingArrival) : Type 0 where
   pub found_is : IsSearchResult t c found
-  pub good : ArrivalInvariant t c found_is.tale.words found.work spots q level beside
+  pub invariant : ArrivalInvariant t c found_is.word_assignment.words found.work spots q level beside
 
 pub record ArrivalsInOrderFor (t : TableData) (c : TokenClasses) (found : SearchResult) (spots : ArrivalList) (q : List (Rattle.std.specs.Global.Vec WaitingArrival)) (level : ℕ) (beside : List WaitingArrival) : Type 0 where
   pub found_is : IsSearchResult t c found
-  pub order : ArrivalsInOrder t c found_is.tale.words found.work spots q level beside
+  pub order : ArrivalsInOrder t c found_is.word_assignment.words found.work spots q level beside
 
 pub record ArrivalsReadyFor (t : TableData) (c : TokenClasses) (found : SearchResult) (spots : ArrivalList) (q : List (Rattle.std.specs.Global.Vec WaitingArrival)) (level : ℕ) (beside : List WaitingArrival) : Type 0 where
   pub found_is : IsSearchResult t c found
-  pub ready : ArrivalsReady t c found_is.tale.words found.work spots q level beside
+  pub ready : ArrivalsReady t c found_is.word_assignment.words found.work spots q level beside

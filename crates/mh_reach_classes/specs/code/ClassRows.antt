@@ -25,7 +25,7 @@ IsClassFor row given z old new k = (old ≤ new) × (((n : ℕ) (o : TokenClass)
 
 -- The row has the classes of the tokens below n, and the list has their representatives.
 pub record IsClassRow (n : ℕ) (given : List ℕ) (row : List TokenClass) (list : List ℕ) (count : ℕ) : Type 0 where
-  pub long : length row ≡ n
+  pub len : length row ≡ n
   pub each : (z : ℕ) (k : TokenClass) → slice_get row z ≡ Some k → (k.representative < n) × (k.place < count) × ((o : TokenClass) × (slice_get row k.representative ≡ Some o) × (o.representative ≡ k.representative))
   pub nothing : given ≡ [] → (z : ℕ) (k : TokenClass) → slice_get row z ≡ Some k → k.representative ≡ z
   pub list_all : (z : ℕ) (k : TokenClass) → slice_get row z ≡ Some k → Contains list k.representative
@@ -36,7 +36,7 @@ pub record AddsRow (tokens : ℕ) (given : List ℕ) (old new : TokenClasses) : 
   pub row : Vec TokenClass
   pub list : Vec ℕ
   pub is : IsClassRow tokens given row.items list.items new.places
-  pub grown : old.places ≤ new.places
+  pub grows : old.places ≤ new.places
   pub rows : new.rows.items ≡ old.rows.items ++ row ∷ []
   pub lists : new.lists.items ≡ old.lists.items ++ list ∷ []
 
@@ -54,8 +54,8 @@ RepresentThemselves t c = (s z : ℕ) → z < t.grammar.tokens → rep_of c s z 
 -- The reduction treats a token like its representative in the target state: both are reduced on and have one
 -- representative in the reducing state, or neither is.
 pub record TreatsAlike (t : TableData) (c : TokenClasses) (r : Reduction) (z : ℕ) : Type 0 where
-  pub there : run_move_of t r.end (z ∷ []) ≡ Reduces r.production → (run_move_of t r.end (rep_of c r.target z ∷ []) ≡ Reduces r.production) × (rep_of c r.end z ≡ rep_of c r.end (rep_of c r.target z))
-  pub back : run_move_of t r.end (rep_of c r.target z ∷ []) ≡ Reduces r.production → run_move_of t r.end (z ∷ []) ≡ Reduces r.production
+  pub to_representative : run_move_of t r.end (z ∷ []) ≡ Reduces r.production → (run_move_of t r.end (rep_of c r.target z ∷ []) ≡ Reduces r.production) × (rep_of c r.end z ≡ rep_of c r.end (rep_of c r.target z))
+  pub from_representative : run_move_of t r.end (rep_of c r.target z ∷ []) ≡ Reduces r.production → run_move_of t r.end (z ∷ []) ≡ Reduces r.production
 
 abbrev pub TreatsAllAlike : TableData → TokenClasses → Reduction → ℕ → Type 0
 TreatsAllAlike t c r n = (z : ℕ) → z < n → TreatsAlike t c r z

@@ -1,5 +1,5 @@
--- Definitions on the second search. It reaches spots, which are states with a next token; the definitions give the
--- sentences of the arrivals at spots, and the result of the search.
+-- Definitions on the search that follows the search for facts. For each spot, which is a state with a next token, it
+-- finds an arrival: the least sentence that reaches the spot.
 use Rattle.std.specs.Prelude.{◌≡◌, ℕ, List, [], ◌∷◌, fold, Option, Some, None, Bool, if◌then◌else◌, nat_eq, ◌&&◌, ◌≤◌, ◌+◌}
 use Rattle.std.specs.Map.{lookup}
 use Rattle.mh_tables_core.specs.Table.{TableData}
@@ -59,7 +59,7 @@ pub record IsArrivalOfLabel (t : TableData) (words : FactKey → Option (List �
   pub label : Label
   pub is : labels k ≡ Some label
   pub cost_is : r.cost ≡ cost_up_to_cap t label.word
-  pub by : LabelBy words labels r.step label
+  pub label_by : LabelBy words labels r.step label
   pub height : height_by heights r.step ≤ heights k
 
 -- Labels for exactly the spots that are reached, each with the cost of its arrival.
@@ -78,10 +78,10 @@ HasArrival spots k = (r : Arrival) × (arrival_at spots k ≡ Some r)
 -- The result of the second search: its labels are closed under the gotos of the table, and each label is a sentence
 -- that reaches its spot.
 pub record AreLeastArrivals (t : TableData) (c : TokenClasses) (words : FactKey → Option (List ℕ)) (work : SearchData) (spots : ArrivalList) : Type 0 where
-  pub journey : LabelAssignment t words spots
-  pub closed : LabelsClosedByGotos t (rep_of c) (GotoFactsIn c words work) (labels_at journey.labels) (HasNoLaterLabel (LabelNoLater t) (labels_at journey.labels))
-  pub sound : (s z : ℕ) (l : Label) → journey.labels (spot s z) ≡ Some l → SoundLabel t (rep_of c) s z l
+  pub label_assignment : LabelAssignment t words spots
+  pub closed : LabelsClosedByGotos t (rep_of c) (GotoFactsIn c words work) (labels_at label_assignment.labels) (HasNoLaterLabel (LabelNoLater t) (labels_at label_assignment.labels))
+  pub sound : (s z : ℕ) (l : Label) → label_assignment.labels (spot s z) ≡ Some l → SoundLabel t (rep_of c) s z l
 
 pub record AreLeastArrivalsFor (t : TableData) (c : TokenClasses) (found : SearchResult) (spots : ArrivalList) : Type 0 where
   pub found_is : IsSearchResult t c found
-  pub arrived : AreLeastArrivals t c found_is.tale.words found.work spots
+  pub arrived : AreLeastArrivals t c found_is.word_assignment.words found.work spots

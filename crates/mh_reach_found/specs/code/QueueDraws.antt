@@ -6,7 +6,7 @@ use Rattle.mh_facts.specs.code.Queues.{Waits, IsOne}
 
 -- The next item of the cost that is not done is taken; items that are done may be dropped.
 pub record DrawsOne {X : Type 0} (Done Fresh : X → Type 0) (old new : List (Vec X)) (cost : ℕ) (i : X) : Type 0 where
-  pub was : Waits old cost i
+  pub waited : Waits old cost i
   pub fresh : Fresh i
   pub kept : (c : ℕ) (o : X) → Waits old c o → (Waits new c o ⊎ Done o) ⊎ IsOne cost i c o
   pub only : (c : ℕ) (o : X) → Waits new c o → Waits old c o

@@ -28,7 +28,7 @@ GotoFactsIn c words work s n y x v = (w : CompletePath) × Contains (complete_pa
 -- The complete path w is in range, its cost is the cost of its word, and its goto fact is sound.
 pub record IsSoundCompletePath (t : TableData) (rep : ℕ → ℕ → ℕ) (words : FactKey → Option (List ℕ)) (level : ℕ) (w : CompletePath) : Type 0 where
   pub few : w.cost ≤ cap
-  pub low : w.cost ≤ level
+  pub at_most_level : w.cost ≤ level
   pub from : w.inner.from < length t.states
   pub edge : edge_of t w.inner.from (N w.nonterminal) ≡ Some w.target
   pub next : w.next < t.grammar.tokens
@@ -41,10 +41,10 @@ pub record IsSoundCompletePath (t : TableData) (rep : ℕ → ℕ → ℕ) (word
 -- The result of the first search. For each path of a run a word is stored that the run reads along the path, and no
 -- other such word comes before the stored one: the stored cost is the least (Pottier 2016).
 pub record IsSearchResult (t : TableData) (c : TokenClasses) (found : SearchResult) : Type 0 where
-  pub tale : WordAssignment t found.store
-  pub sound : (k : FactKey) (u : List ℕ) → tale.words k ≡ Some u → SoundFact t (rep_of c) k u
-  pub rows : length found.work.wholes.items ≡ c.places
-  pub closed : ClosedByGotos t (rep_of c) (WordNoLater t) tale.words (GotoFactsIn c tale.words found.work) (HasNoLater (WordNoLater t) tale.words)
-  pub complete : Complete t (rep_of c) (WordNoLater t) tale.words
-  pub wholes : (n : ℕ) (w : CompletePath) → Contains (complete_paths_at found.work n) w → IsSoundCompletePath t (rep_of c) tale.words cap w
-  pub numbered : FactsAreNumbered found.store tale.words (cap + 1) found.numbering
+  pub word_assignment : WordAssignment t found.store
+  pub sound : (k : FactKey) (u : List ℕ) → word_assignment.words k ≡ Some u → SoundFact t (rep_of c) k u
+  pub rows : length found.work.complete_paths.items ≡ c.places
+  pub closed : ClosedByGotos t (rep_of c) (WordNoLater t) word_assignment.words (GotoFactsIn c word_assignment.words found.work) (HasNoLater (WordNoLater t) word_assignment.words)
+  pub complete : Complete t (rep_of c) (WordNoLater t) word_assignment.words
+  pub complete_paths : (n : ℕ) (w : CompletePath) → Contains (complete_paths_at found.work n) w → IsSoundCompletePath t (rep_of c) word_assignment.words cap w
+  pub numbered : FactsAreNumbered found.store word_assignment.words (cap + 1) found.numbering

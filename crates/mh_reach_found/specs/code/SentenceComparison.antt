@@ -36,15 +36,15 @@ numbers_of l = l.start ∷ l.word
 
 -- The parts of a step's sentence, with the first part at the end of the list.
 abbrev pub ArePartsOf : ArrivalList → ArrivalStep → List WordPart → Type 0
-ArePartsOf spots step ps = (t : TableData) (words : FactKey → Option (List ℕ)) (journey : LabelAssignment t words spots) (l : Label) → LabelBy words journey.labels step l → AreWordOf words ps (numbers_of l)
+ArePartsOf spots step ps = (t : TableData) (words : FactKey → Option (List ℕ)) (label_assignment : LabelAssignment t words spots) (l : Label) → LabelBy words label_assignment.labels step l → AreWordOf words ps (numbers_of l)
 
 -- The step has a sentence.
 pub record HasSentence (spots : ArrivalList) (step : ArrivalStep) : Type 0 where
   pub t : TableData
   pub words : FactKey → Option (List ℕ)
-  pub journey : LabelAssignment t words spots
+  pub label_assignment : LabelAssignment t words spots
   pub label : Label
-  pub by : LabelBy words journey.labels step label
+  pub label_by : LabelBy words label_assignment.labels step label
 
 -- The arrival and the fact that a step refers to are stored.
 abbrev pub IsKnownStep : Facts → ArrivalList → ArrivalStep → Type 0
@@ -57,7 +57,7 @@ abbrev pub PrecedesBy : (FactKey → Option (List ℕ)) → (StateAndNext → Op
 PrecedesBy words labels left right = (k l : Label) → LabelBy words labels left k → LabelBy words labels right l → LexLe (numbers_of k) (numbers_of l)
 
 abbrev pub Precedes : TableData → Facts → ArrivalList → ArrivalStep → ArrivalStep → Type 0
-Precedes t facts spots left right = (tale : WordAssignment t facts) (journey : LabelAssignment t tale.words spots) → PrecedesBy tale.words journey.labels left right
+Precedes t facts spots left right = (word_assignment : WordAssignment t facts) (label_assignment : LabelAssignment t word_assignment.words spots) → PrecedesBy word_assignment.words label_assignment.labels left right
 
 -- The result of the question whether the sentence of the left step comes later; for equal sentences both results are
 -- right.
@@ -67,6 +67,6 @@ ComesLater t facts spots left right false = Precedes t facts spots left right
 
 -- The stored facts have words with numbers, and the stored arrivals have sentences.
 pub record HasAssignments (t : TableData) (found : SearchResult) (spots : ArrivalList) : Type 0 where
-  pub tale : WordAssignment t found.store
-  pub journey : LabelAssignment t tale.words spots
+  pub word_assignment : WordAssignment t found.store
+  pub label_assignment : LabelAssignment t word_assignment.words spots
   pub numbered : AllNumbered t found.store found.numbering

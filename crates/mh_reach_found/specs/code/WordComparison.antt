@@ -50,8 +50,8 @@ weight sizes (parts.Fact k ∷ ps) = 2 * sizes k + weight sizes ps
 
 -- A part is replaced by its own parts on a stack: the stack spells the same word, and its weight is lower.
 abbrev pub ReplacesFactByParts : TableData → Facts → WordPart → List WordPart → List WordPart → Type 0
-ReplacesFactByParts t facts p old new = (tale : WordAssignment t facts) (v : List ℕ) → IsWordOf tale.words p v →
-    ((u : List ℕ) → AreWordOf tale.words old u → AreWordOf tale.words new (v ++ u)) × (weight (sizes_of facts) new < weight (sizes_of facts) (p ∷ old))
+ReplacesFactByParts t facts p old new = (word_assignment : WordAssignment t facts) (v : List ℕ) → IsWordOf word_assignment.words p v →
+    ((u : List ℕ) → AreWordOf word_assignment.words old u → AreWordOf word_assignment.words new (v ++ u)) × (weight (sizes_of facts) new < weight (sizes_of facts) (p ∷ old))
 
 -- The order of two words, if it is decided.
 abbrev pub IsOrderedBy : Option Ordering → List ℕ → List ℕ → Type 0
@@ -81,18 +81,18 @@ GivesWordOrder facts numbering j k told = (words : FactKey → Option (List ℕ)
 
 -- The result of a step: the order, if it is decided; else the two words are a common prefix followed by the words that
 -- remain on the stacks.
-pub record IsComparisonResult (t : TableData) (facts : Facts) (old new : Rests) (left right : WordPart) (order : Option Ordering) (tale : WordAssignment t facts) (a b u v : List ℕ) : Type 0 where
-  pub told : IsOrderedBy order (a ++ u) (b ++ v)
-  pub rest : order ≡ None → (p : List ℕ) × (r : List ℕ) × (s : List ℕ) × AreWordOf tale.words new.left.items r × AreWordOf tale.words new.right.items s × (a ++ u ≡ p ++ r) × (b ++ v ≡ p ++ s)
+pub record IsComparisonResult (t : TableData) (facts : Facts) (old new : Rests) (left right : WordPart) (order : Option Ordering) (word_assignment : WordAssignment t facts) (a b u v : List ℕ) : Type 0 where
+  pub ordered : IsOrderedBy order (a ++ u) (b ++ v)
+  pub rest : order ≡ None → (p : List ℕ) × (r : List ℕ) × (s : List ℕ) × AreWordOf word_assignment.words new.left.items r × AreWordOf word_assignment.words new.right.items s × (a ++ u ≡ p ++ r) × (b ++ v ≡ p ++ s)
   pub smaller : order ≡ None → weight (sizes_of facts) new.left.items + weight (sizes_of facts) new.right.items < weight (sizes_of facts) (left ∷ old.left.items) + weight (sizes_of facts) (right ∷ old.right.items)
 
 abbrev pub IsFactComparisonStep : TableData → Facts → Rests → Rests → WordPart → WordPart → Option Ordering → Type 0
-IsFactComparisonStep t facts old new left right order = (tale : WordAssignment t facts) (a b u v : List ℕ) → IsWordOf tale.words left a → IsWordOf tale.words right b → AreWordOf tale.words old.left.items u → AreWordOf tale.words old.right.items v →
-    IsComparisonResult t facts old new left right order tale a b u v
+IsFactComparisonStep t facts old new left right order = (word_assignment : WordAssignment t facts) (a b u v : List ℕ) → IsWordOf word_assignment.words left a → IsWordOf word_assignment.words right b → AreWordOf word_assignment.words old.left.items u → AreWordOf word_assignment.words old.right.items v →
+    IsComparisonResult t facts old new left right order word_assignment a b u v
 
 -- The word of the left stack comes no later in lexicographic order.
 abbrev pub StackNoLater : TableData → Facts → List WordPart → List WordPart → Type 0
-StackNoLater t facts left right = (tale : WordAssignment t facts) (u v : List ℕ) → AreWordOf tale.words left u → AreWordOf tale.words right v → LexLe u v
+StackNoLater t facts left right = (word_assignment : WordAssignment t facts) (u v : List ℕ) → AreWordOf word_assignment.words left u → AreWordOf word_assignment.words right v → LexLe u v
 
 -- The result of the question whether the left word comes later; for equal words both results are right.
 abbrev pub IsStackLater : TableData → Facts → List WordPart → List WordPart → Bool → Type 0
@@ -101,24 +101,24 @@ IsStackLater t facts left right false = StackNoLater t facts left right
 
 -- Both stacks spell words.
 pub record AreComparable (t : TableData) (facts : Facts) (left right : List WordPart) : Type 0 where
-  pub tale : WordAssignment t facts
+  pub word_assignment : WordAssignment t facts
   pub left_word : List ℕ
   pub right_word : List ℕ
-  pub left_is : AreWordOf tale.words left left_word
-  pub right_is : AreWordOf tale.words right right_word
+  pub left_is : AreWordOf word_assignment.words left left_word
+  pub right_is : AreWordOf word_assignment.words right right_word
 
 -- The words u and v are a common prefix and the words of the two stacks.
-pub record AreFactRemainders (t : TableData) (facts : Facts) (tale : WordAssignment t facts) (left right : List WordPart) (u v : List ℕ) : Type 0 where
-  pub front : List ℕ
+pub record AreFactRemainders (t : TableData) (facts : Facts) (word_assignment : WordAssignment t facts) (left right : List WordPart) (u v : List ℕ) : Type 0 where
+  pub prefix : List ℕ
   pub left_rest : List ℕ
   pub right_rest : List ℕ
-  pub left_word : AreWordOf tale.words left left_rest
-  pub right_word : AreWordOf tale.words right right_rest
-  pub left_is : u ≡ front ++ left_rest
-  pub right_is : v ≡ front ++ right_rest
+  pub left_word : AreWordOf word_assignment.words left left_rest
+  pub right_word : AreWordOf word_assignment.words right right_rest
+  pub left_is : u ≡ prefix ++ left_rest
+  pub right_is : v ≡ prefix ++ right_rest
 
 abbrev pub KeepRemainders : TableData → Facts → Rests → Rests → Type 0
-KeepRemainders t facts all rests = (tale : WordAssignment t facts) (u v : List ℕ) → AreWordOf tale.words all.left.items u → AreWordOf tale.words all.right.items v → AreFactRemainders t facts tale rests.left.items rests.right.items u v
+KeepRemainders t facts all rests = (word_assignment : WordAssignment t facts) (u v : List ℕ) → AreWordOf word_assignment.words all.left.items u → AreWordOf word_assignment.words all.right.items v → AreFactRemainders t facts word_assignment rests.left.items rests.right.items u v
 
 -- The top parts are taken off both stacks, if both have one.
 abbrev pub TakesTops : Rests → Rests → TopParts → Type 0

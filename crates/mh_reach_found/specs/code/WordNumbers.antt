@@ -19,7 +19,7 @@ pub record IsNumberOfWord (book : Words) (number cost : ℕ) (w : List ℕ) : Ty
 -- Each settled fact that costs less than the highest cost has the number of its word. The groups of all words are below
 -- the level.
 pub record FactsAreNumbered (facts : Facts) (words : FactKey → Option (List ℕ)) (level : ℕ) (numbering : WordNumbering) : Type 0 where
-  pub long : length numbering.numbers.items ≡ length facts
+  pub len : length numbering.numbers.items ≡ length facts
   pub each : (n m : ℕ) (k : FactKey) (f : Fact) (w : List ℕ) → slice_get facts n ≡ Some (k, f) → slice_get numbering.numbers.items n ≡ Some m → words k ≡ Some w → f.cost < cap → IsNumberOfWord numbering.book m f.cost w
   pub below : AreBelowGroup numbering.book level
 
@@ -29,4 +29,4 @@ IsNumberOfFact facts numbering k m = (f : Fact) → fact_at facts k ≡ Some f �
 
 -- By every word assignment of the store, the facts have the numbers of their words.
 abbrev pub AllNumbered : TableData → Facts → WordNumbering → Type 0
-AllNumbered t facts numbering = (tale : WordAssignment t facts) → FactsAreNumbered facts tale.words (cap + 1) numbering
+AllNumbered t facts numbering = (word_assignment : WordAssignment t facts) → FactsAreNumbered facts word_assignment.words (cap + 1) numbering

@@ -39,9 +39,9 @@ IsEmptyPath t c = Below (IsEmptyItem t c) (length t.states)
 -- The working data before the first step: exactly the empty paths wait, and nothing is settled.
 pub record IsBegun (t : TableData) (c : TokenClasses) (work : SearchData) : Type 0 where
   pub paths : length work.paths.items ≡ c.places
-  pub wholes : length work.wholes.items ≡ c.places
+  pub complete_paths : length work.complete_paths.items ≡ c.places
   pub no_path : (n : ℕ) (p : SettledFact) → Contains (paths_at work n) p → ⊥
-  pub no_whole : (n : ℕ) (w : CompletePath) → Contains (complete_paths_at work n) w → ⊥
+  pub no_complete_path : (n : ℕ) (w : CompletePath) → Contains (complete_paths_at work n) w → ⊥
   pub none_known : (k : GotoFact) → KnowsGoto work k → ⊥
   pub all : (cost : ℕ) (o : QueuedFact) → IsEmptyPath t c cost o → Waits (queue_of work) cost o
   pub only : (cost : ℕ) (o : QueuedFact) → Waits (queue_of work) cost o → IsEmptyPath t c cost o

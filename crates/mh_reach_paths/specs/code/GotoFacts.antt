@@ -1,4 +1,6 @@
--- Definitions of the goto facts that are added after a complete path is settled, that is, stored with its least word.
+-- Definitions of the goto facts that are added after a complete path is settled, that is, stored with its least word. A
+-- goto fact says that some word leads from a state over the goto on a nonterminal: it has the state, the nonterminal,
+-- the first token and the next token.
 use Rattle.std.specs.Prelude.{◌≡◌, ℕ, List, length, ◌⊎◌}
 use Rattle.std.specs.List.{Contains}
 use Rattle.mh_tables_core.specs.Table.{TableData}
@@ -10,7 +12,7 @@ use Rattle.mh_facts.specs.declared.work.SearchData.{SearchData}
 use Rattle.mh_facts.specs.declared.classes.TokenClasses.{TokenClasses}
 use Rattle.mh_facts.specs.code.Queues.{Waits, Among, IsOne}
 use Rattle.mh_facts.specs.code.TokenClasses.{place_of}
-use Rattle.mh_facts.specs.code.SearchRules.{FollowsGoto, IsReducedOn, complete_path, goto_fact, IsCompletePathOf, queue_of, paths_at, complete_paths_at, KnowsGoto}
+use Rattle.mh_facts.specs.code.SearchRules.{FollowsGoto, IsReducedOn, complete_path_of, goto_fact, IsCompletePathOf, queue_of, paths_at, complete_paths_at, KnowsGoto}
 
 abbrev pub with_next : QueuedFact → ℕ → QueuedFact
 with_next i z = record { key = record { from = i.key.from; production = i.key.production; dot = i.key.dot; first = i.key.first; next = z }; end = i.end; back = i.back }
@@ -26,23 +28,23 @@ paths_before c work p = paths_at work (place_of c p.key.from p.key.first)
 -- new.
 pub record AddsGoto (t : TableData) (c : TokenClasses) (old new : SearchData) (p : SettledFact) (w : CompletePath) : Type 0 where
   pub paths : new.paths.items ≡ old.paths.items
-  pub rows : length new.wholes.items ≡ length old.wholes.items
+  pub rows : length new.complete_paths.items ≡ length old.complete_paths.items
   pub kept : (cost : ℕ) (o : QueuedFact) → Waits (queue_of old) cost o → Waits (queue_of new) cost o
   pub only : (cost : ℕ) (o : QueuedFact) → Waits (queue_of new) cost o → Waits (queue_of old) cost o ⊎ (IsReducedOn t c p w.target w.next × Among (λ q. FollowsGoto t q w) (paths_before c old p) cost o)
-  pub way_kept : (n : ℕ) (v : CompletePath) → Contains (complete_paths_at old n) v → Contains (complete_paths_at new n) v
-  pub way_only : (n : ℕ) (v : CompletePath) → Contains (complete_paths_at new n) v → Contains (complete_paths_at old n) v ⊎ ((v ≡ w) × IsReducedOn t c p w.target w.next × ((cost : ℕ) (o : QueuedFact) → Among (λ q. FollowsGoto t q w) (paths_before c old p) cost o → Waits (queue_of new) cost o))
-  pub way_here : IsReducedOn t c p w.target w.next → KnowsGoto new (goto_fact w)
+  pub complete_kept : (n : ℕ) (v : CompletePath) → Contains (complete_paths_at old n) v → Contains (complete_paths_at new n) v
+  pub complete_only : (n : ℕ) (v : CompletePath) → Contains (complete_paths_at new n) v → Contains (complete_paths_at old n) v ⊎ ((v ≡ w) × IsReducedOn t c p w.target w.next × ((cost : ℕ) (o : QueuedFact) → Among (λ q. FollowsGoto t q w) (paths_before c old p) cost o → Waits (queue_of new) cost o))
+  pub goto_known : IsReducedOn t c p w.target w.next → KnowsGoto new (goto_fact w)
   pub known_kept : (k : GotoFact) → KnowsGoto old k → KnowsGoto new k
   pub known_only : (k : GotoFact) → KnowsGoto new k → KnowsGoto old k ⊎ ((goto_fact w ≡ k) × Contains (complete_paths_at new (place_of c k.from k.first)) w)
 
 -- The goto facts of p for the given representatives of the target are added.
 pub record AddsGotos (t : TableData) (c : TokenClasses) (old new : SearchData) (p : SettledFact) (target : ℕ) (xs : List ℕ) : Type 0 where
   pub paths : new.paths.items ≡ old.paths.items
-  pub rows : length new.wholes.items ≡ length old.wholes.items
+  pub rows : length new.complete_paths.items ≡ length old.complete_paths.items
   pub kept : (cost : ℕ) (o : QueuedFact) → Waits (queue_of old) cost o → Waits (queue_of new) cost o
   pub only : (cost : ℕ) (o : QueuedFact) → Waits (queue_of new) cost o → Waits (queue_of old) cost o ⊎ ((w : CompletePath) × IsCompletePathOf t c p w × Among (λ q. FollowsGoto t q w) (paths_before c old p) cost o)
-  pub way_kept : (n : ℕ) (v : CompletePath) → Contains (complete_paths_at old n) v → Contains (complete_paths_at new n) v
-  pub way_only : (n : ℕ) (v : CompletePath) → Contains (complete_paths_at new n) v → Contains (complete_paths_at old n) v ⊎ (IsCompletePathOf t c p v × ((cost : ℕ) (o : QueuedFact) → Among (λ q. FollowsGoto t q v) (paths_before c old p) cost o → Waits (queue_of new) cost o))
-  pub way_all : (x : ℕ) → Contains xs x → IsReducedOn t c p target x → KnowsGoto new (goto_fact (complete_path t p target x))
+  pub complete_kept : (n : ℕ) (v : CompletePath) → Contains (complete_paths_at old n) v → Contains (complete_paths_at new n) v
+  pub complete_only : (n : ℕ) (v : CompletePath) → Contains (complete_paths_at new n) v → Contains (complete_paths_at old n) v ⊎ (IsCompletePathOf t c p v × ((cost : ℕ) (o : QueuedFact) → Among (λ q. FollowsGoto t q v) (paths_before c old p) cost o → Waits (queue_of new) cost o))
+  pub gotos_known : (x : ℕ) → Contains xs x → IsReducedOn t c p target x → KnowsGoto new (goto_fact (complete_path_of t p target x))
   pub known_kept : (k : GotoFact) → KnowsGoto old k → KnowsGoto new k
   pub known_only : (k : GotoFact) → KnowsGoto new k → KnowsGoto old k ⊎ ((w : CompletePath) × Contains (complete_paths_at new (place_of c k.from k.first)) w × (goto_fact w ≡ k))

@@ -17,7 +17,7 @@ use Rattle.mh_facts.specs.declared.classes.TokenClasses.{TokenClasses}
 use Rattle.mh_facts.specs.code.Queues.{Waits, WaitsOrIsListed}
 use Rattle.mh_reach_found.specs.code.QueueDraws.{DrawsOne, DrawsNone, AppendsUnlessDone, DrawsSome, DrawsAll}
 use Rattle.mh_facts.specs.code.TokenClasses.{rep_of, place_of}
-use Rattle.mh_facts.specs.code.SearchRules.{InRange, path_of, goto_fact, queue_of, paths_at, complete_paths_at, KnowsGoto, IsReady}
+use Rattle.mh_facts.specs.code.SearchRules.{InRange, settled_of, goto_fact, queue_of, paths_at, complete_paths_at, KnowsGoto, IsReady}
 use Rattle.mh_facts.specs.code.WordAssignment.{WordNoLater, cost_up_to_cap, WordBy, WordAssignment}
 use Rattle.mh_reach_found.specs.code.SearchResult.{IsStored, GotoFactsIn, IsSoundCompletePath}
 
@@ -46,9 +46,9 @@ Waiting work level beside cost i = WaitsOrIsListed (queue_of work) level beside 
 
 -- An item that waits is in range and sound, and its cost is the cost of its word.
 pub record IsSoundItem (t : TableData) (rep : ℕ → ℕ → ℕ) (words : FactKey → Option (List ℕ)) (cost : ℕ) (i : QueuedFact) : Type 0 where
-  pub range : InRange t (path_of cost i)
+  pub range : InRange t (settled_of cost i)
   pub word : List ℕ
-  pub by : WordBy t words i.key i.back word
+  pub word_by : WordBy t words i.key i.back word
   pub cost_is : cost ≡ cost_up_to_cap t word
   pub short : cost ≡ 0 → word ≡ []
   pub sound : SoundFact t rep i.key word
@@ -64,15 +64,15 @@ pub record IsSoundPath (t : TableData) (words : FactKey → Option (List ℕ)) (
 -- The invariant of the search at a level: all facts of a lower cost are settled. Items of the level's cost may wait in
 -- the separate list `beside`.
 pub record LevelInvariant (t : TableData) (c : TokenClasses) (facts : Facts) (work : SearchData) (level : ℕ) (beside : List QueuedFact) : Type 0 where
-  pub tale : WordAssignment t facts
+  pub word_assignment : WordAssignment t facts
   pub ready : IsReady t c work
-  pub frontier : SearchInvariant t (rep_of c) (WordNoLater t) tale.words (GotoFactsIn c tale.words work) (WaitsWithWord t tale.words (Waiting work level beside))
-  pub items : (cost : ℕ) (i : QueuedFact) → Waiting work level beside cost i → IsSoundItem t (rep_of c) tale.words cost i
-  pub low : (cost : ℕ) (i : QueuedFact) → Waiting work level beside cost i → level ≤ cost
-  pub high : highest_cost facts ≤ level
-  pub paths : (n : ℕ) (p : SettledFact) → Contains (paths_at work n) p → IsSoundPath t tale.words p
-  pub all_paths : (k : FactKey) (u : List ℕ) (s n : ℕ) → tale.words k ≡ Some u → IsPathEnd t k.from k.production k.dot s → slice_get (rhs_of t.grammar k.production) k.dot ≡ Some (N n) → (p : SettledFact) × Contains (paths_at work (place_of c s k.next)) p × (p.key ≡ k)
-  pub wholes : (n : ℕ) (w : CompletePath) → Contains (complete_paths_at work n) w → IsSoundCompletePath t (rep_of c) tale.words level w
+  pub frontier : SearchInvariant t (rep_of c) (WordNoLater t) word_assignment.words (GotoFactsIn c word_assignment.words work) (WaitsWithWord t word_assignment.words (Waiting work level beside))
+  pub items : (cost : ℕ) (i : QueuedFact) → Waiting work level beside cost i → IsSoundItem t (rep_of c) word_assignment.words cost i
+  pub at_least_level : (cost : ℕ) (i : QueuedFact) → Waiting work level beside cost i → level ≤ cost
+  pub at_most_level : highest_cost facts ≤ level
+  pub paths : (n : ℕ) (p : SettledFact) → Contains (paths_at work n) p → IsSoundPath t word_assignment.words p
+  pub all_paths : (k : FactKey) (u : List ℕ) (s n : ℕ) → word_assignment.words k ≡ Some u → IsPathEnd t k.from k.production k.dot s → slice_get (rhs_of t.grammar k.production) k.dot ≡ Some (N n) → (p : SettledFact) × Contains (paths_at work (place_of c s k.next)) p × (p.key ≡ k)
+  pub complete_paths : (n : ℕ) (w : CompletePath) → Contains (complete_paths_at work n) w → IsSoundCompletePath t (rep_of c) word_assignment.words level w
   pub filed : (k : GotoFact) → KnowsGoto work k → (w : CompletePath) × Contains (complete_paths_at work (place_of c k.from k.first)) w × (goto_fact w ≡ k)
 
 -- The items are sorted by their words.
@@ -83,15 +83,15 @@ AreSortedByWord t words (i ∷ is) = ((o : QueuedFact) (u v : List ℕ) → Cont
 -- Each item of the level in the queue comes no later than all items that wait, and the separate list is sorted by
 -- words.
 pub record LevelInOrder (t : TableData) (c : TokenClasses) (facts : Facts) (work : SearchData) (level : ℕ) (beside : List QueuedFact) : Type 0 where
-  pub good : LevelInvariant t c facts work level beside
-  pub flat : (o i : QueuedFact) (cost : ℕ) (u v : List ℕ) → Waits (queue_of work) level o → Waiting work level beside cost i → WordBy t good.tale.words o.key o.back u → WordBy t good.tale.words i.key i.back v → WordNoLater t u v
-  pub rising : AreSortedByWord t good.tale.words beside
+  pub invariant : LevelInvariant t c facts work level beside
+  pub none_earlier : (o i : QueuedFact) (cost : ℕ) (u v : List ℕ) → Waits (queue_of work) level o → Waiting work level beside cost i → WordBy t invariant.word_assignment.words o.key o.back u → WordBy t invariant.word_assignment.words i.key i.back v → WordNoLater t u v
+  pub rising : AreSortedByWord t invariant.word_assignment.words beside
 
 -- No item of the level waits in the queue, and the separate list is sorted by words.
 pub record LevelReady (t : TableData) (c : TokenClasses) (facts : Facts) (work : SearchData) (level : ℕ) (beside : List QueuedFact) : Type 0 where
-  pub good : LevelInvariant t c facts work level beside
+  pub invariant : LevelInvariant t c facts work level beside
   pub none : (o : QueuedFact) → Waits (queue_of work) level o → ⊥
-  pub rising : AreSortedByWord t good.tale.words beside
+  pub rising : AreSortedByWord t invariant.word_assignment.words beside
 
 abbrev pub KeepsNew : Facts → QueuedFact → List QueuedFact → List QueuedFact → Type 0
 KeepsNew facts i old new = AppendsUnlessDone (IsItemSettled facts) i old new

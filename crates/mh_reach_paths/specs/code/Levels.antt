@@ -24,7 +24,7 @@ pub record IsPaired (items : List QueuedFact) (words : List ℕ) (n : ℕ) (r : 
 
 -- The list has the first `count` items, each with its number.
 pub record ArePaired (items : List QueuedFact) (words : List ℕ) (count : ℕ) (pairs : List RankedFact) : Type 0 where
-  pub long : length pairs ≡ count
+  pub len : length pairs ≡ count
   pub each : (n : ℕ) (r : RankedFact) → slice_get pairs n ≡ Some r → IsPaired items words n r
 
 abbrev pub unranked : List RankedFact → List QueuedFact
@@ -34,7 +34,7 @@ unranked rs = map (λ r. r.item) rs
 pub record IsRanked (items : List QueuedFact) (words : List ℕ) (rs : List RankedFact) : Type 0 where
   pub kept : (o : QueuedFact) → Contains items o → Contains (unranked rs) o
   pub only : (r : RankedFact) → Contains rs r → (n : ℕ) × IsPaired items words n r
-  pub rises : IsNonDecreasingBy (λ r. r.word) rs
+  pub is_sorted : IsNonDecreasingBy (λ r. r.word) rs
 
 -- Each item has the number of its word, if the level is below the highest cost.
 abbrev pub AreRanked : TableData → (FactKey → Option (List ℕ)) → Words → ℕ → List RankedFact → Type 0
@@ -42,19 +42,19 @@ AreRanked t words book level rs = level < cap → (r : RankedFact) (u : List ℕ
 
 -- The invariant before a level. The empty word, of cost 0, is in the book from the beginning.
 pub record BeforeLevel (t : TableData) (c : TokenClasses) (found : SearchResult) (level : ℕ) : Type 0 where
-  pub good : LevelInvariant t c found.store found.work level []
-  pub numbered : FactsAreNumbered found.store good.tale.words (max 1 level) found.numbering
+  pub invariant : LevelInvariant t c found.store found.work level []
+  pub numbered : FactsAreNumbered found.store invariant.word_assignment.words (max 1 level) found.numbering
 
 -- The invariant inside a level, with the items `rs` still to be settled.
 pub record InLevel (t : TableData) (c : TokenClasses) (found : SearchResult) (level : ℕ) (rs : List RankedFact) : Type 0 where
   pub ready : LevelReady t c found.store found.work level (unranked rs)
-  pub numbered : FactsAreNumbered found.store ready.good.tale.words (level + 1) found.numbering
-  pub ranked : AreRanked t ready.good.tale.words found.numbering.book level rs
+  pub numbered : FactsAreNumbered found.store ready.invariant.word_assignment.words (level + 1) found.numbering
+  pub ranked : AreRanked t ready.invariant.word_assignment.words found.numbering.book level rs
 
 -- The invariant while one item of the level, and the items with the same word that follow from it, are settled.
 pub record SettlesOneWord (t : TableData) (c : TokenClasses) (found : SearchResult) (level word : ℕ) (rs : List RankedFact) : Type 0 where
   pub order : LevelInOrder t c found.store found.work level (unranked rs)
-  pub numbered : FactsAreNumbered found.store order.good.tale.words (level + 1) found.numbering
-  pub ranked : AreRanked t order.good.tale.words found.numbering.book level rs
+  pub numbered : FactsAreNumbered found.store order.invariant.word_assignment.words (level + 1) found.numbering
+  pub ranked : AreRanked t order.invariant.word_assignment.words found.numbering.book level rs
   -- All items of the level in the queue have the word of this number.
-  pub same : level < cap → (o : QueuedFact) (u : List ℕ) → Waits (queue_of found.work) level o → WordBy t order.good.tale.words o.key o.back u → IsNumberOfWord found.numbering.book word level u
+  pub same : level < cap → (o : QueuedFact) (u : List ℕ) → Waits (queue_of found.work) level o → WordBy t order.invariant.word_assignment.words o.key o.back u → IsNumberOfWord found.numbering.book word level u

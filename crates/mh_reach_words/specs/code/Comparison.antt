@@ -4,7 +4,7 @@ use Rattle.std.specs.declared.cmp.Ordering.{Ordering}
 use Rattle.std.specs.declared.cmp.Ordering.TheVariants.{Less, Equal, Greater}
 use Rattle.mh_reach_words.specs.declared.word_parts.LastPart.{LastPart}
 use Rattle.mh_reach_words.specs.declared.word_parts.LastPart.TheVariants as lasts
-use Rattle.mh_reach_words.specs.declared.word_parts.BookEntry.{BookEntry}
+use Rattle.mh_reach_words.specs.declared.word_parts.WordEntry.{WordEntry}
 use Rattle.mh_reach_words.specs.declared.comparing.Rests.{Rests}
 use Rattle.mh_reach_words.specs.code.Words.{Words, LessAtDifference, IsProperPrefix, IsLastBelow, letters_of, word_of_last}
 
@@ -35,7 +35,7 @@ weight (lasts.Token x ∷ ps) = 1 + weight ps
 weight (lasts.Word n ∷ ps) = weight_of n + weight ps
 
 -- The entry of a word, none for the empty word.
-abbrev pub IsEntryOf : List BookEntry → ℕ → Option BookEntry → Type 0
+abbrev pub IsEntryOf : List WordEntry → ℕ → Option WordEntry → Type 0
 IsEntryOf entries n None = n ≡ 0
 IsEntryOf entries n (Some e) = (i : ℕ) × (n ≡ suc i) × (slice_get entries i ≡ Some e)
 
@@ -59,9 +59,9 @@ pub record AreTops (words : Words) (rests : Rests) (left right : Option LastPart
 -- The top parts do not decide the order: the two words are a common prefix followed by the words that remain on the
 -- stacks.
 pub record SharesPrefix (words : Words) (old new : Rests) (left right : Option LastPart) : Type 0 where
-  pub front : List ℕ
-  pub left_is : word_of_stack words (old.left.items ++ top_of left) ≡ front ++ word_of_stack words new.left.items
-  pub right_is : word_of_stack words (old.right.items ++ top_of right) ≡ front ++ word_of_stack words new.right.items
+  pub prefix : List ℕ
+  pub left_is : word_of_stack words (old.left.items ++ top_of left) ≡ prefix ++ word_of_stack words new.left.items
+  pub right_is : word_of_stack words (old.right.items ++ top_of right) ≡ prefix ++ word_of_stack words new.right.items
   pub left_below : AreBelow (length words) new.left.items
   pub right_below : AreBelow (length words) new.right.items
   pub smaller : weight new.left.items + weight new.right.items < weight (old.left.items ++ top_of left) + weight (old.right.items ++ top_of right)
@@ -85,8 +85,8 @@ TakesTop old new (Some p) = old ≡ new ++ p ∷ []
 
 -- The words u and v are a common prefix followed by the words that remain on the two stacks.
 pub record AreRemainders (words : Words) (rests : Rests) (u v : List ℕ) : Type 0 where
-  pub front : List ℕ
-  pub left_is : u ≡ front ++ word_of_stack words rests.left.items
-  pub right_is : v ≡ front ++ word_of_stack words rests.right.items
+  pub prefix : List ℕ
+  pub left_is : u ≡ prefix ++ word_of_stack words rests.left.items
+  pub right_is : v ≡ prefix ++ word_of_stack words rests.right.items
   pub left_below : AreBelow (length words) rests.left.items
   pub right_below : AreBelow (length words) rests.right.items

@@ -4,7 +4,7 @@ use Rattle.std.specs.List.{Contains}
 use Rattle.mh_reach_words.specs.declared.word_parts.WordParts.{WordParts}
 use Rattle.indexmap.specs.IndexMap.{get}
 use Rattle.mh_reach_words.specs.contracts.word_parts.WordPartsPartialEq.TheImpl.{ghosts}
-use Rattle.mh_reach_words.specs.declared.word_parts.BookEntry.{BookEntry}
+use Rattle.mh_reach_words.specs.declared.word_parts.WordEntry.{WordEntry}
 use Rattle.mh_reach_words.specs.declared.numbering.PartialNumbering.{PartialNumbering}
 use Rattle.mh_reach_words.specs.declared.numbering.NumberedWords.{NumberedWords}
 use Rattle.mh_reach_words.specs.code.Sorting.{LexNoLater, HaveSameElements, IsSortOf}
@@ -34,7 +34,7 @@ pub record IsNumberingOf (old new : Words) (group : ℕ) (made : List WordParts)
   pub grown : new ≡ old ++ added
   pub groups : (n : ℕ) → length old ≤ n → n < length new → group_of new n ≡ group
   pub only : (n : ℕ) → length old ≤ n → n < length new → (m : WordParts) × Contains made m × (letters_of new n ≡ spelled old m)
-  pub long : length numbers ≡ length made
+  pub len : length numbers ≡ length made
   pub each : (i : ℕ) (m : WordParts) (n : ℕ) → slice_get made i ≡ Some m → slice_get numbers i ≡ Some n → IsNumberOf old new m n
 
 -- The steps of the numbering.
@@ -69,30 +69,30 @@ IsRepeated words made place true = (p : ℕ) × (m : WordParts) × (o : WordPart
 IsRepeated words made place false = (p : ℕ) (m o : WordParts) → place ≡ suc p → slice_get made p ≡ Some m → slice_get made place ≡ Some o → IsEqual words m o false
 
 -- The word at an index becomes a new entry, unless it equals the word before it.
-abbrev pub AddsNew : Words → ℕ → List WordParts → ℕ → List BookEntry → List BookEntry → Type 0
+abbrev pub AddsNew : Words → ℕ → List WordParts → ℕ → List WordEntry → List WordEntry → Type 0
 AddsNew words group made place old new = (IsRepeated words made place true × (new ≡ old))
     ⊎ ((m : WordParts) × (slice_get made place ≡ Some m) × IsRepeated words made place false × (new ≡ old ++ record { made = m; group = group } ∷ []))
 
 -- The word of the new entry j is the one that m spells.
-pub record HasEntryAt (words : Words) (es : List BookEntry) (m : WordParts) (j : ℕ) : Type 0 where
-  pub entry : BookEntry
+pub record HasEntryAt (words : Words) (es : List WordEntry) (m : WordParts) (j : ℕ) : Type 0 where
+  pub entry : WordEntry
   pub at : slice_get es j ≡ Some entry
   pub same : spelled words entry.made ≡ spelled words m
 
 -- The invariant of the numbering after `count` words of the sorted list.
-pub record IsNumberedUpTo (entries : List BookEntry) (group : ℕ) (ordered : List WordParts) (count : ℕ) (given : PartialNumbering) : Type 0 where
+pub record IsNumberedUpTo (entries : List WordEntry) (group : ℕ) (ordered : List WordParts) (count : ℕ) (given : PartialNumbering) : Type 0 where
   pub begun : count ≡ 0 → given.entries.items ≡ []
-  pub made : (j : ℕ) (e : BookEntry) → slice_get given.entries.items j ≡ Some e → Contains ordered e.made × (e.group ≡ group)
-  pub rising : (j k : ℕ) (d e : BookEntry) → j < k → slice_get given.entries.items j ≡ Some d → slice_get given.entries.items k ≡ Some e → LessAtDifference (spelled (words_of entries) d.made) (spelled (words_of entries) e.made)
+  pub made : (j : ℕ) (e : WordEntry) → slice_get given.entries.items j ≡ Some e → Contains ordered e.made × (e.group ≡ group)
+  pub rising : (j k : ℕ) (d e : WordEntry) → j < k → slice_get given.entries.items j ≡ Some d → slice_get given.entries.items k ≡ Some e → LessAtDifference (spelled (words_of entries) d.made) (spelled (words_of entries) e.made)
   pub last : (p : ℕ) (m : WordParts) → count ≡ suc p → slice_get ordered p ≡ Some m → (j : ℕ) × (length given.entries.items ≡ suc j) × HasEntryAt (words_of entries) given.entries.items m j
   pub numbers : (i : ℕ) (m : WordParts) → i < count → slice_get ordered i ≡ Some m → (j : ℕ) × (number_in given m ≡ Some (length (words_of entries) + j)) × HasEntryAt (words_of entries) given.entries.items m j
 
 -- The words are numbered, and the new entries may be appended to the old ones.
-pub record IsNumberedGroup (entries : List BookEntry) (group : ℕ) (made : List WordParts) (numbered : NumberedWords) : Type 0 where
+pub record IsNumberedGroup (entries : List WordEntry) (group : ℕ) (made : List WordParts) (numbered : NumberedWords) : Type 0 where
   pub sound : AreSoundEntries (entries ++ numbered.entries.items)
   pub numbers : IsNumberingOf (words_of entries) (words_of (entries ++ numbered.entries.items)) group made numbered.numbers.items
 
 -- The list `numbers` has the number of each word, in the order of the words.
 pub record AreNumbers (given : PartialNumbering) (made : List WordParts) (numbers : List ℕ) : Type 0 where
-  pub long : length numbers ≡ length made
+  pub len : length numbers ≡ length made
   pub each : (i : ℕ) (m : WordParts) (n : ℕ) → slice_get made i ≡ Some m → slice_get numbers i ≡ Some n → number_in given m ≡ Some n

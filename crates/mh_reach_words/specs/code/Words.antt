@@ -3,7 +3,7 @@ use Rattle.std.specs.Prelude.{◌≡◌, ◌<◌, ◌≤◌, ◌⊎◌, ℕ, suc
 use Rattle.mh_reach_words.specs.declared.word_parts.LastPart.{LastPart}
 use Rattle.mh_reach_words.specs.declared.word_parts.LastPart.TheVariants as lasts
 use Rattle.mh_reach_words.specs.declared.word_parts.WordParts.{WordParts}
-use Rattle.mh_reach_words.specs.declared.word_parts.BookEntry.{BookEntry}
+use Rattle.mh_reach_words.specs.declared.word_parts.WordEntry.{WordEntry}
 
 -- A word with the group that it belongs to.
 pub record GroupedWord : Type 0 where
@@ -72,20 +72,20 @@ pub record IsBook (words : Words) : Type 0 where
 
 -- The words of the entries of a book.
 
-abbrev pub word_of : Words → BookEntry → GroupedWord
+abbrev pub word_of : Words → WordEntry → GroupedWord
 word_of words e = record { letters = spelled words e.made; group = e.group }
 
-abbrev pub grown : Words → List BookEntry → Words
+abbrev pub grown : Words → List WordEntry → Words
 grown words [] = words
 grown words (e ∷ es) = grown (words ++ word_of words e ∷ []) es
 
 abbrev pub empty_word : GroupedWord
 empty_word = record { letters = []; group = 0 }
 
-abbrev pub words_of : List BookEntry → Words
+abbrev pub words_of : List WordEntry → Words
 words_of entries = grown (empty_word ∷ []) entries
 
 -- The invariant of the entries of a book.
-pub record AreSoundEntries (entries : List BookEntry) : Type 0 where
-  pub parts : (i : ℕ) (e : BookEntry) → slice_get entries i ≡ Some e → IsMadeBelow (suc i) e.made
+pub record AreSoundEntries (entries : List WordEntry) : Type 0 where
+  pub parts : (i : ℕ) (e : WordEntry) → slice_get entries i ≡ Some e → IsMadeBelow (suc i) e.made
   pub groups : InGroups (words_of entries)

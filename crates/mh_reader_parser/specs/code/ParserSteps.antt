@@ -3,7 +3,7 @@
 -- step, or `None` if no file continues with this lexeme.
 use Rattle.std.specs.Prelude.{◌≡◌, ◌+◌, ℕ, suc, max, nat_le, List, [], ◌∷◌, ◌++◌, length, map, Option, Some, None, Bool, true, false, Result, Ok, Err}
 use Rattle.std.specs.Option.{option_or}
-use Rattle.mh_rules.specs.declared.modules.TheConstants.{MAX_DEPTH}
+use Rattle.mh_rules.specs.Limits.{max_actual_depth}
 use Rattle.mh_rules.specs.declared.modules.Ref.{Ref}
 use Rattle.mh_rules.specs.declared.modules.Ref.TheVariants.{Plain, Alias}
 use Rattle.mh_rules.specs.declared.modules.Actual.{Actual}
@@ -96,9 +96,9 @@ at_comma m l signs.Word text = list_word m l text
 at_comma m l signs.Quoted text = list_quoted m l text
 at_comma m l _ text = None
 
-abbrev pub at_opening : Module → OpenList → TokenKind → List ℕ → Option Parser
-at_opening m l signs.TypeText text = continues m (places.Items l)
-at_opening m l g text = at_items m l g text
+abbrev pub at_list_start : Module → OpenList → TokenKind → List ℕ → Option Parser
+at_list_start m l signs.TypeText text = continues m (places.Items l)
+at_list_start m l g text = at_items m l g text
 
 abbrev pub at_type : Module → TokenKind → Option Parser
 at_type m signs.TypeText = continues m (places.Items (lists.Actuals false []))
@@ -277,7 +277,7 @@ after_suffixes m k (p ∷ ps) a d g text = after_argument m k p ps a d g
 
 -- An actual of this depth within these brackets is not too deep.
 abbrev pub fits_in_depth : ℕ → List OpenActual → Bool
-fits_in_depth d ps = nat_le (d + length ps) MAX_DEPTH
+fits_in_depth d ps = nat_le (d + length ps) max_actual_depth
 
 -- The step at a suffix, which applies the rule n to the actual; the Bool says whether the result is not too deep.
 abbrev pub with_suffix_if_fits : Module → ActualPurpose → List OpenActual → Actual → ℕ → Bool → List ℕ → Option Parser
@@ -317,7 +317,7 @@ at_argument m k ps (Some r) = continues m (places.Head k ps r)
 -- The step in each state.
 unfoldable pub next_at : Module → ParserState → TokenKind → List ℕ → Option Parser
 next_at m places.Declarations g text = declare m g
-next_at m (places.Opening l) g text = at_opening m l g text
+next_at m (places.Opening l) g text = at_list_start m l g text
 next_at m places.TypeOf g text = at_type m g
 next_at m (places.Items l) g text = at_items m l g text
 next_at m (places.Comma l) g text = at_comma m l g text

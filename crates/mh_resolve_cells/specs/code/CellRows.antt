@@ -29,7 +29,7 @@ refuses Refuse = true
 refuses (Shift j) = false
 refuses (Reduce p) = false
 
--- A cell without raw actions.
+-- A cell without raw actions (the actions before precedence is applied).
 abbrev pub no_cell : Cell
 no_cell = record { action = Refuse; raw = false; kind = None }
 
@@ -42,27 +42,27 @@ pub record AreCells (s : State) (n : ℕ) (cells : List Cell) : Type 0 where
   pub len : length cells ≡ n
   pub each : (z : ℕ) → z < n → IsDecidedOn s (Token z) (slice_index_or cells z no_cell)
 
--- Each cell is made from its tally and its shift.
+-- Each cell is made from its shift and its tally, which counts the reductions on the token.
 pub record AreCellsOfTallies (tallies : List Tally) (shifts : List (Option ℕ)) (cells : List Cell) : Type 0 where
   pub len : length cells ≡ length tallies
   pub each : (z : ℕ) → z < length tallies → slice_index_or cells z no_cell ≡ cell_from (slice_index_or tallies z empty_tally) (slice_index_or shifts z None)
 
 -- The cell has an action other than that at the end of the stream.
 pub record ActsOtherwise (last : Action) (cell : Cell) : Type 0 where
-  pub acts : cell.action ≡ Refuse → ⊥
+  pub not_refuse : cell.action ≡ Refuse → ⊥
   pub differs : cell.action ≡ last → ⊥
 
 -- The end of the stream has an action and some cell has another one.
 pub record HasStreamConflictIn (last : Action) (cells : List Cell) : Type 0 where
-  pub acts : last ≡ Refuse → ⊥
+  pub last_not_refuse : last ≡ Refuse → ⊥
   pub cell : Cell
-  pub there : Contains cells cell
+  pub in_cells : Contains cells cell
   pub otherwise : ActsOtherwise last cell
 
 -- Some cell reduces p.
 pub record HasReduction (cells : List Cell) (p : ℕ) : Type 0 where
   pub cell : Cell
-  pub there : Contains cells cell
+  pub in_cells : Contains cells cell
   pub reduces : cell.action ≡ Reduce p
 
 -- The cell reduces p or has no raw action, as a default of p needs.
@@ -77,7 +77,7 @@ IsDefaultChoice kept mode cells p = (kept ≡ Reduce p) ⊎ ((kept ≡ Refuse) �
 -- The production is the default: each cell reduces it or has no raw action.
 pub record IsDefaultIn (kept : Action) (mode : Mode) (cells : List Cell) (p : ℕ) : Type 0 where
   pub all : All (FitsDefault p) cells
-  pub last : IsDefaultChoice kept mode cells p
+  pub choice : IsDefaultChoice kept mode cells p
 
 abbrev pub HasSomeLook : KernelItem → Type 0
 HasSomeLook item = 0 < length item.looks
@@ -94,7 +94,7 @@ best_with (Some b) p r = if nat_lt r b.rank then record { rank = r; production =
 -- Some item of the list is a candidate for `%on_error_reduce` with this production and rank.
 pub record IsRanked (g : Grammar) (items : List KernelItem) (p r : ℕ) : Type 0 where
   pub item : KernelItem
-  pub there : Contains items item
+  pub item_listed : Contains items item
   pub production : item.production ≡ p
   pub rank : rank_in g item ≡ Some r
 

@@ -1,5 +1,5 @@
--- The conflicts of a state in the order of the list: by token, then at the end of the stream, and the end-of-stream
--- conflict last.
+-- The conflicts of a state in the order of the list: first those on tokens, then that between actions at the end of the
+-- stream, and last the conflict of the action at the end of the stream with an action on a token.
 use Rattle.std.specs.Prelude.{◌+◌, ℕ, Bool, true, false, List, [], ◌∷◌, ◌++◌, Option, Some, None}
 use Rattle.mh_grammar.specs.declared.types.Look.{Look}
 use Rattle.mh_grammar.specs.declared.types.Look.TheVariants.{Token, End}

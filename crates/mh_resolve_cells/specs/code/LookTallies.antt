@@ -37,7 +37,7 @@ tally_on t End = t.last
 -- The tally of this look is replaced, and the others are unchanged.
 pub record IsChanged (look : Look) (tally : Tally) (old new : Tallies) : Type 0 where
   pub len : length new.tokens.items ≡ length old.tokens.items
-  pub here : tally_on new look ≡ tally
+  pub tally_is : tally_on new look ≡ tally
   pub elsewhere : (other : Look) → (other ≡ look → ⊥) → tally_on new other ≡ tally_on old other
 
 -- Each look has the tally of its reductions.

@@ -30,7 +30,7 @@ config_with stack read look rest = record { stack = stack; read = read; left = l
 
 -- From the old stack and value, `count` steps lead to the new stack and value, for all tokens after the next one.
 pub record StepsLead {S : Type 0} (f : Observer S) (t : TableData) (look : Option ℕ) (count : ℕ) (old new : List ℕ) (before now : S) : Type 0 where
-  pub there : (read : ℕ) (rest : List ℕ) → after t count (config_with old read look rest) ≡ config_with new read look rest
+  pub reaches : (read : ℕ) (rest : List ℕ) → after t count (config_with old read look rest) ≡ config_with new read look rest
   pub value : (read : ℕ) (rest : List ℕ) → observed_after f t count (config_with old read look rest) before ≡ now
 
 -- The stack and the value after all reductions up to the next other move, and that move.

@@ -8,14 +8,14 @@ use Rattle.mh_grammar.specs.Edges.{IsRising}
 use Rattle.mh_grammar.specs.Plain.{PlainGrammar, IsProductionFor, rhs_of}
 use Rattle.mh_sample_shortest.specs.declared.word.Shortest.{Shortest}
 use Rattle.mh_sample_shortest.specs.declared.word.Shortest.TheVariants.{None, Longer, Word}
-use Rattle.mh_sample_shortest.specs.declared.word.TheConstants.{MAX_WORD}
+use Rattle.mh_sample_shortest.specs.Limits.{max_word}
 use Rattle.mh_sample_shortest.specs.Shortest.{IsShortest}
 use Rattle.mh_sample_random.specs.declared.rows.Choice.{Choice}
 
--- The length of a shortest word, or `MAX_WORD` + 1, which is above every limit, if there is no such word.
+-- The length of a shortest word, or `max_word` + 1, which is above every limit, if there is no such word.
 abbrev pub length_for : Shortest → ℕ
-length_for None = MAX_WORD + 1
-length_for Longer = MAX_WORD + 1
+length_for None = max_word + 1
+length_for Longer = max_word + 1
 length_for (Word w) = length w
 
 abbrev pub length_in : List ℕ → Symbol → ℕ

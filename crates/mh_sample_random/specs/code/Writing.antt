@@ -3,18 +3,18 @@ use Rattle.std.specs.Prelude.{◌≡◌, ◌≤◌, ◌+◌, ◌-◌, ◌*◌, �
 use Rattle.std.specs.List.{All}
 use Rattle.mh_grammar.specs.declared.types.Symbol.{Symbol}
 use Rattle.mh_grammar.specs.Plain.{plain_of, IsInRange, IsSymbolBelow}
-use Rattle.mh_sample_shortest.specs.declared.word.TheConstants.{MAX_WORD}
+use Rattle.mh_sample_shortest.specs.Limits.{max_word}
 use Rattle.mh_sample_random.specs.declared.writing.Guide.{Guide}
 use Rattle.mh_sample_random.specs.declared.writing.Writing.{Writing}
-use Rattle.mh_sample_random.specs.declared.writing.TheConstants.{MAX_DRAWS}
+use Rattle.mh_sample_random.specs.Limits.{max_draws}
 use Rattle.mh_sample_random.specs.Random.{generator_after, Writes}
 use Rattle.mh_sample_random.specs.code.Rows.{length_in, lengths_in, AreLeastLengths, IsRow}
 
 -- The invariant of a guide: the shortest words, lengths and rows are those of the grammar, and the limit is at most
--- `MAX_WORD`.
+-- `max_word`.
 pub record IsGuide (guide : Guide) : Type 0 where
   pub range : IsInRange (plain_of guide.grammar.now)
-  pub few : guide.limit ≤ MAX_WORD
+  pub few : guide.limit ≤ max_word
   pub known : AreLeastLengths (plain_of guide.grammar.now) guide.shortest.now guide.lengths.now
   pub all : length guide.rows.now ≡ length guide.grammar.now.nonterminals
   pub rows : (x : ℕ) → IsRow (plain_of guide.grammar.now) guide.lengths.now (length guide.grammar.now.productions) x (slice_index_or guide.rows.now x [])
@@ -22,7 +22,7 @@ pub record IsGuide (guide : Guide) : Type 0 where
 -- The invariant of the writing: the tokens written and the least length of the pending symbols are within the limit.
 pub record IsWriting (guide : Guide) (w : Writing) : Type 0 where
   pub generator : w.generator ≡ generator_after guide.seed w.draws
-  pub draws : w.draws ≤ MAX_DRAWS
+  pub draws : w.draws ≤ max_draws
   pub below : All (IsSymbolBelow (length guide.grammar.now.tokens) (length guide.grammar.now.nonterminals)) w.pending.items
   pub needed : w.needed ≡ lengths_in guide.lengths.now w.pending.items
   pub within : length w.written.items + w.needed ≤ guide.limit
@@ -31,7 +31,7 @@ pub record IsWriting (guide : Guide) (w : Writing) : Type 0 where
 pub record IsPopped (guide : Guide) (x : Symbol) (w : Writing) : Type 0 where
   pub rest : IsWriting guide w
   pub symbol : IsSymbolBelow (length guide.grammar.now.tokens) (length guide.grammar.now.nonterminals) x
-  pub room : length w.written.items + length_in guide.lengths.now x + w.needed ≤ guide.limit
+  pub fits_limit : length w.written.items + length_in guide.lengths.now x + w.needed ≤ guide.limit
 
 -- By the definition, s is a sentence that continues the writing. The code keeps the pending symbols in reverse.
 abbrev pub Ends : Guide → Writing → List ℕ → Type 0
@@ -43,4 +43,4 @@ Treats guide x old new = (s : List ℕ) → Ends guide new s → Writes (plain_o
 
 -- An upper bound of the number of symbols still to be handled. Each draw adds fewer than 2 ^ 32 symbols.
 abbrev pub rounds_left : Writing → ℕ
-rounds_left w = (MAX_DRAWS - w.draws) * 2 ^ 32 + length w.pending.items
+rounds_left w = (max_draws - w.draws) * 2 ^ 32 + length w.pending.items

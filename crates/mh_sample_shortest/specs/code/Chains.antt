@@ -7,7 +7,7 @@ use Rattle.mh_grammar.specs.Plain.{PlainGrammar, Derives}
 use Rattle.mh_sample_shortest.specs.declared.word.Shortest.{Shortest}
 use Rattle.mh_sample_shortest.specs.declared.word.Shortest.TheVariants as answers
 use Rattle.mh_sample_shortest.specs.declared.word.Shortest.TheVariants.{Longer, Word}
-use Rattle.mh_sample_shortest.specs.declared.word.TheConstants.{MAX_WORD}
+use Rattle.mh_sample_shortest.specs.Limits.{max_word}
 use Rattle.mh_sample_shortest.specs.Shortest.{ShortLex}
 
 -- The word of a symbol. The word of a token is the token alone.
@@ -49,11 +49,11 @@ comes_before u (Some v) = if length u == length v then lex_less u v else nat_lt 
 -- Each nonterminal derives its word, and no word is too long.
 pub record AreDerived (g : PlainGrammar) (words : List (Option (List ℕ))) : Type 0 where
   pub derived : (n : ℕ) (w : List ℕ) → slice_index_or words n None ≡ Some w → Derives g (N n) w
-  pub short : (n : ℕ) (w : List ℕ) → slice_index_or words n None ≡ Some w → length w ≤ MAX_WORD
+  pub short : (n : ℕ) (w : List ℕ) → slice_index_or words n None ≡ Some w → length w ≤ max_word
 
 -- If the word of the right side is not too long, the left side has a word that comes no later.
 abbrev pub Closes : List (Option (List ℕ)) → Production → Type 0
-Closes words p = (v : List ℕ) → chain words p.rhs ≡ Some v → length v ≤ MAX_WORD → (u : List ℕ) × (slice_index_or words p.lhs None ≡ Some u) × ShortLex u v
+Closes words p = (v : List ℕ) → chain words p.rhs ≡ Some v → length v ≤ max_word → (u : List ℕ) × (slice_index_or words p.lhs None ≡ Some u) × ShortLex u v
 
 -- No production gives its left side an earlier word.
 pub record AreClosed (ps : List Production) (words : List (Option (List ℕ))) : Type 0 where
@@ -66,7 +66,7 @@ digits base [] = 0
 digits base (x ∷ w) = x * base ^ length w + digits base w
 
 unfoldable pub rank : ℕ → Option (List ℕ) → ℕ
-rank base None = base ^ (MAX_WORD + 1)
+rank base None = base ^ (max_word + 1)
 rank base (Some w) = base ^ length w + digits base w
 
 abbrev pub rank_sum : ℕ → List (Option (List ℕ)) → ℕ
@@ -77,7 +77,7 @@ rank_sum base = sum_by (rank base)
 pub record Improves (g : PlainGrammar) (old new : List (Option (List ℕ))) (improved : Bool) : Type 0 where
   pub sound : AreDerived g old → AreDerived g new
   pub same : improved ≡ false → new ≡ old
-  pub falls : improved ≡ true → AreDerived g old → rank_sum (2 ^ 16) new < rank_sum (2 ^ 16) old
+  pub decreases : improved ≡ true → AreDerived g old → rank_sum (2 ^ 16) new < rank_sum (2 ^ 16) old
 
 -- The answer for a nonterminal, by its word and by whether the nonterminal is productive.
 abbrev pub answer_of : Option (List ℕ) → Bool → Shortest

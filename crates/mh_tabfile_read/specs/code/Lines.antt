@@ -46,7 +46,7 @@ pub record IsMisplaced (ls : List Line) (n : ℕ) : Type 0 where
   pub before : List Line
   pub line : Line
   pub rest : List Line
-  pub whole : ls ≡ before ++ line ∷ rest
+  pub split : ls ≡ before ++ line ∷ rest
   pub begins : Begins before
   pub first : Begins (before ++ line ∷ []) → ⊥
   pub number : n ≡ length before + 1

@@ -40,19 +40,19 @@ HasContinuation t left stack courses.Unknown = Unit {0}
 pub record EndsAlone (t : TableData) (s : ℕ) (look : Option ℕ) : Type 0 where
   pub stack : List ℕ
   pub count : ℕ
-  pub begun : 0 < length stack
+  pub not_empty : 0 < length stack
   pub stops : StopsAt t s look stack count
-  pub goes : HasContinuation t (look_list look) stack courses.Ends
+  pub continues : HasContinuation t (look_list look) stack courses.Ends
 
 -- The relative run of the state alone makes `count` reductions, and the runs above lower states pass to an edge on the
 -- symbol with index `to`.
 pub record PassesAlone (t : TableData) (s : ℕ) (look : Option ℕ) (count to : ℕ) : Type 0 where
   pub stack : List ℕ
-  pub begun : 0 < length stack
+  pub not_empty : 0 < length stack
   pub stops : StopsAt t s look stack count
   pub nonterminal : ℕ
   pub place : to ≡ symbol_index t (N nonterminal)
-  pub goes : HasContinuation t (look_list look) stack (courses.Passes nonterminal)
+  pub continues : HasContinuation t (look_list look) stack (courses.Passes nonterminal)
 
 -- Definitions on passages.
 
@@ -121,6 +121,7 @@ pub record AreAllPassages (t : TableData) (ps : List Passage) : Type 0 where
 abbrev pub IsBoundHighEnough : List ℕ → Passage → Type 0
 IsBoundHighEnough bounds p = slice_index bounds p.from ≤ MAX_BOUND → p.count + 1 + slice_index bounds p.to ≤ slice_index bounds p.from
 
--- No relative run above an edge loops if the bound of the edge's symbol is at most `MAX_BOUND`.
+-- No relative run above an edge makes more than `MAX_REDUCTIONS` reductions if the bound of the edge's symbol is at
+-- most `MAX_BOUND`.
 abbrev pub BoundsProveHalting : TableData → List ℕ → Type 0
 BoundsProveHalting t bounds = (r u : ℕ) (x : Symbol) → edge_of t r x ≡ Some u → slice_index bounds (symbol_index t x) ≤ MAX_BOUND → NeverLoops t (Some r) u

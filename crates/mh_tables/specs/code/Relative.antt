@@ -1,12 +1,13 @@
 -- The results of the test of relative runs, for each of its functions. A relative run begins with a start state alone,
--- or with a state (`below`) and a state to which one of its edges leads (`s`); it makes only reductions.
+-- or with a state (`below`) and a state to which one of its edges leads (`s`); it makes only reductions, and loops if
+-- it makes more than `MAX_REDUCTIONS`.
 use Rattle.std.specs.Prelude.{◌≡◌, ℕ, suc, List, [], ◌∷◌, ◌++◌, length, take, ◌≤◌, ◌⊎◌, Option, Some, None, ◌<◌, Bool, true, false}
 use Rattle.std.specs.List.{All, Contains}
 use Rattle.std.specs.List.Sorted.{IsNonDecreasing}
 use Rattle.mh_grammar.specs.Plain.{production_count}
 use Rattle.mh_tables_core.specs.Table.{TableData, fallback_of}
 use Rattle.mh_tables.specs.declared.relative_runs.RelativeRun.{RelativeRun}
-use Rattle.mh_tables_core.specs.declared.halting.TheConstants.{MAX_REDUCTIONS}
+use Rattle.mh_tables_core.specs.Limits.{max_reductions}
 use Rattle.mh_tables_core.specs.Run.{Reduces, run_move_of, top_of, reduce, reduction, reductions}
 use Rattle.mh_tables_core.specs.Halting.{IsBeginning, IsLook, RunLoops, NeverLoops, IsOptionBefore, LoopsAt, look_list, beginning}
 
@@ -23,7 +24,7 @@ ReducesNext t left stack (Some p) = (run_move_of t (top_of stack) left ≡ Reduc
 -- The reduction keeps the first `kept` states of the stack and pushes `target`.
 pub record IsReductionResult (t : TableData) (p : ℕ) (stack : List ℕ) (kept target : ℕ) : Type 0 where
   pub is : reduce t p stack ≡ Some (take kept stack ++ target ∷ [])
-  pub begun : 0 < kept
+  pub keeps_some : 0 < kept
   pub within : kept ≤ length stack
   pub known : target < length t.states
 
@@ -35,8 +36,8 @@ StackReduced t p stack (Some (kept, target)) = IsReductionResult t p stack kept 
 -- The relative run makes exactly `count` reductions, at most `most`, and leaves this stack.
 pub record StopsWithin (t : TableData) (below : Option ℕ) (s : ℕ) (look : Option ℕ) (most : ℕ) (stack : List ℕ) (count : ℕ) : Type 0 where
   pub few : count ≤ most
-  pub made : reductions t (look_list look) count (beginning below s) ≡ Some stack
-  pub over : reduction t (look_list look) stack ≡ None
+  pub stack_is : reductions t (look_list look) count (beginning below s) ≡ Some stack
+  pub stops : reduction t (look_list look) stack ≡ None
 
 -- The relative run stops after the returned number of reductions, at most `most`; or it makes more, and the stack is
 -- that after `most` + 1 reductions.
@@ -44,14 +45,14 @@ abbrev pub IsReducedWithinResult : TableData → Option ℕ → ℕ → Option �
 IsReducedWithinResult t below s look most stack None = reductions t (look_list look) (suc most) (beginning below s) ≡ Some stack
 IsReducedWithinResult t below s look most stack (Some count) = StopsWithin t below s look most stack count
 
--- The relative run makes at most `MAX_REDUCTIONS` reductions, and leaves this stack.
+-- The relative run makes at most `max_reductions` reductions, and leaves this stack.
 pub record StopsWithinLimit (t : TableData) (below : Option ℕ) (s : ℕ) (look : Option ℕ) (stack : List ℕ) : Type 0 where
   pub count : ℕ
-  pub few : count ≤ MAX_REDUCTIONS
-  pub made : reductions t (look_list look) count (beginning below s) ≡ Some stack
-  pub over : reduction t (look_list look) stack ≡ None
+  pub few : count ≤ max_reductions
+  pub stack_is : reductions t (look_list look) count (beginning below s) ≡ Some stack
+  pub stops : reduction t (look_list look) stack ≡ None
 
--- If the result is true, the relative run makes more than `MAX_REDUCTIONS` reductions; otherwise it leaves this stack.
+-- If the result is true, the relative run makes more than `max_reductions` reductions; otherwise it leaves this stack.
 abbrev pub LoopsOrStops : TableData → Option ℕ → ℕ → Option ℕ → List ℕ → Bool → Type 0
 LoopsOrStops t below s look stack true = RunLoops t below s look
 LoopsOrStops t below s look stack false = StopsWithinLimit t below s look stack
@@ -64,9 +65,9 @@ LoopsOrNot t below s look false = RunLoops t below s look → ⊥
 -- Without a next token the relative run stops in the state `top`, which has no default.
 pub record StopsWithoutDefault (t : TableData) (below : Option ℕ) (s top : ℕ) : Type 0 where
   pub stack : List ℕ
-  pub out : StopsWithinLimit t below s None stack
-  pub stands : top ≡ top_of stack
-  pub bare : fallback_of t top ≡ None
+  pub stops : StopsWithinLimit t below s None stack
+  pub top_is : top ≡ top_of stack
+  pub no_default : fallback_of t top ≡ None
 
 -- The first look with which the relative run loops.
 pub record IsFirstLoopingLook (t : TableData) (below : Option ℕ) (s : ℕ) (look : Option ℕ) : Type 0 where
@@ -103,7 +104,7 @@ StateFound t below (Some run) = (run.below ≡ below) × IsFirstLoopingState t b
 pub record AddsTarget (t : TableData) (r u : ℕ) (old new : List ℕ) : Type 0 where
   pub each : All (IsBeginning t (Some r)) old → All (IsBeginning t (Some r)) new
   pub kept : (v : ℕ) → Contains old v → Contains new v
-  pub here : Contains new u ⊎ NeverLoops t (Some r) u
+  pub added_or_halts : Contains new u ⊎ NeverLoops t (Some r) u
 
 -- The list holds, in the order of states, the targets of the edges of state r above which relative runs have to be
 -- tried.

@@ -85,24 +85,24 @@ ModeShelfCounts before now (Err (ShelfFailed name)) = (before ≤ now) × HasRis
 ModeShelfCounts before now (Err OutOfMemory) = before ≤ now
 ModeShelfCounts before now _ = now ≡ before
 
-module _ {Plan : Type 0} (way : ModeBehavior Plan) where
+module _ {Plan : Type 0} (behavior : ModeBehavior Plan) where
   -- The mode ran to its end, or was cut short by a failed read, a failed write or lack of memory.
   abbrev pub ModeRan : Plan → Option Text → Option Text → Option Text → Option Text → Result (Unit {0}) Stop → Type 0
-  ModeRan plan in0 in1 out0 out1 (Ok _) = IsCompleteRun way plan in0 in1 out0 out1 None
-  ModeRan plan in0 in1 out0 out1 (Err (Halted cause)) = IsCompleteRun way plan in0 in1 out0 out1 (Some cause)
+  ModeRan plan in0 in1 out0 out1 (Ok _) = IsCompleteRun behavior plan in0 in1 out0 out1 None
+  ModeRan plan in0 in1 out0 out1 (Err (Halted cause)) = IsCompleteRun behavior plan in0 in1 out0 out1 (Some cause)
   ModeRan plan in0 in1 out0 out1 (Err (ShelfFailed name)) = ⊥
-  ModeRan plan in0 in1 out0 out1 (Err InputFailed) = IsPartialRun way plan in0 out0 out1 (ReadFailsAt way plan in0 in1)
-  ModeRan plan in0 in1 out0 out1 (Err WriteFailed) = IsPartialRun way plan in0 out0 out1 (WriteFailsAt way plan in0 in1)
-  ModeRan plan in0 in1 out0 out1 (Err OutOfMemory) = IsPartialRun way plan in0 out0 out1 (LacksMemoryAt way plan in0 in1)
+  ModeRan plan in0 in1 out0 out1 (Err InputFailed) = IsPartialRun behavior plan in0 out0 out1 (ReadFailsAt behavior plan in0 in1)
+  ModeRan plan in0 in1 out0 out1 (Err WriteFailed) = IsPartialRun behavior plan in0 out0 out1 (WriteFailsAt behavior plan in0 in1)
+  ModeRan plan in0 in1 out0 out1 (Err OutOfMemory) = IsPartialRun behavior plan in0 out0 out1 (LacksMemoryAt behavior plan in0 in1)
 
   -- All lines that are asked for were read and answered.
   pub record AllLinesAreAnswered (plan : Plan) (in0 in1 out0 out1 : Option Text) (next : Plan) : Type 0 where
     pub lines : List Text
-    pub asks : AreAskedLines (way.asks_of plan) in0 lines true
+    pub asks : AreAskedLines (behavior.asks_of plan) in0 lines true
     pub text : Text
-    pub answers : AnswersAll way plan lines text next
+    pub answers : AnswersAll behavior plan lines text next
     pub on_out : Appends out0 out1 text
-    pub took : TookLines (way.asks_of plan) in0 in1 (length lines)
+    pub lines_taken : TookLines (behavior.asks_of plan) in0 in1 (length lines)
 
   -- All lines that are asked for were read and answered, or the mode was cut short.
   abbrev pub LinesAreAnswered : Plan → Option Text → Option Text → Option Text → Option Text → Plan → Result (Unit {0}) Stop → Type 0
@@ -112,17 +112,17 @@ module _ {Plan : Type 0} (way : ModeBehavior Plan) where
   -- The next line was read and answered; or the input is at its end; or the work stopped for the given reason.
   abbrev pub LineIsAnswered : Plan → Plan → Option Text → Option Text → Option Text → Option Text → Result Bool Stop → Type 0
   LineIsAnswered plan next in0 in1 out0 out1 (Ok false) = IsAtEnd in0 × Keeps in0 in1 × (next ≡ plan) × Keeps out0 out1
-  LineIsAnswered plan next in0 in1 out0 out1 (Ok true) = (line text : Text) × TookLine in0 in1 line × way.Answers plan line text next × Appends out0 out1 text
+  LineIsAnswered plan next in0 in1 out0 out1 (Ok true) = (line text : Text) × TookLine in0 in1 line × behavior.Answers plan line text next × Appends out0 out1 text
   LineIsAnswered plan next in0 in1 out0 out1 (Err (Halted cause)) = (cause ≡ LongInput) × LosesBytes in0 in1 (λ n. n ≡ line_limit + 1) × Keeps out0 out1
   LineIsAnswered plan next in0 in1 out0 out1 (Err InputFailed) = LosesBytes in0 in1 (λ n. ⊤) × Keeps out0 out1
-  LineIsAnswered plan next in0 in1 out0 out1 (Err WriteFailed) = (line text : Text) × TookLine in0 in1 line × (after : Plan) × way.Answers plan line text after × AppendsPrefix out0 out1 text
+  LineIsAnswered plan next in0 in1 out0 out1 (Err WriteFailed) = (line text : Text) × TookLine in0 in1 line × (after : Plan) × behavior.Answers plan line text after × AppendsPrefix out0 out1 text
   LineIsAnswered plan next in0 in1 out0 out1 (Err OutOfMemory) = (LosesBytes in0 in1 (λ n. ⊤) ⊎ ((line : Text) × TookLine in0 in1 line)) × Keeps out0 out1
   LineIsAnswered plan next in0 in1 out0 out1 (Err (ShelfFailed name)) = ⊥
 
   -- The answer to a line was written whole; or a write failed after a prefix; or memory ran out before anything was
   -- written.
   abbrev pub AnswerIsWritten : Plan → Plan → Text → Option Text → Option Text → Result (Unit {0}) Stop → Type 0
-  AnswerIsWritten plan next line out0 out1 (Ok _) = (text : Text) × way.Answers plan line text next × Appends out0 out1 text
-  AnswerIsWritten plan next line out0 out1 (Err WriteFailed) = (text : Text) × way.Answers plan line text next × AppendsPrefix out0 out1 text
+  AnswerIsWritten plan next line out0 out1 (Ok _) = (text : Text) × behavior.Answers plan line text next × Appends out0 out1 text
+  AnswerIsWritten plan next line out0 out1 (Err WriteFailed) = (text : Text) × behavior.Answers plan line text next × AppendsPrefix out0 out1 text
   AnswerIsWritten plan next line out0 out1 (Err OutOfMemory) = Keeps out0 out1
   AnswerIsWritten plan next line out0 out1 (Err _) = ⊥

@@ -16,5 +16,5 @@ IsOpened StandsFor (Err _) = ⊤
 
 -- The opened mode ran. If no mode was opened, the input and out are unchanged.
 abbrev pub OpenedModeRan : {M State : Type 0} → ModeBehavior State → (M → State → Type 0) → Result M Stop → Option Text → Option Text → Option Text → Option Text → Result (Unit {0}) Stop → Type 0
-OpenedModeRan {State = State} way StandsFor (Ok mode) in0 in1 out0 out1 result = (plan : State) → StandsFor mode plan → ModeRan way plan in0 in1 out0 out1 result
-OpenedModeRan way StandsFor (Err stop) in0 in1 out0 out1 result = (result ≡ Err stop) × (in1 ≡ in0) × (out1 ≡ out0)
+OpenedModeRan {State = State} behavior StandsFor (Ok mode) in0 in1 out0 out1 result = (plan : State) → StandsFor mode plan → ModeRan behavior plan in0 in1 out0 out1 result
+OpenedModeRan behavior StandsFor (Err stop) in0 in1 out0 out1 result = (result ≡ Err stop) × (in1 ≡ in0) × (out1 ≡ out0)

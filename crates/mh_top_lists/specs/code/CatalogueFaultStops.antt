@@ -1,7 +1,9 @@
--- The reason to stop the work for a fault of the catalogue.
+-- The reason to stop the work for a fault of the catalogue, or of rebasing a messages file.
 use Rattle.std.specs.Prelude.{◌≡◌}
 use Rattle.mh_catalogue_rows.specs.declared.rows.CatalogueFault.{CatalogueFault}
 use Rattle.mh_catalogue_rows.specs.declared.rows.CatalogueFault.TheVariants.{TooLong, Memory}
+use Rattle.mh_rebase.specs.declared.rebasing.RebaseFault.{RebaseFault}
+use Rattle.mh_rebase.specs.declared.rebasing.RebaseFault.TheVariants as rebasing
 use Rattle.mh_top_plans.specs.Listing.{too_long}
 use Rattle.mh_top_drive.specs.code.StageCalls.{StopsWith}
 use Rattle.mh_top_drive.specs.declared.stop.Cause.TheVariants.{Refused}
@@ -12,3 +14,8 @@ use Rattle.mh_top_drive.specs.declared.stop.Stop.TheVariants.{OutOfMemory}
 abbrev pub IsStopForCatalogueFault : CatalogueFault → Stop → Type 0
 IsStopForCatalogueFault (TooLong s) stop = StopsWith (Refused (too_long s)) stop
 IsStopForCatalogueFault Memory stop = stop ≡ OutOfMemory
+
+-- The same for a fault of rebasing.
+abbrev pub IsStopForRebaseFault : RebaseFault → Stop → Type 0
+IsStopForRebaseFault (rebasing.TooLong s) stop = StopsWith (Refused (too_long s)) stop
+IsStopForRebaseFault rebasing.Memory stop = stop ≡ OutOfMemory

@@ -7,7 +7,7 @@ use Rattle.mh_tables_core.specs.Table.{TableData}
 use Rattle.mh_tables_core.specs.Failing.{CatalogueRow, Fails, max_sentence_cost}
 use Rattle.mh_report_comments.specs.Comments.{IsEntryText}
 use Rattle.mh_grammar.specs.Text.{Text}
-use Rattle.mh_top_plans.specs.Listing.{AreEntries}
+use Rattle.mh_report_comments.specs.CatalogueTexts.{AreEntries}
 use Rattle.mh_top_types.specs.Shapes.{Prepared}
 use Rattle.mh_top_drive.specs.declared.stop.Stop.{Stop}
 use Rattle.mh_top_drive.specs.declared.stop.Stop.TheVariants.{WriteFailed, OutOfMemory}

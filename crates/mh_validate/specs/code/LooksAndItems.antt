@@ -46,7 +46,8 @@ pub record IsItemOf (g : Grammar) (raw : RawItem) (item : KernelItem) : Type 0 w
 abbrev pub AreItemsOf : Grammar → List RawItem → List KernelItem → Type 0
 AreItemsOf g = AreSpelledValues (raw_item g) (IsKernelItem (plain_of g)) IsItemBefore
 
--- The items are those that state `s` may have, apart from the checks of their numbers and their order.
+-- The items can be the kernel of state `s`, apart from the checks of their numbers and their order: those of the start
+-- kernel for a start state, and otherwise at least one item with a moved dot.
 pub record MayHaveItems (g : Grammar) (s : ℕ) (items : List KernelItem) : Type 0 where
   pub start : s < length g.starts → items ≡ (start_kernel s).items
   pub some : length g.starts ≤ s → 0 < length items

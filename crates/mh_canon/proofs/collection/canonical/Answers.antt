@@ -1,6 +1,6 @@
 use Rattle.std.proofs.Common.{rules}
 use Rattle.mh_grammar.specs.Plain.{plain_of}
-use Rattle.mh_canon_states.specs.declared.limits.TheConstants.{MAX_STATES}
+use Rattle.mh_canon_states.specs.Limits.{max_states}
 use Rattle.mh_canon_states.proofs.CanonicalIsAutomaton.{IsAutomaton-canonical, canonical_within_limit}
 use Rattle.mh_canon.proofs.collection.canonical.Goals as goal
 
@@ -12,7 +12,7 @@ returns-in_ok-into_list-in-Ok-clause-ok g c = rw (c.from_vec.ensures, c.from_vec
 
 pub returns-in_ok-into_list-in-Ok-clause-exact : goal.returns-in_ok-into_list-in-Ok-clause-exact
 returns-in_ok-into_list-in-Ok-clause-exact g c =
-    canonical_within_limit (plain_of c.args.grammar.now) (record { kernels = c.collect.new.kernels.set.keys; edges = c.collect.new.edges.items }) c.in-Ok.ensures.ok MAX_STATES c.in-Ok.ensures.few
+    canonical_within_limit (plain_of c.args.grammar.now) (record { kernels = c.collect.new.kernels.set.keys; edges = c.collect.new.edges.items }) c.in-Ok.ensures.ok max_states c.in-Ok.ensures.few
 
 pub returns-in_ok-into_list-in-Ok-clause-automaton : goal.returns-in_ok-into_list-in-Ok-clause-automaton
 returns-in_ok-into_list-in-Ok-clause-automaton g c =

@@ -22,7 +22,7 @@ states-preserved g c =
     let e = c.in-Ok.ensures.ok in
     let n : length c.states.edges.items ≡ c.len-in-states.result = omega (arith, c.states.edges.ok.0) in
     record {
-      building = rw c.in_ok-push-in-Ok.ensures.items (PartialCollection-step (plain_of c.args.grammar.now) c.states.kernels.set.keys c.edges_of.new.kernels.set.keys c.states.edges.items e.kernel e.of.closed (symbols_of e.moves) c.in-Ok.row c.states.invariant.building (rw n e.at) e.of.valid e.of.same e.of.are.rising e.of.are.exact e.edges);
+      building = rw c.in_ok-push-in-Ok.ensures.items (PartialCollection-step (plain_of c.args.grammar.now) c.states.kernels.set.keys c.edges_of.new.kernels.set.keys c.states.edges.items e.kernel e.are_moves.closed (symbols_of e.moves) c.in-Ok.row c.states.invariant.building (rw n e.at) e.are_moves.valid e.are_moves.same e.are_moves.are.rising e.are_moves.are.exact e.edges);
       few = c.in-Ok.ensures.few;
       mover = c.in-Ok.ensures.mover;
     }

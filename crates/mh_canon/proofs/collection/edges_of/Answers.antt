@@ -26,13 +26,13 @@ returns-clause-ok g c =
     let is = rw c.all.ensures at c.index-all-state.is in
     let at : slice_get kernels c.args.state ≡ Some k = slice_get-get_or kernels c.args.state k c.requires.state ∙ ap Some (sym is) in
     let of = c.in_ok-moves.ensures.moves in
-    IfOk-weaker c.place_all.result _ _ (λ row places. record { kernel = k; at = at; moves = c.in_ok-moves.moves.items; of = of; edges = places of.closed of.are }) c.place_all.ensures.ok
+    IfOk-weaker c.place_all.result _ _ (λ row places. record { kernel = k; at = at; moves = c.in_ok-moves.moves.items; are_moves = of; edges = places of.closed of.are }) c.place_all.ensures.ok
 
-pub returns-clause-over : goal.returns-clause-over
-returns-clause-over g c over =
+pub returns-clause-exceeds : goal.returns-clause-exceeds
+returns-clause-exceeds g c over =
     let kernels = c.args.kernels.now.set.keys in
     let k = c.index-all-state.result in
     let is = rw c.all.ensures at c.index-all-state.is in
     let state : IsCanonicalState (plain_of c.args.grammar.now) k = rw is (All-get_or (IsCanonicalState (plain_of c.args.grammar.now)) kernels c.args.state k c.requires.state c.requires.states.each) in
     let of = c.in_ok-moves.ensures.moves in
-    c.place_all.ensures.over over of.closed (IsStateClosure-close (plain_of c.args.grammar.now) k of.closed state of.valid of.same) of.are
+    c.place_all.ensures.exceeds over of.closed (IsStateClosure-close (plain_of c.args.grammar.now) k of.closed state of.valid of.same) of.are

@@ -5,8 +5,8 @@ use Rattle.mh_catalogue.proofs.RowsBelow.{FailsWithinMaxCost-least, rows_added, 
 use Rattle.mh_catalogue.proofs.gathering.add_row.Goals.{in-Err-push, in-Ok-push}
 use Rattle.mh_catalogue.proofs.gathering.add_row.Goals as goal
 
-pub returns-then-cost-gt-MAX_SENTENCE_COST-clause-long : goal.returns-then-cost-gt-MAX_SENTENCE_COST-clause-long
-returns-then-cost-gt-MAX_SENTENCE_COST-clause-long c = λ s e.
+pub returns-then-cost-gt-MAX_SENTENCE_COST-clause-too_long : goal.returns-then-cost-gt-MAX_SENTENCE_COST-clause-too_long
+returns-then-cost-gt-MAX_SENTENCE_COST-clause-too_long c = λ s e.
     let same : c.args.state ≡ s = cc in
     subst (TooLongAt c.args.reach.now) same (too_long c.args.reach.now c.args.state (rows_of c.args.rows.now.items) c.requires.rows c.in-Some.cost c.in-Some.ensures c.if-cost-gt-MAX_SENTENCE_COST.true)
 

@@ -6,7 +6,7 @@ pub loop-state-init : goal.loop-state-init
 loop-state-init c = rw c.new-rows.ensures.items (RowsBelow-start c.args.reach.now)
 
 pub returns-in-Err : goal.returns-in-Err
-returns-in-Err c = not_made c.args.reach.now c.in-Err.fault (λ s e. c.in-Err.ensures.long s (ap Err e))
+returns-in-Err c = not_made c.args.reach.now c.in-Err.fault (λ s e. c.in-Err.ensures.too_long s (ap Err e))
 
 pub returns : goal.returns
 returns c =

@@ -10,7 +10,7 @@ pub returns-in-Ok-clause-short : goal.returns-in-Ok-clause-short
 returns-in-Ok-clause-short c = (subst (λ (t : TableData). IsCatalogueResult t c.all_rows.result) c.in-Ok.ensures c.all_rows.ensures).short
 
 pub returns-in-Ok-clause-none : goal.returns-in-Ok-clause-none
-returns-in-Ok-clause-none c = (subst (λ (t : TableData). IsCatalogueResult t c.all_rows.result) c.in-Ok.ensures c.all_rows.ensures).none
+returns-in-Ok-clause-none c = (subst (λ (t : TableData). IsCatalogueResult t c.all_rows.result) c.in-Ok.ensures c.all_rows.ensures).none_too_long
 
-pub returns-in-Ok-clause-long : goal.returns-in-Ok-clause-long
-returns-in-Ok-clause-long c = (subst (λ (t : TableData). IsCatalogueResult t c.all_rows.result) c.in-Ok.ensures c.all_rows.ensures).long
+pub returns-in-Ok-clause-too_long : goal.returns-in-Ok-clause-too_long
+returns-in-Ok-clause-too_long c = (subst (λ (t : TableData). IsCatalogueResult t c.all_rows.result) c.in-Ok.ensures c.all_rows.ensures).too_long

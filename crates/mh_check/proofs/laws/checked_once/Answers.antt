@@ -5,8 +5,8 @@ use Rattle.mh_check.proofs.laws.checked_once.Goals as goal
 pub returns-clause-fault : goal.returns-clause-fault
 returns-clause-fault c = fault_once c.args.table.now
 
-pub returns-clause-apart : goal.returns-clause-apart
-returns-clause-apart c = sound_right c.args.table.now
+pub returns-clause-not_both : goal.returns-clause-not_both
+returns-clause-not_both c = sound_right c.args.table.now
 
 pub returns-clause-either : goal.returns-clause-either
 returns-clause-either c = compiled_or_fault c.args.table.now c.table-facts.ensures.facts

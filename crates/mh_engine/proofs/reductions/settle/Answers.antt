@@ -15,25 +15,25 @@ overflow_add-count c = let few = SettleInvariant-few c.args.from c.reductions.at
 pub reductions-smaller-then-floor-depth : goal.reductions-smaller-then-floor-depth
 reductions-smaller-then-floor-depth c =
     let next =
-    progress_above c.args.from c.reductions.at c.in-Ok.next c.reductions.floor c.reductions.count c.in-AboutToReduce.state c.in-AboutToReduce.production c.reductions.invariant (sym c.in-AboutToReduce.ensures) c.in-Ok.ensures.made c.in-Ok.ensures.fits
+    progress_above c.args.from c.reductions.at c.in-Ok.next c.reductions.floor c.reductions.count c.in-AboutToReduce.state c.in-AboutToReduce.production c.reductions.invariant (sym c.in-AboutToReduce.ensures) c.in-Ok.ensures.value c.in-Ok.ensures.fits
     c.facts-in-AboutToReduce.ensures (omega (arith, c.if-floor-depth.true, c.depth-depth.ensures)) in
     let few : c.reductions.count + 1 ≤ 10000 = SettleInvariant-few c.args.from c.in-Ok.next c.reductions.floor (c.reductions.count + 1) next in
     omega arith
 
 pub reductions-preserved-then-floor-depth : goal.reductions-preserved-then-floor-depth
 reductions-preserved-then-floor-depth c =
-    progress_above c.args.from c.reductions.at c.in-Ok.next c.reductions.floor c.reductions.count c.in-AboutToReduce.state c.in-AboutToReduce.production c.reductions.invariant (sym c.in-AboutToReduce.ensures) c.in-Ok.ensures.made c.in-Ok.ensures.fits
+    progress_above c.args.from c.reductions.at c.in-Ok.next c.reductions.floor c.reductions.count c.in-AboutToReduce.state c.in-AboutToReduce.production c.reductions.invariant (sym c.in-AboutToReduce.ensures) c.in-Ok.ensures.value c.in-Ok.ensures.fits
     c.facts-in-AboutToReduce.ensures (omega (arith, c.if-floor-depth.true, c.depth-depth.ensures))
 
 pub reductions-smaller : goal.reductions-smaller
 reductions-smaller c =
     let few : c.reductions.count ≤ 10000 = SettleInvariant-few c.args.from c.reductions.at c.reductions.floor c.reductions.count c.reductions.invariant in
     let tree =
-    some_tree c.args.from c.reductions.at c.in-Ok.next c.reductions.floor c.reductions.count c.in-AboutToReduce.state c.in-AboutToReduce.production c.reductions.invariant (sym c.in-AboutToReduce.ensures) c.in-Ok.ensures.made c.in-Ok.ensures.fits
+    some_tree c.args.from c.reductions.at c.in-Ok.next c.reductions.floor c.reductions.count c.in-AboutToReduce.state c.in-AboutToReduce.production c.reductions.invariant (sym c.in-AboutToReduce.ensures) c.in-Ok.ensures.value c.in-Ok.ensures.fits
     c.facts-in-AboutToReduce.ensures in
     omega (arith, c.if-floor-depth.false, c.depth-depth.ensures, c.saturating_sub-floor-else-floor-depth.ensures)
 
 pub reductions-preserved : goal.reductions-preserved
 reductions-preserved c =
-    progress_below c.args.from c.reductions.at c.in-Ok.next c.reductions.floor c.reductions.count c.in-AboutToReduce.state c.in-AboutToReduce.production c.reductions.invariant (sym c.in-AboutToReduce.ensures) c.in-Ok.ensures.made c.in-Ok.ensures.fits
+    progress_below c.args.from c.reductions.at c.in-Ok.next c.reductions.floor c.reductions.count c.in-AboutToReduce.state c.in-AboutToReduce.production c.reductions.invariant (sym c.in-AboutToReduce.ensures) c.in-Ok.ensures.value c.in-Ok.ensures.fits
     c.facts-in-AboutToReduce.ensures c.saturating_sub-floor-else-floor-depth.result (omega (arith, c.depth-depth.ensures, c.saturating_sub-floor-else-floor-depth.ensures))

@@ -6,7 +6,7 @@ use Rattle.mh_engine.proofs.SentenceTokens.{IsBeforeToken-start, IsBeforeToken-s
 use Rattle.mh_engine.proofs.sentence.run.Goals as goal
 
 pub loop-place-init : goal.loop-place-init
-loop-place-init c = IsBeforeToken-start c.args.table.now c.args.start c.args.sentence.now c.begin-at.result c.begin-at.ensures.made
+loop-place-init c = IsBeforeToken-start c.args.table.now c.args.start c.args.sentence.now c.begin-at.result c.begin-at.ensures.value
 
 pub feed-requires-clause-token : goal.feed-requires-clause-token
 feed-requires-clause-token c =
@@ -16,7 +16,7 @@ feed-requires-clause-token c =
 pub returns-in-Ok-Ended-clause-reached : goal.returns-in-Ok-Ended-clause-reached
 returns-in-Ok-Ended-clause-reached c =
     subst (IsTokenOutcome c.args.table.now c.args.start c.args.sentence.now c.loop-place.place) c.in-Ok-Ended.field-0-is
-    (c.in-Ok-Ended.ensures.read c.args.table.now c.args.start c.args.sentence.now (record { reads = c.loop-place.invariant; here = c.loop-place-test.true; token_is = refl }))
+    (c.in-Ok-Ended.ensures.read c.args.table.now c.args.start c.args.sentence.now (record { reads = c.loop-place.invariant; index_known = c.loop-place-test.true; token_is = refl }))
 
 pub returns-in-Err-settle-clause-deep : goal.returns-in-Err-settle-clause-deep
 returns-in-Err-settle-clause-deep c = λ e. IsBeforeToken-too_deep c.args.table.now c.args.start c.args.sentence.now c.loop-place.place c.loop-place.at c.loop-place.invariant (c.in-Err-settle.ensures.deep e)
@@ -35,4 +35,4 @@ returns-in-Accepted-clause-reached c =
 pub unreachable-requires : goal.unreachable-requires
 unreachable-requires c =
     let r = (IsBeforeToken-settled c.args.table.now c.args.start c.args.sentence.now c.loop-place.place c.loop-place.at c.in-Ok.end c.loop-place.invariant c.in-Ok.ensures.settled) in
-    no_other_phase_at_end c.in-Ok.end r.empty r.calm c.in-Ok.ensures.settled.settled (λ s e. c.in_default.not-InputNeeded s (c.phase.ensures ∙ e)) (λ e. c.in_default.not-Accepted (c.phase.ensures ∙ e))
+    no_other_phase_at_end c.in-Ok.end r.empty r.not_refused c.in-Ok.ensures.settled.settled (λ s e. c.in_default.not-InputNeeded s (c.phase.ensures ∙ e)) (λ e. c.in_default.not-Accepted (c.phase.ensures ∙ e))

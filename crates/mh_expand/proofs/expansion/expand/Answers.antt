@@ -21,7 +21,7 @@ returns-clause-sentences c =
     let j = c.args.joined.now in
     IfOk-weaker c.expand_with.result (ExpandContract j) (HasSameSentences j) (λ e w. w.sentences) c.expand_with.ensures.ok
 
-pub returns-clause-exact : goal.returns-clause-exact
-returns-clause-exact c =
+pub returns-clause-no_fault : goal.returns-clause-no_fault
+returns-clause-no_fault c =
     let j = c.args.joined.now in
-    IfOk-weaker c.expand_with.result (ExpandContract j) (λ _. (fault : ExpandFault) → IsFirstFault j fault → ⊥) (λ e w. w.exact) c.expand_with.ensures.ok
+    IfOk-weaker c.expand_with.result (ExpandContract j) (λ _. (fault : ExpandFault) → IsFirstFault j fault → ⊥) (λ e w. w.no_fault) c.expand_with.ensures.ok

@@ -37,7 +37,7 @@ instances-preserved c =
     let before = found_terms j (take (length instances) (terms_at ts numbers)) in
     let P : ℕ → Type 0 = λ p. FindsInstance j before ts us numbers new (term_at ts (get_or numbers p 0)) c.in-Ok.instance in
     let v = subst P c.len-place.ensures (c.in-Ok.ensures.ok before w.search) in
-    let longer = IsPrefixOf-found ts us numbers new w.search.below v.went.terms v.went.numbers in
+    let longer = IsPrefixOf-found ts us numbers new w.search.below v.terms_found.terms v.terms_found.numbers in
     record {
       expanding = rw c.in_ok-push-in-Ok.ensures.ok (IsExpanding-step j ts numbers instances rank w l us new c.in-Ok.instance (terms_of-distinct c.expand_instance.new.terms.nodes.keys c.expand_instance.new.terms.nodes_ok) c.in-Ok.ensures.few v);
       longer = IsPrefixOf-trans (terms_at (terms_of c.args.terms.now.nodes.keys) c.args.found.now.keys) (terms_at ts numbers) (terms_at us new) c.instances.invariant.longer longer;

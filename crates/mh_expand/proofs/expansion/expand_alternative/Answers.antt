@@ -29,8 +29,8 @@ returns-in-Err-clause-err c = λ before t e s.
 
 pub returns-clause-ok : goal.returns-clause-ok
 returns-clause-ok c = λ before t e s.
-    let v = rw (take_all c.loop-producer.producer-index c.as_slice-producer-items.result.now c.loop-producer-test.false ∙ c.as_slice-producer-items.ensures) at (c.loop-producer.invariant.through before t e s) in
-    record { went = v.went; made = record { file = refl; place = refl; rhs = v.parts; prec = refl } }
+    let v = rw (take_all c.loop-producer.producer-index c.as_slice-producer-items.result.now c.loop-producer-test.false ∙ c.as_slice-producer-items.ensures) at (c.loop-producer.invariant.finds before t e s) in
+    record { terms_found = v.terms_found; is_production = record { file = refl; place = refl; rhs = v.parts; prec = refl } }
 
 pub find-requires-clause-number : goal.find-requires-clause-number
 find-requires-clause-number c = slice_get_within (terms_of c.replace.new.terms.nodes.keys) c.in_ok-number.number (replaced_term_of (terms_at (terms_of c.loop-producer.terms.nodes.keys) c.args.formals.now) c.producer-item.result) c.in_ok-number.ensures.term

@@ -24,4 +24,4 @@ pub returns-clause-few : goal.returns-clause-few
 returns-clause-few c = c.loop-alternative.invariant.few
 
 pub returns-clause-ok : goal.returns-clause-ok
-returns-clause-ok c = λ before t e s. rw (take_all c.loop-alternative.alternative-index c.args.alternatives.now (omega arith)) at (c.loop-alternative.invariant.through before t e s)
+returns-clause-ok c = λ before t e s. rw (take_all c.loop-alternative.alternative-index c.args.alternatives.now (omega arith)) at (c.loop-alternative.invariant.finds before t e s)

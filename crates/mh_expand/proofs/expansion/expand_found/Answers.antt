@@ -41,13 +41,13 @@ returns-in_ok-expanded-in-Ok-expand_all-clause-ok c =
     let s : IsInstanceSearch j [] ts c.args.found.now.keys = rw c.requires.none (IsInstanceSearch-none j ts) in
     let w : FindsStarts j ts us [] numbers c.in-Ok.starts = rw c.requires.none at (c.in-Ok.ensures.ok s) in
     let a = c.in-Ok-expand_all.ensures.ok in
-    let named : AreNumbersOf (terms_at vs new) c.in-Ok.starts (start_terms j) = AreNumbersOf-longer (terms_at us numbers) (terms_at vs new) a.longer c.in-Ok.starts (start_terms j) w.made in
+    let named : AreNumbersOf (terms_at vs new) c.in-Ok.starts (start_terms j) = AreNumbersOf-longer (terms_at us numbers) (terms_at vs new) a.longer c.in-Ok.starts (start_terms j) w.are_starts in
     let e : Expanded = record { tokens = j.tokens; starts = c.in-Ok.starts; instances = c.in-Ok-expand_all.instances } in
     let done : IsExpanded j e = IsExpanded-done j vs new c.in-Ok-expand_all.instances (get nat_eq c.args.ranks.now) a.expanding e a.done named refl refl in
     let whole : ExpandContract j e = record {
       expanded = done;
       ready = λ ready. IsExpandedReady-expanded j e done ready (omega (arith, a.expanding.few, a.expanding.within));
       sentences = has_same_sentences j e done;
-      exact = expanded_has_no_fault j e done;
+      no_fault = expanded_has_no_fault j e done;
     } in
     rw c.in_ok-expanded-in-Ok-expand_all.ensures whole

@@ -15,12 +15,12 @@ rule_of-rule-requires c =
     let number = get_or c.as_slice.result.now c.args.place 0 in
     let head = node_head ts number c.at-node.result.now c.at-node.ensures.means in
     let fit : IsExpandable c.args.joined.now (term_at ts number) = rw c.as_slice.ensures.keys c.requires.fit in
-    rule_exists c.args.joined.now c.at-node.result.now.head (length (arguments (term_at ts number))) (rw head at fit.instance) (rw head at fit.fits)
+    rule_exists c.args.joined.now c.at-node.result.now.head (length (arguments (term_at ts number))) (rw head at fit.instance) (rw head at fit.right_arity)
 
 pub name_of-requires-clause-short : goal.name_of-requires-clause-short
 name_of-requires-clause-short c =
     let fit : IsExpandable c.args.joined.now (term_at (terms_of c.args.terms.now.nodes.keys) (get_or c.as_slice.result.now c.args.place 0)) = rw c.as_slice.ensures.keys c.requires.fit in
-    fit.short
+    fit.short_name
 
 pub expand_rule-requires-clause-number : goal.expand_rule-requires-clause-number
 expand_rule-requires-clause-number c = rw c.as_slice.ensures.keys (c.requires.below c.args.place 0 c.requires.place)
@@ -49,11 +49,11 @@ returns-in-Ok-clause-ok c = λ before s.
     let rank : IsOnErrorRank j.on_error t c.rank_of.result = rw c.rank_of.ensures (c.requires.ranks.each number t (slice_get-term_at ts number l)) in
     let family : Term → Type 0 = λ x. FindsInstance j before ts (terms_of c.expand_rule.new.terms.nodes.keys) c.args.found.now.keys c.expand_rule.new.found.keys x (record { name = c.in_ok-name.name; inlined = c.rule_of-rule.result.now.inlined; on_error = c.rank_of.result; productions = c.in-Ok.productions }) in
     subst family (ap (λ ks. term_at ts (get_or ks c.args.place 0)) c.as_slice.ensures.keys) (record {
-      went = w.went;
-      made = record {
+      terms_found = w.terms_found;
+      is_instance = record {
         name = c.in_ok-name.ensures;
         inlined = ap (option_map (λ (q : JoinedRule). q.inlined)) rule;
         on_error = rank;
-        productions = w.made;
+        productions = w.are_productions;
       };
     })

@@ -21,8 +21,8 @@ returns-in-Err-clause-few c = tt
 
 pub returns-clause-ok : goal.returns-clause-ok
 returns-clause-ok c = λ s.
-    let w = rw (take_all c.loop-rule.rule-index c.as_slice-rule-items.result.now c.loop-rule-test.false ∙ c.as_slice-rule-items.ensures) at (c.loop-rule.invariant.through s) in
-    record { went = w.0; made = w.1 }
+    let w = rw (take_all c.loop-rule.rule-index c.as_slice-rule-items.result.now c.loop-rule-test.false ∙ c.as_slice-rule-items.ensures) at (c.loop-rule.invariant.finds s) in
+    record { terms_found = w.0; are_starts = w.1 }
 
 pub returns-in-Err-clause-ok : goal.returns-in-Err-clause-ok
 returns-in-Err-clause-ok c = tt

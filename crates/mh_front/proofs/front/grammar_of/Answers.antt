@@ -3,7 +3,7 @@ use Rattle.std.proofs.lemmas.Result.{IfOk-weaker, IfErr-weaker}
 use Rattle.mh_grammar.specs.Costs.{HaveCosts}
 use Rattle.mh_grammar.specs.Numbering.{AreDistinct}
 use Rattle.mh_grammar.specs.Plain.{plain_of, IsInRange}
-use Rattle.mh_rules.specs.declared.joined.TheConstants.{MAX_TOKENS}
+use Rattle.mh_rules.specs.Limits.{max_tokens}
 use Rattle.mh_front.specs.Sentences.{HasSentencesOfModules}
 use Rattle.mh_front.specs.Stages.{HasCauseOrMemory, IsGrammarOfJoined, IsGrammarOfModules, IsGrammarFault, IsJoinedFault}
 use Rattle.mh_front.proofs.GrammarUnique as one
@@ -13,7 +13,7 @@ use Rattle.mh_front.proofs.front.grammar_of.Goals as goal
 pub returns-in-Ok-clause-tokens : goal.returns-in-Ok-clause-tokens
 returns-in-Ok-clause-tokens c =
     let ms = c.args.modules.now in
-    IfOk-weaker c.grammar_of_joined.result (IsGrammarOfJoined c.in-Ok.joined) (λ g. length g.tokens ≤ MAX_TOKENS) (λ g o. one.few_tokens c.args.prelude ms g c.requires (record { joined = c.in-Ok.joined; joins = c.in-Ok.ensures.joins; grammar = o })) c.grammar_of_joined.ensures.grammar
+    IfOk-weaker c.grammar_of_joined.result (IsGrammarOfJoined c.in-Ok.joined) (λ g. length g.tokens ≤ max_tokens) (λ g o. one.few_tokens c.args.prelude ms g c.requires (record { joined = c.in-Ok.joined; joins = c.in-Ok.ensures.joins; grammar = o })) c.grammar_of_joined.ensures.grammar
 
 pub returns-in-Ok-clause-range : goal.returns-in-Ok-clause-range
 returns-in-Ok-clause-range c =

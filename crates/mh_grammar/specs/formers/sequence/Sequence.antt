@@ -1,7 +1,8 @@
--- `Sequence` as a type constructor that recursive types may use around themselves. The names that begin with `the_` are
--- those that the checker asks of each such type: `the_weighed` counts the items as smaller than the sequence (for
--- recursion), `the_places` says that a map of the items keeps their number and order, `the_codes_placed` says the same
--- of the items' codes.
+-- `Sequence` as a type constructor: what has to be proved so that a recursive type may have a sequence of values of its
+-- own type. The names that begin with `the_` are given by the checker. `the_weighed` counts the items as smaller than
+-- the sequence (for recursion), `the_items_listed` says that the parts of a sequence are its items in their order,
+-- `the_places` that a map over the items keeps their number and order, and `the_codes_placed` that it keeps the codes
+-- of the items. The code of a value is the value as a number or a list, by which values are compared.
 use mathlib.Core.Path.{◌≡◌, refl, sym}
 use mathlib.Core.List.{List, []}
 use mathlib.Core.Former.{Former, this, list, via, children}

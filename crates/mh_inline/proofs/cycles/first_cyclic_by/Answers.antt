@@ -12,4 +12,4 @@ pub returns-clause-sized : goal.returns-clause-sized
 returns-clause-sized c = all_sized c.args.expanded.now.instances c.args.sizing.now.sizes.items c.requires.settled
     (λ n r. let w = (inline_instance c.args.expanded.now.instances n (reaches_user c.args.expanded.now.instances n n r)).within in
     c.loop-number.invariant n (omega (arith, c.loop-number-test.false, c.len-number-end.ensures)) r)
-    c.requires.sizing.right
+    c.requires.sizing.are_sizes

@@ -13,7 +13,7 @@ returns-then-not-is_inline c =
       | then-not-is_inline-via-else-not-is_inline+then-is_some w ↦ (
         (λ e. absurd (false≢true e)),
         (λ r. let sizes = c.args.sizing.now.sizes.items in
-            let l : c.args.number < length sizes = omega (arith, c.requires.sizing.right.len, c.requires.number) in
-            absurd (acyclic_sized is sizes c.args.number w.index.result.now c.requires.sizing.right (slice_get_read sizes (length sizes) c.args.number w.index.result.now refl l w.index.ensures) (sym w.is_some.ensures ∙ w.if-is_some.true) r)),
+            let l : c.args.number < length sizes = omega (arith, c.requires.sizing.are_sizes.len, c.requires.number) in
+            absurd (acyclic_sized is sizes c.args.number w.index.result.now c.requires.sizing.are_sizes (slice_get_read sizes (length sizes) c.args.number w.index.result.now refl l w.index.ensures) (sym w.is_some.ensures ∙ w.if-is_some.true) r)),
       )
     ]

@@ -9,4 +9,4 @@ returns-in-Ok c =
     let start : ℕ = c.index.result.now in
     let same : start ≡ empty.number = c.index.ensures ∙ get_or_from_slice_get c.args.expanded.now.starts c.args.place empty.number start empty.at in
     let named = subst (λ (n : ℕ). IsInstanceNamed c.args.expanded.now n c.in-Ok.name) same c.in-Ok.ensures in
-    (empty.acyclic, empty.kept, empty.grammar, empty.inlined, empty.small, record { number = empty.number; named = named; first = empty.first })
+    (empty.acyclic, empty.kept, empty.grammar, empty.inlined, empty.within_limits, record { number = empty.number; named = named; first = empty.first })

@@ -9,7 +9,7 @@ use Rattle.mh_inline.proofs.Sentences.{keeps_sentences}
 use Rattle.mh_inline.proofs.inlining.inline_rules.Goals as goal
 
 pub returns-clause-range : goal.returns-clause-range
-returns-clause-range c = IfOk-weaker c.inline_searched.result (IsGrammarOf c.args.expanded.now) (λ g. IsInRange (plain_of g)) (λ g o. in_range c.args.expanded.now c.requires o.kept g o.inlined o.small) c.inline_searched.ensures.grammar
+returns-clause-range c = IfOk-weaker c.inline_searched.result (IsGrammarOf c.args.expanded.now) (λ g. IsInRange (plain_of g)) (λ g o. in_range c.args.expanded.now c.requires o.kept g o.inlined o.within_limits) c.inline_searched.ensures.grammar
 
 pub returns-clause-distinct : goal.returns-clause-distinct
 returns-clause-distinct c = IfOk-weaker c.inline_searched.result (IsGrammarOf c.args.expanded.now) (λ g. AreDistinct g.starts) (λ g o. subst AreDistinct (sym o.inlined.starts) (distinct_starts c.args.expanded.now c.requires o.kept)) c.inline_searched.ensures.grammar

@@ -17,6 +17,6 @@ returns-in-None-clause-grammar c = record {
   acyclic = c.requires.acyclic;
   kept = c.requires.kept;
   inlined = c.requires.inlined;
-  small = c.requires.small;
+  within_limits = c.requires.small;
   productive = productive_starts c.args.expanded.now c.requires.ready c.requires.kept c.args.grammar c.requires.inlined c.requires.small c.requires.acyclic c.in_ok-marks.marks.items c.in_ok-marks.ensures.exact (rw (c.as_slice-2.ensures, c.as_slice.ensures.value) at c.in-None.ensures);
 }

@@ -38,4 +38,4 @@ returns-clause-unfolds c =
     let all = c.in_ok-all.all.items in
     let front = rw c.front_to-front.ensures at c.in_ok-all.ensures.unfolds in
     let rest = rw c.rest_from-behind.ensures at c.in_ok-seconds.ensures in
-    subst (Unfolds is Xs) (sym (c.in_ok-put_behind.ensures ∙ ap (choices all) c.as_slice.ensures.value)) (side_done is Xs last_use.producer last_use.number all seconds c.requires.at front rest)
+    subst (Unfolds is Xs) (sym (c.in_ok-put_after.ensures ∙ ap (choices all) c.as_slice.ensures.value)) (side_done is Xs last_use.producer last_use.number all seconds c.requires.at front rest)

@@ -40,5 +40,5 @@ returns-clause-unfolds c =
     let side = c.in_ok-side.side.items in
     let l = slice_get_within ps k c.requires.last.production c.requires.last.alternative in
     let at = slice_get_read ps (length ps) k p refl l c.index-productions-last_use.is in
-    IfOk-weaker c.own_behind.result (λ more. more.items ≡ before ++ map (with_own_prec p.prec) side) (λ more. UnfoldsEach is (take (k + 1) ps) more.items)
-    (λ more e. subst (UnfoldsEach is (take (k + 1) ps)) (sym e) (each_then is ps k p before side at (rw c.front_to-front.ensures at c.in_ok-before.ensures) (rw c.as_slice.ensures at c.in_ok-side.ensures.unfolds))) c.own_behind.ensures
+    IfOk-weaker c.append_with_prec.result (λ more. more.items ≡ before ++ map (with_own_prec p.prec) side) (λ more. UnfoldsEach is (take (k + 1) ps) more.items)
+    (λ more e. subst (UnfoldsEach is (take (k + 1) ps)) (sym e) (each_then is ps k p before side at (rw c.front_to-front.ensures at c.in_ok-before.ensures) (rw c.as_slice.ensures at c.in_ok-side.ensures.unfolds))) c.append_with_prec.ensures

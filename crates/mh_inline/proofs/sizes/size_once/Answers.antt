@@ -2,7 +2,7 @@ use Rattle.std.proofs.Common.{◌-◌, sym, ap, ◌∙◌, arith, inl, inr, subs
 use Rattle.std.proofs.lemmas.Bool.{cases_eq, or_parts}
 use Rattle.mh_inline_unfold.specs.declared.sizes.SizeTable.{SizeTable}
 use Rattle.mh_inline_unfold.specs.code.Sizes.{IsFixedAt, unsized_count}
-use Rattle.mh_inline.proofs.SizeOrder.{more_step}
+use Rattle.mh_inline.proofs.SizeOrder.{less_by_either}
 use Rattle.mh_inline.proofs.sizes.size_once.Goals as goal
 
 pub loop-done-preserved : goal.loop-done-preserved
@@ -24,5 +24,5 @@ loop-done-preserved c =
             | inl here ↦ rw here one.1
             | inr other ↦ inv.settled both.0 n (omega arith)
           ]);
-      more = more_step before now (unsized_count new) (unsized_count old) (unsized_count c.args.sizing.now) inv.more (λ e. ap unsized_count (inv.same e)) c.in_ok-changed.ensures.more (λ e. ap unsized_count (c.in_ok-changed.ensures.same e).0);
+      more = less_by_either before now (unsized_count new) (unsized_count old) (unsized_count c.args.sizing.now) inv.more (λ e. ap unsized_count (inv.same e)) c.in_ok-changed.ensures.more (λ e. ap unsized_count (c.in_ok-changed.ensures.same e).0);
     }

@@ -4,7 +4,7 @@ use Rattle.std.proofs.lemmas.Option.{slice_get_read, get_or_from_slice_get}
 use Rattle.mh_inline_unfold.specs.code.Sizes.{IsSmallSize}
 use Rattle.mh_inline_unfold.proofs.UniqueUnfoldings.{part_same, each_same, some_ready}
 use Rattle.mh_inline_unfold.proofs.InlineProducers.{inline_instance}
-use Rattle.mh_inline.proofs.UnfoldedInstances.{size_small, each_known, each_of_part}
+use Rattle.mh_inline.proofs.UnfoldedInstances.{size_within_if_small, each_known, each_of_part}
 use Rattle.mh_inline.proofs.MovedUnfoldings.{lacks_same}
 use Rattle.mh_inline.proofs.unfoldings.unfold_one.Goals as goal
 
@@ -26,8 +26,8 @@ returns-then-not-is_small-clause-unfoldings c = λ us u small.
     let next = c.requires.next in
     let is = c.args.expanded.now.instances in
     let sized : c.index.result.now ≡ Some next.size = c.index.ensures ∙ get_or_from_slice_get c.args.sizing.now.sizes.items c.args.number (Some next.size) c.index.result.now next.sized in
-    let same = part_same is _ next.right.unfoldings us next.right.unfolds u in
-    let within : IsSmallSize (Some next.size) = size_small next.right.unfoldings next.size next.right.size (rw same small) in
+    let same = part_same is _ next.size_is.unfoldings us next.size_is.unfolds u in
+    let within : IsSmallSize (Some next.size) = size_within_if_small next.size_is.unfoldings next.size next.size_is.size (rw same small) in
     absurd (false≢true (c.if-not-is_small.ensures.1 (subst IsSmallSize (sym sized) within)))
 
 pub returns-clause-unfoldings : goal.returns-clause-unfoldings

@@ -9,9 +9,9 @@ pub bounds-known-number : goal.bounds-known-number
 bounds-known-number c = let k = known_part c.args.expanded.now.instances c.args.known.now c.args.part c.in-Some.number c.requires (sym c.inline_part.ensures ∙ c.in-Some.is) in slice_get_within c.args.known.now c.in-Some.number k.unfoldings k.at
 
 pub returns-in-Some : goal.returns-in-Some
-returns-in-Some c = on_ok_weaker c.put_behind.result
-    (λ e. extends_known c.args.expanded.now.instances c.args.known.now c.args.part c.in-Some.number c.args.all.now.items c.put_behind.new.all.items c.index-known-number.result c.requires (sym c.inline_part.ensures ∙ c.in-Some.is) c.index-known-number.is
-    (e ∙ ap (choices c.args.all.now.items) c.as_slice.ensures)) c.put_behind.ensures
+returns-in-Some c = on_ok_weaker c.put_after.result
+    (λ e. extends_known c.args.expanded.now.instances c.args.known.now c.args.part c.in-Some.number c.args.all.now.items c.put_after.new.all.items c.index-known-number.result c.requires (sym c.inline_part.ensures ∙ c.in-Some.is) c.index-known-number.is
+    (e ∙ ap (choices c.args.all.now.items) c.as_slice.ensures)) c.put_after.ensures
 
 pub returns-in-None : goal.returns-in-None
 returns-in-None c = on_ok_weaker c.put_part.result

@@ -9,4 +9,4 @@ pub returns : goal.returns
 returns c =
     let items = c.args.all.now.items in
     let last = c.in_ok-last.last in
-    on_ok_weaker c.go_on_each.result (λ e. all_changed (λ u. joined u last) c.go_on_each.new.all _ items c.args.all.now.len (omega arith) c.deref_mut.ensures.value e ∙ sym (choices-one_right items last) ∙ ap (λ u. choices items (u ∷ [])) c.in_ok-last.ensures) c.go_on_each.ensures
+    on_ok_weaker c.append_to_each.result (λ e. all_changed (λ u. joined u last) c.append_to_each.new.all _ items c.args.all.now.len (omega arith) c.deref_mut.ensures.value e ∙ sym (choices-one_right items last) ∙ ap (λ u. choices items (u ∷ [])) c.in_ok-last.ensures) c.append_to_each.ensures

@@ -19,7 +19,7 @@ pub spread-requires : goal.spread-requires
 spread-requires _ c =
     let g = plain_of c.args.grammar.now in
     let h : AddsLooks (IsLookOfItems g c.args.kernel.now.items) c.args.asked.now c.add_kernel_looks.new.set = rw c.as_slice.ensures at c.in_ok-add_kernel_looks.ensures in
-    let queued : AreQueued 0 c.add_kernel_looks.new.set = h.queued 0 (omega arith) (λ n w. absurd (c.requires.nothing.rest n w)) in
+    let queued : AreQueued 0 c.add_kernel_looks.new.set = h.queued 0 (omega arith) (λ n w. absurd (c.requires.nothing.none_waits n w)) in
     let awake : AreAllWaiting c.add_kernel_looks.new.set = all_waiting g (IsLookOfItems g c.args.kernel.now.items) c.args.asked.now c.add_kernel_looks.new.set c.requires.nothing.empty h in
     (search rules, (search rules, (c.requires.fits.few, (c.requires.firsts, (h.table, (h.size ∙ c.requires.nothing.size, (queued, awake)))))))
 

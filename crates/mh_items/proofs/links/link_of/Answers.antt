@@ -22,7 +22,7 @@ pub returns-in-Some-N : goal.returns-in-Some-N
 returns-in-Some-N _ c = λ g s.
     let xs = c.args.symbols.now in
     record {
-      behind = drop (suc 0) xs;
+      suffix = drop (suc 0) xs;
       side = drop_from-slice_get xs 0 (N c.in-Some-N.to) (sym c.symbol_in.ensures ∙ c.in-Some-N.is ∙ ap Some c.in-Some-N.field-0-is);
       rest = rw c.rest_from.ensures at (c.rest_of-rest.ensures g s);
     }

@@ -4,28 +4,28 @@ use Rattle.mh_join_gather.proofs.HasMeanings.{has_meanings}
 use Rattle.mh_join_gather.proofs.gathering.fill.Goals as goal
 
 pub put_tokens-requires : goal.put_tokens-requires
-put_tokens-requires c = c.requires.blank.tokens
+put_tokens-requires c = c.requires.empty.tokens
 
 pub put_starts-requires : goal.put_starts-requires
-put_starts-requires c = c.requires.blank.starts
+put_starts-requires c = c.requires.empty.starts
 
 pub put_aliases-requires : goal.put_aliases-requires
-put_aliases-requires c = c.requires.blank.aliases
+put_aliases-requires c = c.requires.empty.aliases
 
 pub put_levels-requires : goal.put_levels-requires
-put_levels-requires c = c.requires.blank.levels
+put_levels-requires c = c.requires.empty.levels
 
 pub put_costs-requires : goal.put_costs-requires
-put_costs-requires c = c.requires.blank.costs
+put_costs-requires c = c.requires.empty.costs
 
 pub put_kinds-requires : goal.put_kinds-requires
-put_kinds-requires c = c.requires.blank.kinds
+put_kinds-requires c = c.requires.empty.kinds
 
 pub put_definers-requires : goal.put_definers-requires
-put_definers-requires c = c.requires.blank.definers
+put_definers-requires c = c.requires.empty.definers
 
 pub put_rules-requires : goal.put_rules-requires
-put_rules-requires c = c.requires.blank.numbering
+put_rules-requires c = c.requires.empty.numbering
 
 pub returns : goal.returns
 returns c = has_meanings c.args.prelude c.args.files.now _ c.in_ok-put_tokens.ensures c.in_ok-put_starts.ensures c.in_ok-put_aliases.ensures c.in_ok-put_levels.ensures c.in_ok-put_costs.ensures c.in_ok-put_kinds.ensures c.in_ok-put_definers.ensures c.in_ok-put_rules.ensures.numbered

@@ -8,11 +8,11 @@ use Rattle.mh_join_names.proofs.Resolved.{head_resolved, args_resolved, resolved
 use Rattle.mh_join_parts.proofs.building.+actuals.Goals as goal
 
 pub joined_actual-unwrap-head-requires : goal.joined_actual-unwrap-head-requires
-joined_actual-unwrap-head-requires t c = rw c.head_of.ensures (head_resolved (meant_by (meanings_in c.args.scope.now.names.now) c.args.scope.now.file (formals_in c.args.scope.now.formals.now)) c.args.actual.now c.requires.stand)
+joined_actual-unwrap-head-requires t c = rw c.head_of.ensures (head_resolved (meant_by (meanings_in c.args.scope.now.names.now) c.args.scope.now.file (formals_in c.args.scope.now.formals.now)) c.args.actual.now c.requires.resolved)
 
 pub joined_actual-joined_actuals-requires : goal.joined_actual-joined_actuals-requires
 joined_actual-joined_actuals-requires t c =
-    let stands : flat_map (undefined_in_actual false (meant_by (meanings_in c.args.scope.now.names.now) c.args.scope.now.file (formals_in c.args.scope.now.formals.now))) c.as_slice.result.now ≡ [] = rw c.as_slice.ensures (args_resolved (meant_by (meanings_in c.args.scope.now.names.now) c.args.scope.now.file (formals_in c.args.scope.now.formals.now)) c.args.actual.now c.requires.stand) in
+    let stands : flat_map (undefined_in_actual false (meant_by (meanings_in c.args.scope.now.names.now) c.args.scope.now.file (formals_in c.args.scope.now.formals.now))) c.as_slice.result.now ≡ [] = rw c.as_slice.ensures (args_resolved (meant_by (meanings_in c.args.scope.now.names.now) c.args.scope.now.file (formals_in c.args.scope.now.formals.now)) c.args.actual.now c.requires.resolved) in
     (omega (arith, size_out c.args.actual.now, ap (λ k. length (flat_map refs k)) c.as_slice.ensures, c.decreases), (c.requires.few, stands))
 
 pub joined_actual-returns : goal.joined_actual-returns
@@ -20,7 +20,7 @@ joined_actual-returns t c = resolved_with (meant_by (meanings_in c.args.scope.no
 
 pub joined_actuals-joined_actual-requires : goal.joined_actuals-joined_actual-requires
 joined_actuals-joined_actual-requires t c =
-    let stands : undefined_in_actual false (meant_by (meanings_in c.args.scope.now.names.now) c.args.scope.now.file (formals_in c.args.scope.now.formals.now)) c.actual-item.result ≡ [] = nil_at (undefined_in_actual false (meant_by (meanings_in c.args.scope.now.names.now) c.args.scope.now.file (formals_in c.args.scope.now.formals.now))) c.args.actuals.now c.loop-actual.actual-index c.actual-item.result c.loop-actual-test.true c.actual-item.is c.requires.stand in
+    let stands : undefined_in_actual false (meant_by (meanings_in c.args.scope.now.names.now) c.args.scope.now.file (formals_in c.args.scope.now.formals.now)) c.actual-item.result ≡ [] = nil_at (undefined_in_actual false (meant_by (meanings_in c.args.scope.now.names.now) c.args.scope.now.file (formals_in c.args.scope.now.formals.now))) c.args.actuals.now c.loop-actual.actual-index c.actual-item.result c.loop-actual-test.true c.actual-item.is c.requires.resolved in
     (omega (arith, size_item c.args.actuals.now c.loop-actual.actual-index c.actual-item.result c.loop-actual-test.true c.actual-item.is, c.decreases), (c.requires.few, stands))
 
 pub joined_actuals-loop-actual-preserved : goal.joined_actuals-loop-actual-preserved

@@ -9,10 +9,10 @@ use Rattle.mh_join_names.specs.code.SymbolTables.{meanings_in}
 use Rattle.mh_join_names.proofs.Lists.{fun_ext}
 use Rattle.mh_join_parts.proofs.building.add_definition.Goals as goal
 
-pub add_alternatives-added-requires-clause-stand : goal.add_alternatives-added-requires-clause-stand
-add_alternatives-added-requires-clause-stand c =
+pub add_alternatives-added-requires-clause-resolved : goal.add_alternatives-added-requires-clause-resolved
+add_alternatives-added-requires-clause-resolved c =
     let w = meanings_in c.args.names.now in
-    rw c.as_slice-alternatives.ensures (subst (λ (g : Text → Option ℕ). flat_map (unresolved (meant_by w c.args.definition.now.file g)) c.args.definition.now.rule.now.alternatives ≡ []) (sym (fun_ext (rw c.as_slice.ensures at c.in_ok-formals.ensures))) c.requires.stand)
+    rw c.as_slice-alternatives.ensures (subst (λ (g : Text → Option ℕ). flat_map (unresolved (meant_by w c.args.definition.now.file g)) c.args.definition.now.rule.now.alternatives ≡ []) (sym (fun_ext (rw c.as_slice.ensures at c.in_ok-formals.ensures))) c.requires.resolved)
 
 pub returns : goal.returns
 returns c =

@@ -15,8 +15,8 @@ loop-at-init c = AddsAlternatives-nothing (meanings_in c.args.names.now) c.args.
 pub loop-at-preserved : goal.loop-at-preserved
 loop-at-preserved c = AddsAlternatives-enum_more (meanings_in c.args.names.now) (definitions_in c.args.names.now.starts.keys) c.args.joined.now c.loop-at.joined c.add_file.new.joined 1 c.args.modules.now c.loop-at.at (c.loop-at.at + 1) c.index-modules-at.result c.loop-at-test.true c.index-modules-at.is (omega arith) c.loop-at.invariant (rw c.as_slice.ensures at c.in_ok-add_file.ensures)
 
-pub add_file-requires-clause-stand : goal.add_file-requires-clause-stand
-add_file-requires-clause-stand c = rw c.as_slice.ensures (nil_enum_at (unresolved_in_file (meanings_in c.args.names.now)) 1 c.args.modules.now c.loop-at.at (c.loop-at.at + 1) c.index-modules-at.result c.loop-at-test.true c.index-modules-at.is (omega arith) c.requires.stand)
+pub add_file-requires-clause-resolved : goal.add_file-requires-clause-resolved
+add_file-requires-clause-resolved c = rw c.as_slice.ensures (nil_enum_at (unresolved_in_file (meanings_in c.args.names.now)) 1 c.args.modules.now c.loop-at.at (c.loop-at.at + 1) c.index-modules-at.result c.loop-at-test.true c.index-modules-at.is (omega arith) c.requires.resolved)
 
 pub returns : goal.returns
 returns c = subst (λ (xs : List Module). AddsAlternatives (meanings_in c.args.names.now) (flat_map (definitions_in c.args.names.now.starts.keys) (enumerate_from 1 xs)) c.args.joined.now c.loop-at.joined) (take_all c.loop-at.at c.args.modules.now c.loop-at-test.false) c.loop-at.invariant

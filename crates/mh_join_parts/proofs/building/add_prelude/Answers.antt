@@ -12,8 +12,8 @@ loop-rule-init c = AddsRules-none (meanings_in c.args.names.now) (λ x. Some 0) 
 pub loop-rule-preserved : goal.loop-rule-preserved
 loop-rule-preserved c = AddsRules-more (meanings_in c.args.names.now) (λ x. Some 0) 0 c.args.rules.now c.loop-rule.rule-index c.rule-item.result c.args.joined.now c.loop-rule.joined c.add_rule.new.joined c.loop-rule.place c.in_ok-next.next c.loop-rule-test.true c.rule-item.is c.loop-rule.invariant c.in_ok-add_rule.ensures c.in_ok-next.ensures.next
 
-pub add_rule-requires-clause-stand : goal.add_rule-requires-clause-stand
-add_rule-requires-clause-stand c = nil_at (unresolved_in_rule (meanings_in c.args.names.now) 0) c.args.rules.now c.loop-rule.rule-index c.rule-item.result c.loop-rule-test.true c.rule-item.is c.requires.stand
+pub add_rule-requires-clause-resolved : goal.add_rule-requires-clause-resolved
+add_rule-requires-clause-resolved c = nil_at (unresolved_in_rule (meanings_in c.args.names.now) 0) c.args.rules.now c.loop-rule.rule-index c.rule-item.result c.loop-rule-test.true c.rule-item.is c.requires.resolved
 
 pub returns : goal.returns
 returns c = rw (take_all c.loop-rule.rule-index c.args.rules.now c.loop-rule-test.false) at c.loop-rule.invariant.added

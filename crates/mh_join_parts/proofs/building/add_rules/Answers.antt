@@ -20,8 +20,8 @@ loop-rule-preserved c =
     (c.owner_in-owner.ensures ∙ ap (λ b. if (list_any (same item.name) starts || b) then None else Some c.args.file) (c.requires.marked item.name)) c.in_ok-add_rule.ensures)
     c.in_ok-next.ensures.next
 
-pub add_rule-requires-clause-stand : goal.add_rule-requires-clause-stand
-add_rule-requires-clause-stand c = nil_at (unresolved_in_rule (meanings_in c.args.names.now) c.args.file) c.args.rules.now c.loop-rule.rule-index c.rule-item.result c.loop-rule-test.true c.rule-item.is c.requires.stand
+pub add_rule-requires-clause-resolved : goal.add_rule-requires-clause-resolved
+add_rule-requires-clause-resolved c = nil_at (unresolved_in_rule (meanings_in c.args.names.now) c.args.file) c.args.rules.now c.loop-rule.rule-index c.rule-item.result c.loop-rule-test.true c.rule-item.is c.requires.resolved
 
 pub returns : goal.returns
 returns c = rw (take_all c.loop-rule.rule-index c.args.rules.now c.loop-rule-test.false) at c.loop-rule.invariant.added

@@ -16,8 +16,8 @@ loop-at-preserved c =
     (subst (λ (g : Text → Option ℕ). map Some c.add_on_error.new.joined ≡ map Some c.loop-at.joined ++ map (all_resolved (meant_by w (i + 1) g)) file.on_error)
     (fun_ext c.requires.none) (rw c.as_slice-declared.ensures at c.in_ok-add_on_error.ensures))
 
-pub add_on_error-requires-clause-stand : goal.add_on_error-requires-clause-stand
-add_on_error-requires-clause-stand c =
+pub add_on_error-requires-clause-resolved : goal.add_on_error-requires-clause-resolved
+add_on_error-requires-clause-resolved c =
     let w = meanings_in c.args.names.now in let i = c.loop-at.at in let file = c.index-modules-at.result in
     rw c.as_slice-declared.ensures (subst (λ (g : Text → Option ℕ). flat_map (undefined_in_on_error (meant_by w (i + 1) g)) file.on_error ≡ []) (sym (fun_ext c.requires.none))
-    (nil_enum_at (unresolved_on_error w) 1 c.args.modules.now i (i + 1) file c.loop-at-test.true c.index-modules-at.is (omega arith) c.requires.stand))
+    (nil_enum_at (unresolved_on_error w) 1 c.args.modules.now i (i + 1) file c.loop-at-test.true c.index-modules-at.is (omega arith) c.requires.resolved))

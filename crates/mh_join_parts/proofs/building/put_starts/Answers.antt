@@ -8,4 +8,4 @@ pub loop-name-preserved : goal.loop-name-preserved
 loop-name-preserved c = somes_more ((meanings_in c.args.names.now).numbers.rule None) [] c.as_slice-name-items.result.now c.loop-name.name-index c.name-item.result c.loop-name.starts c.push.new.self c.start_number.result c.loop-name-test.true c.name-item.is c.loop-name.invariant c.start_number.ensures c.in_ok-push.ensures.ok
 
 pub start_number-requires : goal.start_number-requires
-start_number-requires c = nil_at (undefined_start (meanings_in c.args.names.now)) c.as_slice-name-items.result.now c.loop-name.name-index c.name-item.result c.loop-name-test.true c.name-item.is (rw c.as_slice-name-items.ensures c.requires.stand)
+start_number-requires c = nil_at (undefined_start (meanings_in c.args.names.now)) c.as_slice-name-items.result.now c.loop-name.name-index c.name-item.result c.loop-name-test.true c.name-item.is (rw c.as_slice-name-items.ensures c.requires.resolved)

@@ -10,5 +10,5 @@ returns-clause-fault c = fault_once c.args.grammar.now
 pub returns-clause-either : goal.returns-clause-either
 returns-clause-either c = spelled_or_not c.args.grammar.now
 
-pub returns-clause-apart : goal.returns-clause-apart
-returns-clause-apart c = spelled_has_no_fault c.args.grammar.now
+pub returns-clause-not_both : goal.returns-clause-not_both
+returns-clause-not_both c = spelled_has_no_fault c.args.grammar.now

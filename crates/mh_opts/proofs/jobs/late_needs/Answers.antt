@@ -1,5 +1,6 @@
 use Rattle.std.proofs.Common.{ap}
-use Rattle.mh_opts.specs.Orders.{late_needs, plain_needs}
+use Rattle.mh_opts.specs.Orders.{plain_needs}
+use Rattle.mh_opts.specs.Options.{late_needs}
 use Rattle.mh_opts.proofs.jobs.late_needs.Goals as goal
 
 pub returns : goal.returns

@@ -1,5 +1,6 @@
 use Rattle.std.proofs.Common.{ap}
-use Rattle.mh_opts.specs.Orders.{needs, plain_needs}
+use Rattle.mh_opts.specs.Orders.{plain_needs}
+use Rattle.mh_opts.specs.Options.{needs}
 use Rattle.mh_opts.proofs.jobs.needs.Goals as goal
 
 pub returns : goal.returns

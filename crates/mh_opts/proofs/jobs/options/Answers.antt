@@ -1,5 +1,6 @@
 use Rattle.std.proofs.Common.{ap}
-use Rattle.mh_opts.specs.App.{options, plain_rows}
+use Rattle.mh_opts.specs.App.{plain_rows}
+use Rattle.mh_opts.specs.Options.{options}
 use Rattle.mh_opts.proofs.jobs.options.Goals as goal
 
 pub returns : goal.returns

@@ -1,6 +1,6 @@
 use Rattle.std.proofs.Common.{ap}
 use Rattle.clap.specs.Words.{found_of, rows_of}
-use Rattle.mh_opts.specs.App.{options}
+use Rattle.mh_opts.specs.Options.{options}
 use Rattle.mh_opts.specs.code.AllModes.{asked_in}
 use Rattle.mh_opts.proofs.SingleMode.{one_more}
 use Rattle.mh_opts.proofs.words.modes_of.Goals as goal

@@ -1,6 +1,6 @@
 use Rattle.std.proofs.Common.{ap, sym, ◌∙◌}
 use Rattle.clap.specs.Words.{found_of, rows_of}
-use Rattle.mh_opts.specs.App.{options}
+use Rattle.mh_opts.specs.Options.{options}
 use Rattle.mh_opts.specs.code.AllModes.{only_of}
 use Rattle.mh_opts.specs.Orders.{mode_in}
 use Rattle.mh_opts.proofs.SingleMode.{EqualsUnlessMemory-equal, mode_is_only}

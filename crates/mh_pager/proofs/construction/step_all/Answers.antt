@@ -1,6 +1,6 @@
 use Rattle.std.proofs.Common.{◌≡◌, ◌∷◌, ◌∙◌, rules}
 use Rattle.mh_grammar.specs.Plain.{plain_of}
-use Rattle.mh_canon_states.specs.declared.limits.TheConstants.{MAX_STATES}
+use Rattle.mh_canon_states.specs.Limits.{max_states}
 use Rattle.mh_pager.specs.code.Worklist.{merge_state_of}
 use Rattle.mh_pager.proofs.IsReachedByMerging.{IsReachedByMerging-start, IsReachedByMerging-step, next_well_formed, step_lowers_weight, few_starts}
 use Rattle.mh_pager.proofs.construction.step_all.Goals as goal
@@ -25,7 +25,7 @@ pub steps-smaller : goal.steps-smaller
 steps-smaller g c =
     let rest = c.take_oldest.new.self.states.items in
     let e : c.steps.worklist.queue.states.items ≡ c.in-Some.state ∷ rest = c.in-Some.ensures.oldest in
-    step_lowers_weight (plain_of c.args.grammar.now) MAX_STATES (merge_state_of c.steps.worklist) (merge_state_of c.step.new.worklist) c.in-Some.state rest e c.in-Ok.ensures.ok c.in-Ok.ensures.few
+    step_lowers_weight (plain_of c.args.grammar.now) max_states (merge_state_of c.steps.worklist) (merge_state_of c.step.new.worklist) c.in-Some.state rest e c.in-Ok.ensures.ok c.in-Ok.ensures.few
 
 pub steps-preserved : goal.steps-preserved
 steps-preserved g c =

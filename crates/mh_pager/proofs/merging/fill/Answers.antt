@@ -1,7 +1,7 @@
 use Rattle.std.proofs.Common.{arith, rules}
 use Rattle.std.proofs.lemmas.Result.{on_ok_weaker}
 use Rattle.mh_grammar.specs.Plain.{plain_of}
-use Rattle.mh_canon_states.specs.declared.limits.TheConstants.{MAX_STATES}
+use Rattle.mh_canon_states.specs.Limits.{max_states}
 use Rattle.mh_pager.specs.code.Worklist.{merge_state_of}
 use Rattle.mh_pager_steps.proofs.IsMerged.{starts_within, AreTargetsInRange-list, IsMerged-list, few_list}
 use Rattle.mh_pager.proofs.IsReachedByMerging.{is_well_formed}
@@ -44,4 +44,4 @@ returns-clause-few g c =
     let w = merge_state_of c.args.worklist.now in
     let r = rw (c.as_slice-rows.ensures.value, c.len-starts.ensures) at c.in_ok-reach.ensures in
     let picked = rw (c.as_slice-kernels.ensures.value, c.as_slice.ensures.keys) at c.pick.ensures in
-    on_ok_weaker c.pick.result (λ z. few_list g w c.requires.list c.requires.done (record { kernels = c.pick.new.all; edges = c.reach.new.edges }) c.reach.new.states.keys r z MAX_STATES c.requires.few) picked
+    on_ok_weaker c.pick.result (λ z. few_list g w c.requires.list c.requires.done (record { kernels = c.pick.new.all; edges = c.reach.new.edges }) c.reach.new.states.keys r z max_states c.requires.few) picked

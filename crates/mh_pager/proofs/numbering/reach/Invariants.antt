@@ -1,5 +1,5 @@
 use Rattle.std.proofs.Common.{◌-◌, length}
-use Rattle.mh_canon_states.specs.declared.limits.TheConstants.{MAX_STATES}
+use Rattle.mh_canon_states.specs.Limits.{max_states}
 use Rattle.mh_pager_steps.proofs.RenumberingInvariant.{RenumberingInvariant}
 use Rattle.mh_pager.proofs.numbering.reach.Given as goal
 
@@ -7,4 +7,4 @@ abbrev pub invariant-states : goal.invariant-states
 invariant-states l = RenumberingInvariant l.starts l.rows l.states.keys l.edges
 
 abbrev pub decreases-states : goal.decreases-states
-decreases-states l = MAX_STATES - length l.edges
+decreases-states l = max_states - length l.edges

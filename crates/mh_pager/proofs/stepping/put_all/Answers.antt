@@ -3,7 +3,7 @@ use Rattle.std.proofs.lemmas.Iterator.Consumers.{YieldsList-turn, YieldsList-so_
 use Rattle.std.proofs.lemmas.Iterator.Adapters.{YieldsList-from_vec}
 use Rattle.mh_grammar.specs.Plain.{plain_of}
 use Rattle.mh_items_kernels.specs.declared.kernels.StatesFault.TheVariants.{TooManyStates}
-use Rattle.mh_canon_states.specs.declared.limits.TheConstants.{MAX_STATES}
+use Rattle.mh_canon_states.specs.Limits.{max_states}
 use Rattle.mh_pager.specs.code.Worklist.{merge_state_of}
 use Rattle.mh_pager.proofs.IsWellFormed.{put_well_formed}
 use Rattle.mh_pager.proofs.PlacesAllMoves.{PutSoFar-start, PutSoFar-more, put-exceeds, found-valid}
@@ -35,14 +35,14 @@ loop-found-preserved g c =
       kept = c.in-Ok.ensures.kept;
     }
 
-pub returns-in-Err-clause-over : goal.returns-in-Err-clause-over
-returns-in-Err-clause-over g c same closed is are =
+pub returns-in-Err-clause-exceeds : goal.returns-in-Err-clause-exceeds
+returns-in-Err-clause-exceeds g c same closed is are =
     let list = YieldsList-from_vec {s = c.into_iter-found-iterator.result} c.args.moves.items (search rules) (search rules) in
     let turn = YieldsList-turn list c.loop-found.yielded c.loop-found.found-iterator c.loop-found.yielded_by c.next.result c.next.new.self c.in-Some.found c.in-Some.is c.next.ensures.steps in
     let begins : c.loop-found.yielded ≡ take (length c.loop-found.yielded) c.args.moves.items = rw map-id at (YieldsList-so_far list c.loop-found.yielded c.loop-found.found-iterator c.loop-found.yielded_by) in
     let fault : c.in-Err.fault ≡ TooManyStates = cc in
-    let o = c.in-Err.ensures.over (ap Err fault) in
-    put-exceeds (plain_of c.args.grammar.now) c.args.moves.items c.loop-found.yielded (merge_state_of c.args.worklist.now) (merge_state_of c.loop-found.worklist) o.1 c.loop-found.row.items c.in-Some.found o.0 c.loop-found.invariant.row turn o.2 begins MAX_STATES o.3 closed is are
+    let o = c.in-Err.ensures.exceeds (ap Err fault) in
+    put-exceeds (plain_of c.args.grammar.now) c.args.moves.items c.loop-found.yielded (merge_state_of c.args.worklist.now) (merge_state_of c.loop-found.worklist) o.1 c.loop-found.row.items c.in-Some.found o.0 c.loop-found.invariant.row turn o.2 begins max_states o.3 closed is are
 
 pub returns-clause-ok : goal.returns-clause-ok
 returns-clause-ok g c =
@@ -56,5 +56,5 @@ returns-clause-few g c = c.loop-found.invariant.few
 pub returns-clause-kept : goal.returns-clause-kept
 returns-clause-kept g c = c.loop-found.invariant.kept
 
-pub returns-clause-over : goal.returns-clause-over
-returns-clause-over g c same = cc
+pub returns-clause-exceeds : goal.returns-clause-exceeds
+returns-clause-exceeds g c same = cc

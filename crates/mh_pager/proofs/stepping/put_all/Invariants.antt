@@ -1,6 +1,6 @@
 use Rattle.std.proofs.Common.{◌≤◌, length}
 use Rattle.mh_grammar.specs.Plain.{plain_of}
-use Rattle.mh_canon_states.specs.declared.limits.TheConstants.{MAX_STATES}
+use Rattle.mh_canon_states.specs.Limits.{max_states}
 use Rattle.mh_pager.specs.code.Worklist.{merge_state_of, IsConsistentWorklist}
 use Rattle.mh_pager_steps.specs.code.ReachedByMerging.{IsWellFormed}
 use Rattle.mh_pager.proofs.PlacesAllMoves.{PutSoFar}
@@ -10,6 +10,6 @@ abbrev pub invariant-loop-found : goal.invariant-loop-found
 invariant-loop-found g l = record {
   row : PutSoFar (plain_of l.grammar) l.fn.moves.items l.yielded (merge_state_of l.initial.worklist) (merge_state_of l.worklist) l.row.items;
   ready : IsWellFormed (plain_of l.grammar) (merge_state_of l.worklist);
-  few : length l.worklist.kernels.items ≤ MAX_STATES;
+  few : length l.worklist.kernels.items ≤ max_states;
   kept : IsConsistentWorklist l.worklist;
 }

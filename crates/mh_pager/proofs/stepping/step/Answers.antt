@@ -5,7 +5,7 @@ use Rattle.mh_grammar.specs.Plain.{plain_of}
 use Rattle.mh_grammar.proofs.Lists.{contains_here}
 use Rattle.mh_items_kernels.specs.Collection.{targets_of}
 use Rattle.mh_items_kernels.specs.declared.kernels.StatesFault.TheVariants.{TooManyStates}
-use Rattle.mh_canon_states.specs.declared.limits.TheConstants.{MAX_STATES}
+use Rattle.mh_canon_states.specs.Limits.{max_states}
 use Rattle.mh_pager.specs.code.MergeStep.{with_oldest}
 use Rattle.mh_pager.specs.code.Worklist.{merge_state_of}
 use Rattle.mh_pager_steps.proofs.StepsAreUnique.{all_put_longer}
@@ -42,7 +42,7 @@ index_mut-requires g c =
     let ready = rest_well_formed (plain_of c.args.grammar.now) c.args.worklist.now.kernels.items c.args.worklist.now.rows.items c.args.state c.args.worklist.now.queue.states.items c.requires.ready in
     let r = c.in-Ok.ensures.ok of.closed of.valid of.are in
     let symbols = symbols_in c.in_ok-moves.moves.items in
-    let longer = all_put_longer (plain_of c.args.grammar.now) c.index.result.now symbols (targets_of c.in-Ok.row) old new (r.put c.index.result.now of.same) in
+    let longer = all_put_longer (plain_of c.args.grammar.now) c.index.result.now symbols (targets_of c.in-Ok.row) old new (r.moves_placed c.index.result.now of.same) in
     let after = row_ready (plain_of c.args.grammar.now) c.index.result.now of.closed of.same symbols c.in-Ok.row old new r ready in
     omega (arith, l, longer, after.len, c.put_all.new.worklist.rows.ok.0)
 
@@ -55,20 +55,20 @@ returns-in-Ok-clause-ok g c =
     let of = c.in_ok-moves.ensures.moves in
     merge_step_of_row (plain_of c.args.grammar.now) k of.closed of.valid of.same (symbols_in c.in_ok-moves.moves.items) of.are.rising of.are.exact (with_oldest c.args.worklist.now c.args.state) c.args.state c.args.worklist.now.queue.states.items refl at c.in-Ok.row (merge_state_of c.put_all.new.worklist) (c.in-Ok.ensures.ok of.closed of.valid of.are)
 
-pub returns-in-Err-clause-over : goal.returns-in-Err-clause-over
-returns-in-Err-clause-over g c same =
+pub returns-in-Err-clause-exceeds : goal.returns-in-Err-clause-exceeds
+returns-in-Err-clause-exceeds g c same =
     let k = c.index.result.now in
     let kernels = c.args.worklist.now.kernels.items in
     let l = c.requires.ready.queued c.args.state (contains_here c.args.state c.args.worklist.now.queue.states.items) in
     let at : slice_get kernels c.args.state ≡ Some k = slice_get_read kernels (length kernels) c.args.state k refl l c.index.ensures in
     let of = c.in_ok-moves.ensures.moves in
     let fault : c.in-Err.fault ≡ TooManyStates = cc in
-    step_exceeds (plain_of c.args.grammar.now) k of.closed of.valid of.same (symbols_in c.in_ok-moves.moves.items) of.are.rising of.are.exact (with_oldest c.args.worklist.now c.args.state) c.args.state c.args.worklist.now.queue.states.items refl at MAX_STATES (c.in-Err.ensures.over (ap Err fault) of.closed of.valid of.are)
+    step_exceeds (plain_of c.args.grammar.now) k of.closed of.valid of.same (symbols_in c.in_ok-moves.moves.items) of.are.rising of.are.exact (with_oldest c.args.worklist.now c.args.state) c.args.state c.args.worklist.now.queue.states.items refl at max_states (c.in-Err.ensures.exceeds (ap Err fault) of.closed of.valid of.are)
 
 pub returns-in-Ok-clause-kept : goal.returns-in-Ok-clause-kept
 returns-in-Ok-clause-kept g c =
     let kept = c.in-Ok.ensures.kept in
     record { flagged = kept.flagged; flags = kept.flags; indexed = kept.indexed }
 
-pub returns-in-Ok-clause-over : goal.returns-in-Ok-clause-over
-returns-in-Ok-clause-over g c same = cc
+pub returns-in-Ok-clause-exceeds : goal.returns-in-Ok-clause-exceeds
+returns-in-Ok-clause-exceeds g c same = cc

@@ -14,8 +14,8 @@ all_best-requires-clause-arrivals c =
     let arrived = subst (λ (t : TableData). AreLeastArrivalsFor t c.args.classes.now c.args.found c.args.arrivals.spots) (sym c.table-inner.ensures.table) c.requires.arrivals in
     costs_are_capped c.table-inner.result.now c.facts.ensures c.args.classes.now c.args.found c.args.arrivals.spots arrived
 
-pub all_best-requires-clause-told : goal.all_best-requires-clause-told
-all_best-requires-clause-told c =
+pub all_best-requires-clause-assignments : goal.all_best-requires-clause-assignments
+all_best-requires-clause-assignments c =
     let arrived = subst (λ (t : TableData). AreLeastArrivalsFor t c.args.classes.now c.args.found c.args.arrivals.spots) (sym c.table-inner.ensures.table) c.requires.arrivals in
     has_assignments c.table-inner.result.now c.facts.ensures c.args.classes.now c.args.found c.args.arrivals.spots arrived
 

@@ -7,7 +7,7 @@ use Rattle.mh_reach_found.proofs.LabelTrace.{LeadsTo}
 use Rattle.mh_reach.proofs.sentences.walk.Given as goal
 
 abbrev pub invariant-spots : goal.invariant-spots
-invariant-spots l = (tale : WordAssignment l.table l.store) (j : LabelAssignment l.table tale.words l.arrivals.spots) (k : Label) → j.labels l.fn.spot ≡ Some k → LeadsTo j.labels l.spot l.backwards.items k.start (k.word ++ reverse l.fn.backwards.items)
+invariant-spots l = (word_assignment : WordAssignment l.table l.store) (j : LabelAssignment l.table word_assignment.words l.arrivals.spots) (k : Label) → j.labels l.fn.spot ≡ Some k → LeadsTo j.labels l.spot l.backwards.items k.start (k.word ++ reverse l.fn.backwards.items)
 
 abbrev pub decreases-spots : goal.decreases-spots
 decreases-spots l = heights_of l.arrivals.spots l.spot

@@ -5,7 +5,7 @@ use Rattle.mh_reach.proofs.WritesWord.{StackSpells, size_of_all}
 use Rattle.mh_reach.proofs.spell.spell.Given as goal
 
 abbrev pub invariant-facts : goal.invariant-facts
-invariant-facts l = (tale : WordAssignment l.table l.store) (w : List ℕ) → tale.words l.fn.key ≡ Some w → StackSpells tale.words l.stack.items l.backwards.items (w ++ reverse l.fn.backwards.items)
+invariant-facts l = (word_assignment : WordAssignment l.table l.store) (w : List ℕ) → word_assignment.words l.fn.key ≡ Some w → StackSpells word_assignment.words l.stack.items l.backwards.items (w ++ reverse l.fn.backwards.items)
 
 abbrev pub decreases-facts : goal.decreases-facts
 decreases-facts l = size_of_all (sizes_of l.store) l.stack.items

@@ -4,7 +4,7 @@ use Rattle.mh_reach_arrivals.proofs.ArrivalInvariant.{are_least_arrivals, none_o
 use Rattle.mh_reach_arrivals.proofs.arrive.arrive_all.Goals as goal
 
 pub loop-cost-init : goal.loop-cost-init
-loop-cost-init c = c.requires.good
+loop-cost-init c = c.requires.invariant
 
 -- The queue has no bucket left.
 pub returns-then-buckets-cost : goal.returns-then-buckets-cost
@@ -13,8 +13,8 @@ returns-then-buckets-cost c =
     let over : length c.loop-cost.second.queue.buckets.items ≤ c.loop-cost.cost = (let a = c.if-buckets-cost.true in let b = c.len-buckets.ensures in omega arith) in
     record {
       found_is = g.found_is;
-      arrived = are_least_arrivals c.args.table.now c.facts.ensures c.args.classes.now c.requires.classes g.found_is.tale.words c.args.found.now.work g.found_is.wholes c.loop-cost.second.arrivals.spots c.loop-cost.second.queue.buckets.items c.loop-cost.cost [] g.good
-          (λ cost o h. none_over c.loop-cost.second.queue.buckets.items c.loop-cost.cost cost o over (g.good.low cost o h) h);
+      arrived = are_least_arrivals c.args.table.now c.facts.ensures c.args.classes.now c.requires.classes g.found_is.word_assignment.words c.args.found.now.work g.found_is.complete_paths c.loop-cost.second.arrivals.spots c.loop-cost.second.queue.buckets.items c.loop-cost.cost [] g.invariant
+          (λ cost o h. none_over c.loop-cost.second.queue.buckets.items c.loop-cost.cost cost o over (g.invariant.at_least_level cost o h) h);
     }
 
 pub returns : goal.returns
@@ -23,6 +23,6 @@ returns c =
     let level : cap + 1 ≤ c.loop-cost.cost = (let a = c.loop-cost-test.false in omega arith) in
     record {
       found_is = g.found_is;
-      arrived = are_least_arrivals c.args.table.now c.facts.ensures c.args.classes.now c.requires.classes g.found_is.tale.words c.args.found.now.work g.found_is.wholes c.loop-cost.second.arrivals.spots c.loop-cost.second.queue.buckets.items c.loop-cost.cost [] g.good
-          (λ cost o h. (let low = g.good.low cost o h in let few = (g.good.items cost o h).few in omega arith));
+      arrived = are_least_arrivals c.args.table.now c.facts.ensures c.args.classes.now c.requires.classes g.found_is.word_assignment.words c.args.found.now.work g.found_is.complete_paths c.loop-cost.second.arrivals.spots c.loop-cost.second.queue.buckets.items c.loop-cost.cost [] g.invariant
+          (λ cost o h. (let low = g.invariant.at_least_level cost o h in let few = (g.invariant.items cost o h).few in omega arith));
     }

@@ -31,5 +31,5 @@ returns c =
     let g = c.loop-place.invariant in
     record {
       found_is = g.found_is;
-      good = level_done c.args.table.now c.facts.ensures c.args.classes.now c.requires.classes g.found_is.tale.words c.args.found.now.work g.found_is.wholes c.loop-place.second.arrivals.spots c.loop-place.second.queue.buckets.items c.args.level.now.cost (rw (drop_of_length-le items le) at g.ready);
+      invariant = level_done c.args.table.now c.facts.ensures c.args.classes.now c.requires.classes g.found_is.word_assignment.words c.args.found.now.work g.found_is.complete_paths c.loop-place.second.arrivals.spots c.loop-place.second.queue.buckets.items c.args.level.now.cost (rw (drop_of_length-le items le) at g.ready);
     }

@@ -5,7 +5,7 @@ returns c = record {
   row = c.in_ok-row.row.classes;
   list = c.in_ok-row.row.list;
   is = c.in_ok-row.ensures.row;
-  grown = c.in_ok-row.ensures.grows;
+  grows = c.in_ok-row.ensures.grows;
   rows = c.in_ok-push.ensures.items;
   lists = c.in_ok-push-2.ensures.items;
 }

@@ -10,7 +10,7 @@ pub loop-state-preserved : goal.loop-state-preserved
 loop-state-preserved c =
     let adds = c.in_ok-add_row.ensures in
     rw (adds.rows, adds.lists) (rows_step c.args.table.now (c.args.given.now ≡ []) c.loop-state.classes.rows.items c.loop-state.classes.lists.items c.loop-state.state c.loop-state.classes.places c.add_row.new.classes.places c.given_row-given.result.now adds.row adds.list
-    adds.grown c.given_row-given.ensures (rw c.tokens.ensures at adds.is) c.loop-state.invariant)
+    adds.grows c.given_row-given.ensures (rw c.tokens.ensures at adds.is) c.loop-state.invariant)
 
 pub returns-clause-partition : goal.returns-clause-partition
 returns-clause-partition c =

@@ -7,21 +7,21 @@ use Rattle.mh_facts.specs.code.TokenClasses.{place_of}
 use Rattle.mh_facts.proofs.QueueRows.{row_is, adds_to_row}
 use Rattle.mh_reach_paths.proofs.joins.meet_path.Goals as goal
 
-row_read : (c : goal.After-as_slice) → row_of c.args.work.now.wholes.items (place_of c.args.classes.now c.args.path.end c.args.path.key.next) ≡ c.as_slice.result.now
+row_read : (c : goal.After-as_slice) → row_of c.args.work.now.complete_paths.items (place_of c.args.classes.now c.args.path.end c.args.path.key.next) ≡ c.as_slice.result.now
 row_read c =
-    let lt : c.class_of-place.result.place < length c.args.work.now.wholes.items = (let a = c.class_of-place.ensures.within in let b = c.requires.ready.rows.wholes in omega arith) in
-    rw (← c.class_of-place.ensures.place) (row_is c.args.work.now.wholes.items c.class_of-place.result.place c.index.result.now lt ∙ ap (λ (v : Vec CompletePath). v.items) (sym c.index.ensures) ∙ sym c.as_slice.ensures.value)
+    let lt : c.class_of-place.result.place < length c.args.work.now.complete_paths.items = (let a = c.class_of-place.ensures.within in let b = c.requires.ready.rows.complete_paths in omega arith) in
+    rw (← c.class_of-place.ensures.place) (row_is c.args.work.now.complete_paths.items c.class_of-place.result.place c.index.result.now lt ∙ ap (λ (v : Vec CompletePath). v.items) (sym c.index.ensures) ∙ sym c.as_slice.ensures.value)
 
-pub join_ways-requires-clause-wholes : goal.join_ways-requires-clause-wholes
-join_ways-requires-clause-wholes c w h = c.requires.ready.each_whole (place_of c.args.classes.now c.args.path.end c.args.path.key.next) w (rw (row_read c) h)
+pub join_gotos-requires-clause-complete_paths : goal.join_gotos-requires-clause-complete_paths
+join_gotos-requires-clause-complete_paths c w h = c.requires.ready.each_complete_path (place_of c.args.classes.now c.args.path.end c.args.path.key.next) w (rw (row_read c) h)
 
-row_read' : (c : goal.In_ok-push) → row_of c.args.work.now.wholes.items (place_of c.args.classes.now c.args.path.end c.args.path.key.next) ≡ c.as_slice.result.now
+row_read' : (c : goal.In_ok-push) → row_of c.args.work.now.complete_paths.items (place_of c.args.classes.now c.args.path.end c.args.path.key.next) ≡ c.as_slice.result.now
 row_read' c =
-    let lt : c.class_of-place.result.place < length c.args.work.now.wholes.items = (let a = c.class_of-place.ensures.within in let b = c.requires.ready.rows.wholes in omega arith) in
-    rw (← c.class_of-place.ensures.place) (row_is c.args.work.now.wholes.items c.class_of-place.result.place c.index.result.now lt ∙ ap (λ (v : Vec CompletePath). v.items) (sym c.index.ensures) ∙ sym c.as_slice.ensures.value)
+    let lt : c.class_of-place.result.place < length c.args.work.now.complete_paths.items = (let a = c.class_of-place.ensures.within in let b = c.requires.ready.rows.complete_paths in omega arith) in
+    rw (← c.class_of-place.ensures.place) (row_is c.args.work.now.complete_paths.items c.class_of-place.result.place c.index.result.now lt ∙ ap (λ (v : Vec CompletePath). v.items) (sym c.index.ensures) ∙ sym c.as_slice.ensures.value)
 
 pub returns-clause-queue : goal.returns-clause-queue
-returns-clause-queue c = rw (← row_read' c) at c.in_ok-join_ways.ensures
+returns-clause-queue c = rw (← row_read' c) at c.in_ok-join_gotos.ensures
 
 pub returns-clause-paths : goal.returns-clause-paths
 returns-clause-paths c =

@@ -21,12 +21,12 @@ pub number_all-requires-clause-known : goal.number_all-requires-clause-known
 number_all-requires-clause-known c =
     rw c.as_slice.ensures.value (made_known c.args.table.now c.args.store.now c.args.numbering.now c.rising.ensures c.args.cost (apart c).1 c.args.items.now c.in_ok-made.made.items c.in_ok-made.ensures c.requires)
 
-pub number_all-requires-clause-even : goal.number_all-requires-clause-even
-number_all-requires-clause-even c =
+pub number_all-requires-clause-prefix_free : goal.number_all-requires-clause-prefix_free
+number_all-requires-clause-prefix_free c =
     rw c.as_slice.ensures.value (made_prefix_free c.args.table.now c.args.store.now c.args.numbering.now c.rising.ensures c.args.cost (apart c).1 c.args.items.now c.in_ok-made.made.items c.in_ok-made.ensures c.requires)
 
 pub number_all-requires-clause-fresh : goal.number_all-requires-clause-fresh
-number_all-requires-clause-fresh c = (numbered_higher c.args.store.now c.requires.tale.words (max 1 c.args.cost) c.args.cost c.args.numbering.now (some_level c.args.cost (apart c).0) c.requires.numbered).below
+number_all-requires-clause-fresh c = (numbered_higher c.args.store.now c.requires.word_assignment.words (max 1 c.args.cost) c.args.cost c.args.numbering.now (some_level c.args.cost (apart c).0) c.requires.numbered).below
 
 pub returns : goal.returns
 returns c =

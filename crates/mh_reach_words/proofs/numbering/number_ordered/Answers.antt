@@ -6,13 +6,13 @@ give-requires-clause-known c =
     let o = c.requires.orders in
     ordered_known c.args.entries.now c.args.ordered.now.group c.args.made.now o.distinct c.args.ordered.now.made.now o.same o.sorts c.requires.known
 
-pub give-requires-clause-even : goal.give-requires-clause-even
-give-requires-clause-even c =
+pub give-requires-clause-prefix_free : goal.give-requires-clause-prefix_free
+give-requires-clause-prefix_free c =
     let o = c.requires.orders in
-    ordered_prefix_free c.args.entries.now c.args.ordered.now.group c.args.made.now o.distinct c.args.ordered.now.made.now o.same o.sorts c.requires.even
+    ordered_prefix_free c.args.entries.now c.args.ordered.now.group c.args.made.now o.distinct c.args.ordered.now.made.now o.same o.sorts c.requires.prefix_free
 
-pub give-requires-clause-rises : goal.give-requires-clause-rises
-give-requires-clause-rises c = c.requires.orders.sorts.rises
+pub give-requires-clause-sorted : goal.give-requires-clause-sorted
+give-requires-clause-sorted c = c.requires.orders.sorts.is_sorted
 
 pub numbers_of-requires : goal.numbers_of-requires
 numbers_of-requires c =

@@ -5,7 +5,7 @@ use Rattle.mh_report_comments.proofs.lines.entry_text.Goals as goal
 pub returns : goal.returns
 returns g c = record {
   comments = c.in_ok-comments.comments.items;
-  are = c.in_ok-comments.ensures;
+  are_comments = c.in_ok-comments.ensures;
   is = entry_is c.new-text.result.items (sentence_text c.args.grammar.now c.args.start c.args.sentence.now) c.in_ok-comments.comments.items c.as_slice.result.now _ _ _ _
       c.new-text.ensures.items c.in_ok-write_sentence.ensures c.in_ok-push.ensures.items c.as_slice.ensures.value c.in_ok-extend_from_slice.ensures.items c.in_ok-write_message_place.ensures;
 }

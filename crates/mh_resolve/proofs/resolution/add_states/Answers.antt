@@ -5,7 +5,7 @@ use Rattle.mh_resolve.proofs.resolution.add_states.Goals as goal
 pub loop-state-init : goal.loop-state-init
 loop-state-init g c = (
   rw c.requires.none (record { count = refl; each = λ s l. absurd (omega arith) }),
-  rw c.requires.free (none_collected c.args.grammar.now c.args.automaton.now),
+  rw c.requires.no_conflicts (none_collected c.args.grammar.now c.args.automaton.now),
   c.requires.closer,
 )
 

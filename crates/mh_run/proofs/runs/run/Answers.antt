@@ -14,7 +14,7 @@ returns-in-Accept g c =
 pub refused-requires-clause-some : goal.refused-requires-clause-some
 refused-requires-clause-some g c =
     let s = rw c.in-Refuse.is at c.in_ok-target.ensures in
-    rw c.as_slice.ensures.value s.run.path.begun
+    rw c.as_slice.ensures.value s.run.path.not_empty
 
 pub returns-in-Refuse : goal.returns-in-Refuse
 returns-in-Refuse g c =
@@ -44,7 +44,7 @@ returns-in-Accept-2 g c =
 pub overshot-requires : goal.overshot-requires
 overshot-requires g c =
     let s = rw c.in-Ask-2.is at c.in_ok-settle.ensures in
-    rw c.as_slice-in-Ask-2.ensures.value s.run.path.begun
+    rw c.as_slice-in-Ask-2.ensures.value s.run.path.not_empty
 
 pub returns-in-Ask-2 : goal.returns-in-Ask-2
 returns-in-Ask-2 g c =

@@ -5,10 +5,10 @@ use Rattle.mh_sample.proofs.counting.judge_line.Goals as goal
 
 pub put_verdict-requires-clause-start : goal.put_verdict-requires-clause-start
 put_verdict-requires-clause-start c =
-    start_known c.requires.speaks.0 c.args.table.now.grammar c.args.line.now c.in-Ok.sentence
-    (subst (λ (v : Vocabulary). sentence_in v c.args.line.now ≡ IsSentence c.in-Ok.sentence) c.requires.speaks.1 c.in-Ok.ensures.sentence) c.requires.speaks.2
+    start_known c.requires.names.0 c.args.table.now.grammar c.args.line.now c.in-Ok.sentence
+    (subst (λ (v : Vocabulary). sentence_in v c.args.line.now ≡ IsSentence c.in-Ok.sentence) c.requires.names.1 c.in-Ok.ensures.sentence) c.requires.names.2
 
 pub put_verdict-requires-clause-tokens : goal.put_verdict-requires-clause-tokens
 put_verdict-requires-clause-tokens c =
-    sentence_below c.requires.speaks.0 c.args.table.now.grammar c.args.line.now c.in-Ok.sentence _
-    (subst (λ (v : Vocabulary). sentence_in v c.args.line.now ≡ IsSentence c.in-Ok.sentence) c.requires.speaks.1 c.in-Ok.ensures.sentence) c.requires.speaks.2 refl
+    sentence_below c.requires.names.0 c.args.table.now.grammar c.args.line.now c.in-Ok.sentence _
+    (subst (λ (v : Vocabulary). sentence_in v c.args.line.now ≡ IsSentence c.in-Ok.sentence) c.requires.names.1 c.in-Ok.ensures.sentence) c.requires.names.2 refl

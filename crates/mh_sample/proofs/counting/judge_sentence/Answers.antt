@@ -5,7 +5,7 @@ use Rattle.mh_sample.proofs.counting.judge_sentence.Goals as goal
 
 pub judge_line-requires-clause-short : goal.judge_line-requires-clause-short
 judge_line-requires-clause-short c =
-    let short = sentence_short c.args.operators c.args.sentence c.requires.some c.requires.few in
-    let text : c.as_slice.result.now ≡ sentence_text c.args.operators c.args.sentence =
-    c.as_slice.ensures.value ∙ c.in_ok-write_sentence.ensures ∙ ap (λ (l : List ℕ). l ++ sentence_text c.args.operators c.args.sentence) c.new-line.ensures.items in
+    let short = sentence_short c.args.sentence.operators c.args.sentence.number c.requires.sentence.some c.requires.sentence.few in
+    let text : c.as_slice.result.now ≡ sentence_text c.args.sentence.operators c.args.sentence.number =
+    c.as_slice.ensures.value ∙ c.in_ok-write_sentence.ensures ∙ ap (λ (l : List ℕ). l ++ sentence_text c.args.sentence.operators c.args.sentence.number) c.new-line.ensures.items in
     omega (arith, ap length text, short)

@@ -5,5 +5,5 @@ use Rattle.mh_sample.specs.Texts.{each_from}
 use Rattle.mh_sample.specs.Counts.{HaveEndings, sentences_at}
 use Rattle.mh_sample.proofs.counting.judge_sentences.Given as goal
 
-abbrev pub invariant-loop-sentence : goal.invariant-loop-sentence
-invariant-loop-sentence l = HaveEndings l.table (each_from (sentences_at (vocabulary_in l.lexicon) l.operators) 0 l.sentence) (map ending_for l.verdicts.items)
+abbrev pub invariant-loop-number : goal.invariant-loop-number
+invariant-loop-number l = HaveEndings l.table (each_from (sentences_at (vocabulary_in l.lexicon) l.operators) 0 l.number) (map ending_for l.verdicts.items)

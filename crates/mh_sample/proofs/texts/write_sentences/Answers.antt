@@ -3,8 +3,8 @@ use Rattle.mh_sample.specs.Texts.{sentence_line}
 use Rattle.mh_sample.proofs.TextsInParts.{each_none, each_push}
 use Rattle.mh_sample.proofs.texts.write_sentences.Goals as goal
 
-pub loop-sentence-init : goal.loop-sentence-init
-loop-sentence-init c = each_none (sentence_line c.args.operators) 0 c.args.text.now.items
+pub loop-number-init : goal.loop-number-init
+loop-number-init c = each_none (sentence_line c.args.operators) 0 c.args.text.now.items
 
-pub loop-sentence-preserved : goal.loop-sentence-preserved
-loop-sentence-preserved c = each_push (sentence_line c.args.operators) 0 c.loop-sentence.sentence _ c.loop-sentence.text.items c.write_line.new.text.items c.args.text.now.items (omega arith) c.loop-sentence.invariant c.in_ok-write_line.ensures
+pub loop-number-preserved : goal.loop-number-preserved
+loop-number-preserved c = each_push (sentence_line c.args.operators) 0 c.loop-number.number _ c.loop-number.text.items c.write_line.new.text.items c.args.text.now.items (omega arith) c.loop-number.invariant c.in_ok-write_line.ensures

@@ -31,7 +31,7 @@ overflow_add-writing-2 c =
     let number = (pcg32 old.generator).0 in
     let choice = c.drawn-choice.result in
     let at = subst (λ (l : List Choice). slice_get l (number % length l) ≡ Some choice) fit c.drawn-choice.ensures.choice in
-    omega (arith, within_room guide k x old h number choice at, h.room, k.few)
+    omega (arith, within_room guide k x old h number choice at, h.fits_limit, k.few)
 
 pub index-production-requires : goal.index-production-requires
 index-production-requires c =

@@ -17,7 +17,7 @@ step-answer-requires c =
 pub loop-command-preserved : goal.loop-command-preserved
 loop-command-preserved c =
     answers_more c.args.session.now.table c.args.commands.now c.loop-command.command-index c.loop-command.session c.step-answer.new.self c.loop-command.so_far.items c.push.new.self.items c.command-item.result c.step-answer.result c.loop-command.invariant
-    c.loop-command-test.true c.command-item.is c.step-answer.ensures.served (λ e. let told = c.lacked_memory.ensures.1 e in let free = c.if-lacked_memory.false in cc) c.in_ok-push.ensures.items
+    c.loop-command-test.true c.command-item.is c.step-answer.ensures.served (λ e. let lacked = c.lacked_memory.ensures.1 e in let free = c.if-lacked_memory.false in cc) c.in_ok-push.ensures.items
 
 pub returns : goal.returns
 returns c = answers_whole c.args.session.now.table c.args.commands.now c.loop-command.command-index c.loop-command.session c.loop-command.so_far.items c.loop-command.invariant c.loop-command-test.false

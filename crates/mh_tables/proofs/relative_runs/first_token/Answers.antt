@@ -5,7 +5,7 @@ use Rattle.mh_tables.proofs.relative_runs.first_token.Goals as goal
 
 pub returns-then-branch : goal.returns-then-branch
 returns-then-branch c =
-    first_look_is c.args.table.now c.args.below c.args.state c.tokens.token (omega arith) (stops_not_loops c.args.table.now c.args.below c.args.state None c.requires.waits.stack c.requires.waits.out) c.tokens.invariant
+    first_look_is c.args.table.now c.args.below c.args.state c.tokens.token (omega arith) (stops_not_loops c.args.table.now c.args.below c.args.state None c.requires.no_default.stack c.requires.no_default.stops) c.tokens.invariant
     (rw c.if-branch.true at c.in_ok-loops_on.ensures)
 
 pub tokens-preserved : goal.tokens-preserved
@@ -13,4 +13,4 @@ tokens-preserved c = tokens_more c.args.table.now c.args.below c.args.state c.to
 
 pub returns : goal.returns
 returns c =
-    never_loops c.args.table.now c.args.below c.args.state c.tokens.token (omega arith) (stops_not_loops c.args.table.now c.args.below c.args.state None c.requires.waits.stack c.requires.waits.out) c.tokens.invariant
+    never_loops c.args.table.now c.args.below c.args.state c.tokens.token (omega arith) (stops_not_loops c.args.table.now c.args.below c.args.state None c.requires.no_default.stack c.requires.no_default.stops) c.tokens.invariant

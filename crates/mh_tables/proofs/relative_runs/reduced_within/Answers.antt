@@ -20,14 +20,14 @@ tries-preserved c = record {
   known = c.in_ok-reduce_once.ensures.known;
 }
 
-pub returns-then-not-branch-clause-made : goal.returns-then-not-branch-clause-made
-returns-then-not-branch-clause-made c =
+pub returns-then-not-branch-clause-value : goal.returns-then-not-branch-clause-value
+returns-then-not-branch-clause-value c =
     let made = rw c.if-not-branch.true at c.in_ok-reduce_once.ensures.ok in
     let few = c.tries-test.true in
-    record { few = omega (arith, few); made = rw made.1 c.tries.invariant.made; over = rw made.1 made.0 }
+    record { few = omega (arith, few); stack_is = rw made.1 c.tries.invariant.made; stops = rw made.1 made.0 }
 
-pub returns-clause-made : goal.returns-clause-made
-returns-clause-made c =
+pub returns-clause-value : goal.returns-clause-value
+returns-clause-value c =
     let end = c.tries.auto.count-end in
     let e : suc c.args.most ≡ c.tries.count = omega (arith, c.tries-test.false, end) in
     rw e c.tries.invariant.made

@@ -1,7 +1,7 @@
 use Rattle.std.proofs.Common.{[], arith, refl, rules, subst, sym, ap, ap₂, ◌∙◌}
 use Rattle.std.specs.List.{All}
 use Rattle.mh_opts.specs.declared.jobs.Job.{Job}
-use Rattle.mh_opts.specs.declared.jobs.Job.TheVariants.{Interpret, Session, CompileErrors, CompareErrors, EchoErrors, UpdateErrors}
+use Rattle.mh_opts.specs.declared.jobs.Job.TheVariants.{Interpret, Session, CompileErrors, CompareErrors, EchoErrors, UpdateErrors, RebaseErrors}
 use Rattle.mh_top_drive.proofs.OpenedModes.{ran_read}
 use Rattle.mh_top_plans.specs.Plan.{plan_behavior}
 use Rattle.mh_top_plans.specs.Files.{files_of_job}
@@ -36,7 +36,7 @@ pub returns-in-InterpretError-clause-read : goal.returns-in-InterpretError-claus
 returns-in-InterpretError-clause-read g c = ran_read plan_behavior _ _ _ _ _ _ c.explain.result c.explain.ensures.ran
 
 pub explain-requires : goal.explain-requires
-explain-requires g c = (search rules, (c.requires.few, (c.requires.fit, (c.requires.may_read, c.requires.may_write))))
+explain-requires g c = (search rules, record { few = c.requires.few; consistent = c.requires.consistent; may_read = c.requires.may_read; may_write = c.requires.may_write })
 
 pub returns-in-Session-clause-ran : goal.returns-in-Session-clause-ran
 returns-in-Session-clause-ran g c = of_job (g.F.Shelf.files c.args.shelf.now) c.args.prepared.now Session c.in-Session.is _ _ _ _ c.run_session.result (still_followed _ _ _ _ _ _ c.run_session.result c.run_session.ensures.ran)
@@ -51,7 +51,7 @@ pub returns-in-Session-clause-read : goal.returns-in-Session-clause-read
 returns-in-Session-clause-read g c = still_read _ _ _ _ _ _ c.run_session.result c.run_session.ensures.ran
 
 pub run_session-requires : goal.run_session-requires
-run_session-requires g c = (search rules, (c.requires.few, (c.requires.fit, (c.requires.may_read, c.requires.may_write))))
+run_session-requires g c = (search rules, record { few = c.requires.few; consistent = c.requires.consistent; may_read = c.requires.may_read; may_write = c.requires.may_write })
 
 -- ---- Modes that write only at their end.
 
@@ -132,19 +132,19 @@ returns-in-RandomSentence-clause-read g c = ran_read plan_behavior _ _ _ _ _ _ c
 pub returns-in-CompileErrors-clause-ran : goal.returns-in-CompileErrors-clause-ran
 returns-in-CompileErrors-clause-ran g c =
     of_job (g.F.Shelf.files c.args.shelf.now) c.args.prepared.now (CompileErrors c.as_slice.result.now) (c.in-CompileErrors.is ∙ ap CompileErrors (sym c.as_slice.ensures)) _ _ _ _ c.write_made.result
-    (opened_followed WritesFinal _ _ _ _ _ _ c.write_made.result c.compile_errors-made.result c.compile_errors-made.ensures.opens c.write_made.ensures.ran)
+    (opened_followed WritesFinal _ _ _ _ _ _ c.write_made.result c.text_from_file-made.result c.text_from_file-made.ensures.opens c.write_made.ensures.ran)
 
 pub returns-in-CompileErrors-clause-counts : goal.returns-in-CompileErrors-clause-counts
 returns-in-CompileErrors-clause-counts g c = c.write_made.ensures.counts
 
 pub returns-in-CompileErrors-clause-kept : goal.returns-in-CompileErrors-clause-kept
-returns-in-CompileErrors-clause-kept g c = c.compile_errors-made.ensures.kept
+returns-in-CompileErrors-clause-kept g c = c.text_from_file-made.ensures.kept
 
 pub returns-in-CompileErrors-clause-read : goal.returns-in-CompileErrors-clause-read
-returns-in-CompileErrors-clause-read g c = opened_read WritesFinal _ _ c.compile_errors-made.result _ _ _ _ _ _ c.write_made.result c.compile_errors-made.ensures.opens c.compile_errors-made.ensures.counts c.write_made.ensures.ran
+returns-in-CompileErrors-clause-read g c = opened_read WritesFinal _ _ c.text_from_file-made.result _ _ _ _ _ _ c.write_made.result c.text_from_file-made.ensures.opens c.text_from_file-made.ensures.counts c.write_made.ensures.ran
 
 pub write_made-requires : goal.write_made-requires
-write_made-requires g c = record { some = opened_some WritesFinal _ _ c.compile_errors-made.result c.compile_errors-made.ensures.opens; may_read = c.requires.may_read; may_write = c.requires.may_write }
+write_made-requires g c = record { some = opened_some WritesFinal _ _ c.text_from_file-made.result c.text_from_file-made.ensures.opens; may_read = c.requires.may_read; may_write = c.requires.may_write }
 
 pub returns-in-CompareErrors-clause-ran : goal.returns-in-CompareErrors-clause-ran
 returns-in-CompareErrors-clause-ran g c =
@@ -166,59 +166,80 @@ write_made-requires-in-CompareErrors g c = record { some = opened_some WritesFin
 pub returns-in-EchoErrors-clause-ran : goal.returns-in-EchoErrors-clause-ran
 returns-in-EchoErrors-clause-ran g c =
     of_job (g.F.Shelf.files c.args.shelf.now) c.args.prepared.now (EchoErrors c.as_slice-in-EchoErrors.result.now) (c.in-EchoErrors.is ∙ ap EchoErrors (sym c.as_slice-in-EchoErrors.ensures)) _ _ _ _ c.write_made-in-EchoErrors.result
-    (opened_followed WritesFinal _ _ _ _ _ _ c.write_made-in-EchoErrors.result c.echo_errors-made.result c.echo_errors-made.ensures.opens c.write_made-in-EchoErrors.ensures.ran)
+    (opened_followed WritesFinal _ _ _ _ _ _ c.write_made-in-EchoErrors.result c.text_from_file-made-in-EchoErrors.result c.text_from_file-made-in-EchoErrors.ensures.opens c.write_made-in-EchoErrors.ensures.ran)
 
 pub returns-in-EchoErrors-clause-counts : goal.returns-in-EchoErrors-clause-counts
 returns-in-EchoErrors-clause-counts g c = c.write_made-in-EchoErrors.ensures.counts
 
 pub returns-in-EchoErrors-clause-kept : goal.returns-in-EchoErrors-clause-kept
-returns-in-EchoErrors-clause-kept g c = c.echo_errors-made.ensures.kept
+returns-in-EchoErrors-clause-kept g c = c.text_from_file-made-in-EchoErrors.ensures.kept
 
 pub returns-in-EchoErrors-clause-read : goal.returns-in-EchoErrors-clause-read
-returns-in-EchoErrors-clause-read g c = opened_read WritesFinal _ _ c.echo_errors-made.result _ _ _ _ _ _ c.write_made-in-EchoErrors.result c.echo_errors-made.ensures.opens c.echo_errors-made.ensures.counts c.write_made-in-EchoErrors.ensures.ran
+returns-in-EchoErrors-clause-read g c = opened_read WritesFinal _ _ c.text_from_file-made-in-EchoErrors.result _ _ _ _ _ _ c.write_made-in-EchoErrors.result c.text_from_file-made-in-EchoErrors.ensures.opens c.text_from_file-made-in-EchoErrors.ensures.counts c.write_made-in-EchoErrors.ensures.ran
 
 pub write_made-requires-in-EchoErrors : goal.write_made-requires-in-EchoErrors
-write_made-requires-in-EchoErrors g c = record { some = opened_some WritesFinal _ _ c.echo_errors-made.result c.echo_errors-made.ensures.opens; may_read = c.requires.may_read; may_write = c.requires.may_write }
+write_made-requires-in-EchoErrors g c = record { some = opened_some WritesFinal _ _ c.text_from_file-made-in-EchoErrors.result c.text_from_file-made-in-EchoErrors.ensures.opens; may_read = c.requires.may_read; may_write = c.requires.may_write }
 
 pub returns-in-UpdateErrors-clause-ran : goal.returns-in-UpdateErrors-clause-ran
 returns-in-UpdateErrors-clause-ran g c =
     of_job (g.F.Shelf.files c.args.shelf.now) c.args.prepared.now (UpdateErrors c.as_slice-in-UpdateErrors.result.now) (c.in-UpdateErrors.is ∙ ap UpdateErrors (sym c.as_slice-in-UpdateErrors.ensures)) _ _ _ _ c.write_made-in-UpdateErrors.result
-    (opened_followed WritesFinal _ _ _ _ _ _ c.write_made-in-UpdateErrors.result c.update_errors-made.result c.update_errors-made.ensures.opens c.write_made-in-UpdateErrors.ensures.ran)
+    (opened_followed WritesFinal _ _ _ _ _ _ c.write_made-in-UpdateErrors.result c.text_from_file-made-in-UpdateErrors.result c.text_from_file-made-in-UpdateErrors.ensures.opens c.write_made-in-UpdateErrors.ensures.ran)
 
 pub returns-in-UpdateErrors-clause-counts : goal.returns-in-UpdateErrors-clause-counts
 returns-in-UpdateErrors-clause-counts g c = c.write_made-in-UpdateErrors.ensures.counts
 
 pub returns-in-UpdateErrors-clause-kept : goal.returns-in-UpdateErrors-clause-kept
-returns-in-UpdateErrors-clause-kept g c = c.update_errors-made.ensures.kept
+returns-in-UpdateErrors-clause-kept g c = c.text_from_file-made-in-UpdateErrors.ensures.kept
 
 pub returns-in-UpdateErrors-clause-read : goal.returns-in-UpdateErrors-clause-read
-returns-in-UpdateErrors-clause-read g c = opened_read WritesFinal _ _ c.update_errors-made.result _ _ _ _ _ _ c.write_made-in-UpdateErrors.result c.update_errors-made.ensures.opens c.update_errors-made.ensures.counts c.write_made-in-UpdateErrors.ensures.ran
+returns-in-UpdateErrors-clause-read g c = opened_read WritesFinal _ _ c.text_from_file-made-in-UpdateErrors.result _ _ _ _ _ _ c.write_made-in-UpdateErrors.result c.text_from_file-made-in-UpdateErrors.ensures.opens c.text_from_file-made-in-UpdateErrors.ensures.counts c.write_made-in-UpdateErrors.ensures.ran
 
 pub write_made-requires-in-UpdateErrors : goal.write_made-requires-in-UpdateErrors
-write_made-requires-in-UpdateErrors g c = record { some = opened_some WritesFinal _ _ c.update_errors-made.result c.update_errors-made.ensures.opens; may_read = c.requires.may_read; may_write = c.requires.may_write }
+write_made-requires-in-UpdateErrors g c = record { some = opened_some WritesFinal _ _ c.text_from_file-made-in-UpdateErrors.result c.text_from_file-made-in-UpdateErrors.ensures.opens; may_read = c.requires.may_read; may_write = c.requires.may_write }
+
+-- ---- The mode that rebases a messages file.
+
+pub returns-in-RebaseErrors-clause-ran : goal.returns-in-RebaseErrors-clause-ran
+returns-in-RebaseErrors-clause-ran g c =
+    of_job (g.F.Shelf.files c.args.shelf.now) c.args.prepared.now (RebaseErrors c.as_slice-in-RebaseErrors.result.now) (c.in-RebaseErrors.is ∙ ap RebaseErrors (sym c.as_slice-in-RebaseErrors.ensures)) _ _ _ _ c.rebase_errors.result c.rebase_errors.ensures.ran
+
+pub returns-in-RebaseErrors-clause-counts : goal.returns-in-RebaseErrors-clause-counts
+returns-in-RebaseErrors-clause-counts g c = c.rebase_errors.ensures.counts
+
+pub returns-in-RebaseErrors-clause-kept : goal.returns-in-RebaseErrors-clause-kept
+returns-in-RebaseErrors-clause-kept g c = c.rebase_errors.ensures.kept
+
+pub returns-in-RebaseErrors-clause-read : goal.returns-in-RebaseErrors-clause-read
+returns-in-RebaseErrors-clause-read g c = c.rebase_errors.ensures.read
 
 -- ---- The shelf may be asked for the messages files of the mode.
 
-pub compile_errors-made-requires : goal.compile_errors-made-requires
-compile_errors-made-requires g c =
+pub text_from_file-made-requires : goal.text_from_file-made-requires
+text_from_file-made-requires g c =
     let is = c.in-CompileErrors.is ∙ ap CompileErrors (sym c.as_slice.ensures) in
     let asked = subst (λ (job : Job). All (g.F.Shelf.MayAsk c.args.shelf.now) (files_of_job job c.args.prepared.now.order)) is c.requires.asked in
-    (search rules, (c.requires.few, (c.requires.fit, asked 0 [] (omega arith))))
+    (search rules, (c.requires.few, (c.requires.consistent, asked 0 [] (omega arith))))
 
 pub compare_errors-made-requires : goal.compare_errors-made-requires
 compare_errors-made-requires g c =
     let is = c.in-CompareErrors.is ∙ ap₂ CompareErrors (sym c.as_slice-in-CompareErrors.ensures) (sym c.as_slice-in-CompareErrors-2.ensures) in
     let asked = subst (λ (job : Job). All (g.F.Shelf.MayAsk c.args.shelf.now) (files_of_job job c.args.prepared.now.order)) is c.requires.asked in
-    (search rules, (c.requires.few, (c.requires.fit, (asked 0 [] (omega arith), asked 1 [] (omega arith)))))
+    (search rules, (c.requires.few, (c.requires.consistent, (asked 0 [] (omega arith), asked 1 [] (omega arith)))))
 
-pub echo_errors-made-requires : goal.echo_errors-made-requires
-echo_errors-made-requires g c =
+pub text_from_file-made-requires-in-EchoErrors : goal.text_from_file-made-requires-in-EchoErrors
+text_from_file-made-requires-in-EchoErrors g c =
     let is = c.in-EchoErrors.is ∙ ap EchoErrors (sym c.as_slice-in-EchoErrors.ensures) in
     let asked = subst (λ (job : Job). All (g.F.Shelf.MayAsk c.args.shelf.now) (files_of_job job c.args.prepared.now.order)) is c.requires.asked in
-    (search rules, (c.requires.few, (c.requires.fit, asked 0 [] (omega arith))))
+    (search rules, (c.requires.few, (c.requires.consistent, asked 0 [] (omega arith))))
 
-pub update_errors-made-requires : goal.update_errors-made-requires
-update_errors-made-requires g c =
+pub text_from_file-made-requires-in-UpdateErrors : goal.text_from_file-made-requires-in-UpdateErrors
+text_from_file-made-requires-in-UpdateErrors g c =
     let is = c.in-UpdateErrors.is ∙ ap UpdateErrors (sym c.as_slice-in-UpdateErrors.ensures) in
     let asked = subst (λ (job : Job). All (g.F.Shelf.MayAsk c.args.shelf.now) (files_of_job job c.args.prepared.now.order)) is c.requires.asked in
-    (search rules, (c.requires.few, (c.requires.fit, asked 0 [] (omega arith))))
+    (search rules, (c.requires.few, (c.requires.consistent, asked 0 [] (omega arith))))
+
+pub rebase_errors-requires : goal.rebase_errors-requires
+rebase_errors-requires g c =
+    let is = c.in-RebaseErrors.is ∙ ap RebaseErrors (sym c.as_slice-in-RebaseErrors.ensures) in
+    let asked = subst (λ (job : Job). All (g.F.Shelf.MayAsk c.args.shelf.now) (files_of_job job c.args.prepared.now.order)) is c.requires.asked in
+    (search rules, (c.requires.few, (c.requires.consistent, (asked 0 [] (omega arith), (c.requires.may_read, c.requires.may_write)))))

@@ -3,6 +3,8 @@ use Rattle.std.specs.String.{string_bytes}
 use Rattle.std.specs.declared.alloc.Global.{Global}
 use Rattle.mh_top_claims.proofs.Claims.{keeps}
 use Rattle.mh_top_claims.proofs.ErrorLists.{lists_exactly}
+use Rattle.mh_top_claims.proofs.Headline.{lists_errors, takes_sound_files, gives_messages}
+use Rattle.mh_top_claims.proofs.RebasedFiles.{rebases_soundly}
 use Rattle.mh_top_claims.proofs.VerdictClaims.{accepts_exactly, rejects_rightly, overshoots_rightly, all_rightly, deep_exactly}
 use Rattle.mh_top.proofs.top.menhir.Goals as goal
 
@@ -13,7 +15,11 @@ returns g c =
     record {
       ran = ran;
       kept = keeps words _ _ _ ran;
-      errors = lists_exactly words _ _ _ ran;
+      errors = lists_errors words _ _ _ ran;
+      takes = takes_sound_files words _ _ _ ran;
+      messages = gives_messages words _ _ _ ran;
+      lists = lists_exactly words _ _ _ ran;
+      rebases = rebases_soundly words _ _ _ ran;
       exact = accepts_exactly words _;
       rejects = rejects_rightly words _;
       overshoots = overshoots_rightly words _;

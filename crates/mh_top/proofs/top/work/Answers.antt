@@ -10,11 +10,15 @@ use Rattle.mh_top.proofs.top.work.Goals as goal
 pub front_of-requires : goal.front_of-requires
 front_of-requires g c = record { asked = λ order on. (c.requires.asked order on).0 }
 
-pub work_at_width-requires-clause-asked : goal.work_at_width-requires-clause-asked
-work_at_width-requires-clause-asked g c = λ k d lt. c.in-Ok.ensures.may_still _ ((c.requires.asked c.in-Ok.front.order c.in-Ok.ensures.order).2 k d lt)
-
-pub work_at_width-requires-clause-tables : goal.work_at_width-requires-clause-tables
-work_at_width-requires-clause-tables g c = λ name named. c.in-Ok.ensures.may_still _ ((c.requires.asked c.in-Ok.front.order c.in-Ok.ensures.order).1 name named)
+pub work_at_width-requires-clause-front : goal.work_at_width-requires-clause-front
+work_at_width-requires-clause-front g c = record {
+  start = c.in-Ok.ensures.start;
+  limits = c.in-Ok.ensures.limits;
+  costs = c.in-Ok.ensures.costs;
+  distinct_names = c.in-Ok.ensures.distinct_names;
+  tables = λ name named. c.in-Ok.ensures.may_ask _ ((c.requires.asked c.in-Ok.front.order c.in-Ok.ensures.order).1 name named);
+  asked = λ k d lt. c.in-Ok.ensures.may_ask _ ((c.requires.asked c.in-Ok.front.order c.in-Ok.ensures.order).2 k d lt);
+}
 
 pub returns-in-Err-clause-ran : goal.returns-in-Err-clause-ran
 returns-in-Err-clause-ran g c =

@@ -8,7 +8,7 @@ use Rattle.mh_top.proofs.top.work_on.Goals as goal
 pub work_with-ended-requires : goal.work_with-ended-requires
 work_with-ended-requires g c = (
   search rules,
-  (c.requires.fits.few, (c.in-Ok.ensures.fit, (rw c.in-Ok.ensures.order (λ k d lt. c.in-Ok.ensures.may_still _ (c.requires.asked k d lt)), (c.requires.may_read, (c.requires.may_write, c.requires.may_warn))))),
+  (record { few = c.requires.fits.few; consistent = c.in-Ok.ensures.consistent; asked = rw c.in-Ok.ensures.order (λ k d lt. c.in-Ok.ensures.may_ask _ (c.requires.front.asked k d lt)); may_read = c.requires.may_read; may_write = c.requires.may_write }, c.requires.may_warn),
 )
 
 pub returns-in-Err-clause-ran : goal.returns-in-Err-clause-ran

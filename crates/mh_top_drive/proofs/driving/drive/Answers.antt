@@ -8,7 +8,7 @@ end-requires g c =
 
 pub returns-in-Ok-clause-ran : goal.returns-in-Ok-clause-ran
 returns-in-Ok-clause-ran g c = λ plan is.
-    let q = c.in-Ok.ensures.ran plan is in end_ran g.M.Mode.way plan q.0 _ _ _ _ _ q.2 c.end.result (c.end.ensures.text q.0 q.1)
+    let q = c.in-Ok.ensures.ran plan is in end_ran g.M.Mode.behavior plan q.0 _ _ _ _ _ q.2 c.end.result (c.end.ensures.text q.0 q.1)
 
 pub returns-in-Err-clause-ran : goal.returns-in-Err-clause-ran
 returns-in-Err-clause-ran g c = λ plan is. (c.in-Err.ensures.ran plan is).2

@@ -14,8 +14,8 @@ returns-in-Err-clause-items g c =
 pub loop-name-preserved : goal.loop-name-preserved
 loop-name-preserved g c = record {
   so_far = rw c.in_ok-push-in-Ok.ensures.items (so_far_next _ _ c.args.names.now _ c.loop-name.name-index c.name-item.result _ c.loop-name.invariant.kept (c.as_slice.ensures ∙ c.name-item.is) (omega arith) _ c.in-Ok.item c.loop-name.invariant.so_far c.in-Ok.ensures.item);
-  still = λ other may. c.in-Ok.ensures.may_still other (c.loop-name.invariant.still other may);
-  may = λ k d lt. c.in-Ok.ensures.may_still _ (c.loop-name.invariant.may k d lt);
+  still = λ other may. c.in-Ok.ensures.may_ask other (c.loop-name.invariant.still other may);
+  may = λ k d lt. c.in-Ok.ensures.may_ask _ (c.loop-name.invariant.may k d lt);
   kept = c.in-Ok.ensures.kept ∙ c.loop-name.invariant.kept;
   calm = c.in-Ok.ensures.counts ∙ c.loop-name.invariant.calm;
 }

@@ -8,4 +8,4 @@ short line is = subst (λ (l : List ℕ). length l < 2 ^ 32) (sym is) (omega ari
 pub returns-clause-ran : goal.returns-clause-ran
 returns-clause-ran g c =
     let p = c.args.prepared.now in
-    c.drive.ensures.ran (Explains p []) (c.requires.few, c.requires.fit, short c.new.result c.new.ensures, ap (Explains p) (sym c.new.ensures))
+    c.drive.ensures.ran (Explains p []) (c.requires.few, c.requires.consistent, short c.new.result c.new.ensures, ap (Explains p) (sym c.new.ensures))

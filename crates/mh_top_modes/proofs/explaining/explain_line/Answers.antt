@@ -8,14 +8,12 @@ explain_sentence-requires g c = (
   (
     c.requires.few,
     (
-      c.requires.fit,
-      (
-        start_known c.args.prepared.now.grammar c.args.prepared.now.tabled.halting.grammar c.args.line.now c.in-Ok.sentence c.in-Ok.ensures.sentence c.requires.fit.table.grammar,
-        (
-          sentence_below c.args.prepared.now.grammar c.args.prepared.now.tabled.halting.grammar c.args.line.now c.in-Ok.sentence _ c.in-Ok.ensures.sentence c.requires.fit.table.grammar refl,
-          omega (arith, c.in-Ok.ensures.few, c.requires.short),
-        ),
-      ),
+      c.requires.consistent,
+      record {
+        start = start_known c.args.prepared.now.grammar c.args.prepared.now.tabled.halting.grammar c.args.line.now c.in-Ok.sentence c.in-Ok.ensures.sentence c.requires.consistent.table.grammar;
+        tokens = sentence_below c.args.prepared.now.grammar c.args.prepared.now.tabled.halting.grammar c.args.line.now c.in-Ok.sentence _ c.in-Ok.ensures.sentence c.requires.consistent.table.grammar refl;
+        few = omega (arith, c.in-Ok.ensures.few, c.requires.short);
+      },
     ),
   ),
 )

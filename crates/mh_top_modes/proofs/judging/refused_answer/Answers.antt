@@ -13,5 +13,5 @@ pub write_expected-requires-clause-overshoots : goal.write_expected-requires-cla
 write_expected-requires-clause-overshoots c =
     let s = c.args.sentence.now in
     let t = c.args.by.now.halting.now in
-    refused_overshoots t s.start s.tokens c.args.at c.args.state c.requires.refused c.table-rows.ensures.facts c.requires.start
-    (recursion_from_All (λ (z : ℕ). z < t.grammar.tokens) (take c.args.at s.tokens) (All-take (λ (z : ℕ). z < t.grammar.tokens) c.args.at s.tokens c.requires.tokens))
+    refused_overshoots t s.start s.tokens c.args.at c.args.state c.requires.refused c.table-rows.ensures.facts c.requires.sentence.start
+    (recursion_from_All (λ (z : ℕ). z < t.grammar.tokens) (take c.args.at s.tokens) (All-take (λ (z : ℕ). z < t.grammar.tokens) c.args.at s.tokens c.requires.sentence.tokens))

@@ -22,4 +22,4 @@ returns-in-Err-clause-updated g c =
 pub updated_of-requires : goal.updated_of-requires
 updated_of-requires g c =
     let p = c.args.prepared.now in
-    (search rules, (c.requires.few, (c.requires.fit, file_of_table p.grammar p.tabled.halting c.requires.fit.table.grammar (g.F.Shelf.files c.args.shelf.now) c.args.name.now c.in-Ok.file c.in-Ok.ensures.spelled)))
+    (search rules, (c.requires.few, (c.requires.consistent, file_of_table p.grammar p.tabled.halting c.requires.consistent.table.grammar (g.F.Shelf.files c.args.shelf.now) c.args.name.now c.in-Ok.file c.in-Ok.ensures.spelled)))

@@ -2,7 +2,7 @@ use Rattle.std.proofs.Common.{◌+◌, ◌++◌, List, take, drop, subst}
 use Rattle.mh_msgfile.specs.declared.messages.MsgSentence.{MsgSentence}
 use Rattle.mh_check.specs.Compiling.{ReportsCheckFault}
 use Rattle.mh_update_renewed.specs.Updates.{FirstUnfit}
-use Rattle.mh_update.proofs.AreComments.{comments_next, unfit_here, unfit_more, put_split}
+use Rattle.mh_update.proofs.AreComments.{comments_next, unfit_here, unfit_more, sentences_split}
 use Rattle.mh_update.proofs.comments.put_comments.Goals as goal
 
 pub returns-in-Err : goal.returns-in-Err
@@ -12,7 +12,7 @@ returns-in-Err g c = λ done are.
     let i = c.loop-sentence.sentence-index in
     let x = c.sentence-item.result in
     let here = unfit_here c.args.grammar.now c.args.automaton.now t (done ++ take i xs) c.loop-sentence.comments.items x c.in-Err.fault (c.loop-sentence.invariant done are) c.in-Err.ensures in
-    subst (λ (l : List MsgSentence). ReportsCheckFault c.in-Err.fault (FirstUnfit t l)) (put_split done xs i x c.loop-sentence-test.true c.sentence-item.is) (unfit_more t _ (drop (i + 1) xs) c.in-Err.fault here)
+    subst (λ (l : List MsgSentence). ReportsCheckFault c.in-Err.fault (FirstUnfit t l)) (sentences_split done xs i x c.loop-sentence-test.true c.sentence-item.is) (unfit_more t _ (drop (i + 1) xs) c.in-Err.fault here)
 
 pub loop-sentence-preserved : goal.loop-sentence-preserved
 loop-sentence-preserved g c = λ done are.

@@ -10,13 +10,13 @@ loop-raw-preserved g c = rw c.in_ok-push.ensures.items (items_more c.args.gramma
     (rw c.as_slice.ensures.value at (c.is_after_all.ensures.0 c.if-not-is_after_all.false)))
 
 pub returns-in_default : goal.returns-in_default
-returns-in_default g c items are = items_never c.args.grammar.now c.requires.apart c.args.raws.now c.loop-raw.raw-index c.raw-item.result c.loop-raw.items.items items c.loop-raw-test.true c.raw-item.is c.loop-raw.invariant (λ item is _. c.in_default.ensures item is) are
+returns-in_default g c items are = items_never c.args.grammar.now c.requires.distinct_names c.args.raws.now c.loop-raw.raw-index c.raw-item.result c.loop-raw.items.items items c.loop-raw-test.true c.raw-item.is c.loop-raw.invariant (λ item is _. c.in_default.ensures item is) are
 
 pub returns-then-not-is_after_all : goal.returns-then-not-is_after_all
 returns-then-not-is_after_all g c items are =
     let told = rw c.as_slice.ensures.value at c.is_after_all.ensures in
-    items_never c.args.grammar.now c.requires.apart c.args.raws.now c.loop-raw.raw-index c.raw-item.result c.loop-raw.items.items items c.loop-raw-test.true c.raw-item.is c.loop-raw.invariant
-    (λ item is behind. true≢false (sym (told.1 (subst (λ (k : KernelItem). (z : KernelItem) → Contains c.loop-raw.items.items z → IsItemBefore z k) (item_unique c.args.grammar.now c.requires.apart c.raw-item.result item c.in-Some.item is c.in-Some.ensures) behind)) ∙ c.if-not-is_after_all.true)) are
+    items_never c.args.grammar.now c.requires.distinct_names c.args.raws.now c.loop-raw.raw-index c.raw-item.result c.loop-raw.items.items items c.loop-raw-test.true c.raw-item.is c.loop-raw.invariant
+    (λ item is behind. true≢false (sym (told.1 (subst (λ (k : KernelItem). (z : KernelItem) → Contains c.loop-raw.items.items z → IsItemBefore z k) (item_unique c.args.grammar.now c.requires.distinct_names c.raw-item.result item c.in-Some.item is c.in-Some.ensures) behind)) ∙ c.if-not-is_after_all.true)) are
 
 pub loop-raw-init : goal.loop-raw-init
 loop-raw-init g c = rw c.in_ok-items.ensures.items (items_none c.args.grammar.now)

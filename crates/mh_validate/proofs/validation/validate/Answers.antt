@@ -1,6 +1,6 @@
 use Rattle.std.proofs.lemmas.Result.{IfOk-weaker}
 use Rattle.mh_validate_valid.proofs.ValidIsAutomaton.{automaton_of}
-use Rattle.mh_validate.proofs.Outcomes.{outcome_ok, outcome_fault}
+use Rattle.mh_validate.proofs.Outcomes.{outcome_ok, outcome_exact, outcome_fault}
 use Rattle.mh_validate.proofs.validation.validate.Goals as goal
 
 pub returns-clause-valid : goal.returns-clause-valid
@@ -20,3 +20,6 @@ returns-clause-mode g c = IfOk-weaker c.validation_of.result _ _ (λ v h. h.mode
 
 pub returns-clause-invalid : goal.returns-clause-invalid
 returns-clause-invalid g c = outcome_fault c.args.grammar.now c.args.raw.now c.validation_of.result c.validation_of.ensures
+
+pub returns-clause-exact : goal.returns-clause-exact
+returns-clause-exact g c = outcome_exact c.args.grammar.now c.requires.distinct_names c.args.raw.now c.validation_of.result c.validation_of.ensures

@@ -15,10 +15,10 @@ use Rattle.mh_engine.specs.Branches.{HasPosition, with_token}
 use Rattle.mh_engine.proofs.BranchPosition.{HasPosition-token}
 use Rattle.mh_engine.proofs.checkpoint.Checkpoint.offer.Goals as goal
 
-pub returns-clause-made : goal.returns-clause-made
-returns-clause-made c =
+pub returns-clause-value : goal.returns-clause-value
+returns-clause-value c =
     let v : Position = position_with_look c.self.inside.table.now c.self.inside.stack c.self.inside.pending c.self.inside.refused in
-    offered_made v c.in_ok-share.field-0 c.args.token (subst (λ (p : Position). CanOffer (phase_of p)) (sym c.self.view_is) c.requires.asking) c.in_ok-share.ensures ∙ ap (λ (p : Position). offered p c.args.token) c.self.view_is
+    offered_made v c.in_ok-share.field-0 c.args.token (subst (λ (p : Position). CanOffer (phase_of p)) (sym c.self.view_is) c.requires.can_offer) c.in_ok-share.ensures ∙ ap (λ (p : Position). offered p c.args.token) c.self.view_is
 
 pub returns-clause-branch : goal.returns-clause-branch
-returns-clause-branch c = λ b h. subst (HasPosition (with_token b c.args.token)) (sym (returns-clause-made c)) (HasPosition-token b c.args.self.now c.args.token h)
+returns-clause-branch c = λ b h. subst (HasPosition (with_token b c.args.token)) (sym (returns-clause-value c)) (HasPosition-token b c.args.self.now c.args.token h)

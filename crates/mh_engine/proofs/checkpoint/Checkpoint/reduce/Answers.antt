@@ -25,7 +25,7 @@ returns-then-not-has_room-clause-deep c =
     let v : Position = position_with_look c.self.inside.table.now c.self.inside.stack c.self.inside.pending c.self.inside.refused in
     let size = c.length_of-length.ensures ∙ ap (λ (t : TableData). length (rhs_of t.grammar c.args.production)) c.table-table.ensures.table in
     let next = subst (λ (p : Position). next_move p ≡ Reduces c.args.production) (sym c.self.view_is) c.requires.next in
-    let can = subst (λ (p : Position). CanReduce p c.args.production) (sym c.self.view_is) c.requires.can in
+    let can = subst (λ (p : Position). CanReduce p c.args.production) (sym c.self.view_is) c.requires.can_reduce in
     λ e. ap (λ (p : Position). too_deep (resumed p).pairs.trees) (sym c.self.view_is)
     ∙ reduced_deep v c.args.production c.length_of-length.result c.in_ok-kept.kept c.in_ok-kept.children.items c.table-table.ensures.facts.facts c.self.invariant.0 next can size c.in_ok-kept.ensures.below c.in_ok-kept.ensures.trees
     (elim c.then-not-has_room.branch [
@@ -38,7 +38,7 @@ invariant_of-result c =
     let v : Position = position_with_look c.self.inside.table.now c.self.inside.stack c.self.inside.pending c.self.inside.refused in
     let size = c.length_of-length.ensures ∙ ap (λ (t : TableData). length (rhs_of t.grammar c.args.production)) c.table-table.ensures.table in
     let next = subst (λ (p : Position). next_move p ≡ Reduces c.args.production) (sym c.self.view_is) c.requires.next in
-    let can = subst (λ (p : Position). CanReduce p c.args.production) (sym c.self.view_is) c.requires.can in
+    let can = subst (λ (p : Position). CanReduce p c.args.production) (sym c.self.view_is) c.requires.can_reduce in
     let found : ReductionValues v c.args.production c.length_of-length.result c.in-Some.target c.in_ok-kept.kept c.in_ok-kept.children.items c.in_ok-push.field-0 = record {
       size_is = size;
       kept_are = c.in_ok-kept.ensures.below;
@@ -51,12 +51,12 @@ invariant_of-result c =
       c.self.invariant.1,
     )
 
-pub returns-clause-made : goal.returns-clause-made
-returns-clause-made c =
+pub returns-clause-value : goal.returns-clause-value
+returns-clause-value c =
     let v : Position = position_with_look c.self.inside.table.now c.self.inside.stack c.self.inside.pending c.self.inside.refused in
     let size = c.length_of-length.ensures ∙ ap (λ (t : TableData). length (rhs_of t.grammar c.args.production)) c.table-table.ensures.table in
     let next = subst (λ (p : Position). next_move p ≡ Reduces c.args.production) (sym c.self.view_is) c.requires.next in
-    let can = subst (λ (p : Position). CanReduce p c.args.production) (sym c.self.view_is) c.requires.can in
+    let can = subst (λ (p : Position). CanReduce p c.args.production) (sym c.self.view_is) c.requires.can_reduce in
     let found : ReductionValues v c.args.production c.length_of-length.result c.in-Some.target c.in_ok-kept.kept c.in_ok-kept.children.items c.in_ok-push.field-0 = record {
       size_is = size;
       kept_are = c.in_ok-kept.ensures.below;
@@ -71,7 +71,7 @@ returns-clause-fits c =
     let v : Position = position_with_look c.self.inside.table.now c.self.inside.stack c.self.inside.pending c.self.inside.refused in
     let size = c.length_of-length.ensures ∙ ap (λ (t : TableData). length (rhs_of t.grammar c.args.production)) c.table-table.ensures.table in
     let next = subst (λ (p : Position). next_move p ≡ Reduces c.args.production) (sym c.self.view_is) c.requires.next in
-    let can = subst (λ (p : Position). CanReduce p c.args.production) (sym c.self.view_is) c.requires.can in
+    let can = subst (λ (p : Position). CanReduce p c.args.production) (sym c.self.view_is) c.requires.can_reduce in
     let found : ReductionValues v c.args.production c.length_of-length.result c.in-Some.target c.in_ok-kept.kept c.in_ok-kept.children.items c.in_ok-push.field-0 = record {
       size_is = size;
       kept_are = c.in_ok-kept.ensures.below;

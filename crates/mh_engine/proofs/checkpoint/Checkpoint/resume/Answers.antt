@@ -15,8 +15,8 @@ use Rattle.mh_engine.specs.Branches.{HasPosition, with_step}
 use Rattle.mh_engine.proofs.BranchPosition.{HasPosition-step, HasPosition-resumed_ok}
 use Rattle.mh_engine.proofs.checkpoint.Checkpoint.resume.Goals as goal
 
-pub reduce-requires-clause-can : goal.reduce-requires-clause-can
-reduce-requires-clause-can c =
+pub reduce-requires-clause-can_reduce : goal.reduce-requires-clause-can_reduce
+reduce-requires-clause-can_reduce c =
     can_reduce c.args.self.now c.in-Reduce.production (subst (λ (p : Position). Facts p.table) c.self.view_is c.table-rows.ensures.facts.facts) (subst IsSound c.self.view_is c.self.invariant.0) (sym c.in-Reduce.ensures)
 
 pub unreachable-requires : goal.unreachable-requires
@@ -26,18 +26,18 @@ pub unreachable-requires-in-Ask : goal.unreachable-requires-in-Ask
 unreachable-requires-in-Ask c = (resumable_moves c.args.self.now c.requires).1 (sym c.in-Ask.ensures)
 
 pub returns-in-Shift-clause-branch : goal.returns-in-Shift-clause-branch
-returns-in-Shift-clause-branch c = HasPosition-resumed_ok c.shift.result c.args.self.now c.requires c.shift.ensures.made
+returns-in-Shift-clause-branch c = HasPosition-resumed_ok c.shift.result c.args.self.now c.requires c.shift.ensures.value
 
 pub returns-in-Reduce-clause-branch : goal.returns-in-Reduce-clause-branch
-returns-in-Reduce-clause-branch c = HasPosition-resumed_ok c.reduce.result c.args.self.now c.requires c.reduce.ensures.made
+returns-in-Reduce-clause-branch c = HasPosition-resumed_ok c.reduce.result c.args.self.now c.requires c.reduce.ensures.value
 
-pub returns-in-Ok-clause-made : goal.returns-in-Ok-clause-made
-returns-in-Ok-clause-made c = c.in-Ok.ensures ∙ sym (resumed_refused c.args.self.now (sym c.in-Refuse.ensures))
+pub returns-in-Ok-clause-value : goal.returns-in-Ok-clause-value
+returns-in-Ok-clause-value c = c.in-Ok.ensures ∙ sym (resumed_refused c.args.self.now (sym c.in-Refuse.ensures))
 
 pub returns-in-Ok-clause-branch : goal.returns-in-Ok-clause-branch
-returns-in-Ok-clause-branch c = λ b h. subst (HasPosition (with_step b)) (sym (returns-in-Ok-clause-made c)) (HasPosition-step b c.args.self.now h c.requires)
+returns-in-Ok-clause-branch c = λ b h. subst (HasPosition (with_step b)) (sym (returns-in-Ok-clause-value c)) (HasPosition-step b c.args.self.now h c.requires)
 
 pub returns-in-Ok-clause-fits : goal.returns-in-Ok-clause-fits
 returns-in-Ok-clause-fits c =
     let sound = subst IsSound c.self.view_is c.self.invariant.0 in
-    ap (λ (p : Position). too_deep p.pairs.trees) (resumed_refused c.args.self.now (sym c.in-Refuse.ensures)) ∙ sound.fits
+    ap (λ (p : Position). too_deep p.pairs.trees) (resumed_refused c.args.self.now (sym c.in-Refuse.ensures)) ∙ sound.not_too_deep

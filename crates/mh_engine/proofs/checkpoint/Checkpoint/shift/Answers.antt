@@ -30,8 +30,8 @@ invariant_of-result c =
       tt,
     )
 
-pub returns-clause-made : goal.returns-clause-made
-returns-clause-made c =
+pub returns-clause-value : goal.returns-clause-value
+returns-clause-value c =
     let v : Position = position_with_look c.self.inside.table.now c.self.inside.stack c.self.inside.pending c.self.inside.refused in
     shifted_made v c.in_ok-push.field-0 c.args.target c.in-Some.token (subst (λ (p : Position). next_move p ≡ Shifts c.args.target) (sym c.self.view_is) c.requires) (ap look_list c.in-Some.is) (rw (← c.in_ok-share.ensures, ← c.in_ok-tree.ensures) c.in_ok-push.ensures)
     ∙ ap resumed c.self.view_is

@@ -14,4 +14,4 @@ returns-clause-path c =
     let p : Position = c.args.self.now in
     let sound = subst IsSound c.self.view_is c.self.invariant.0 in
     IfOk-weaker c.states.result _ _
-    (λ states e. subst (IsRunStack p.table) (sym (e ∙ ap (λ (q : Position). q.pairs.states) c.self.view_is)) (IsRunStack-of_trees p.table p.pairs.states p.pairs.trees sound.grown)) c.states.ensures
+    (λ states e. subst (IsRunStack p.table) (sym (e ∙ ap (λ (q : Position). q.pairs.states) c.self.view_is)) (IsRunStack-of_trees p.table p.pairs.states p.pairs.trees sound.trees_match)) c.states.ensures

@@ -16,13 +16,13 @@ returns-in_ok-push-in-Ok-clause-few _ c =
     let longer = ap length c.in_ok-push-in-Ok.ensures.ok.kernels ∙ length_push kernels.items c.args.kernel in
     omega (arith, longer, count, c.in-Ok.ensures.ok.1)
 
-pub returns-in_ok-push-in-Ok-clause-over : goal.returns-in_ok-push-in-Ok-clause-over
-returns-in_ok-push-in-Ok-clause-over _ c same = cc
+pub returns-in_ok-push-in-Ok-clause-exceeds : goal.returns-in_ok-push-in-Ok-clause-exceeds
+returns-in_ok-push-in-Ok-clause-exceeds _ c same = cc
 
-pub returns-in-Err-clause-over : goal.returns-in-Err-clause-over
-returns-in-Err-clause-over _ c same =
+pub returns-in-Err-clause-exceeds : goal.returns-in-Err-clause-exceeds
+returns-in-Err-clause-exceeds _ c same =
     let fault : c.in-Err.fault ≡ TooManyStates = cc in
-    let over = c.in-Err.ensures.over (ap Err fault) in
+    let over = c.in-Err.ensures.exceeds (ap Err fault) in
     let count : c.len.result ≡ length c.args.self.now.kernels.items = c.len.ensures ∙ c.args.self.now.kernels.ok.0 in
     let few = c.requires.few in
     omega (arith, over, count, few)

@@ -10,7 +10,7 @@ first_fitting-requires g c =
     let index = c.args.self.now.index in
     let states = index.states.items in
     let group = c.requires.group in
-    let read : slice_get states c.args.core ≡ Some c.index.result.now = slice_get_read states (length states) c.args.core c.index.result.now refl (slice_get_within states c.args.core group.group group.of) c.index.ensures in
+    let read : slice_get states c.args.core ≡ Some c.index.result.now = slice_get_read states (length states) c.args.core c.index.result.now refl (slice_get_within states c.args.core group.group group.group_is) c.index.ensures in
     let candidates = candidates_of kernels index.places.entries states c.requires.kept.indexed c.args.kernel.now c.args.core c.index.result.now group.at read in
     (search rules, (c.requires.small, (rw c.as_slice.ensures.value c.requires.ready.valid, (c.requires.kernel, rw (c.as_slice.ensures.value, c.as_slice-2.ensures) candidates))))
 

@@ -4,7 +4,7 @@ use Rattle.mh_grammar.specs.Plain.{plain_of}
 use Rattle.mh_items_kernels.specs.KernelTypes.{Kernel}
 use Rattle.mh_items_kernels.specs.Kernels.{Holds}
 use Rattle.mh_pager_steps.specs.WeakCompatibility.{HaveSameCore}
-use Rattle.mh_canon_states.specs.declared.limits.TheConstants.{MAX_STATES}
+use Rattle.mh_canon_states.specs.Limits.{max_states}
 use Rattle.mh_pager.specs.code.Worklist.{merge_state_of, HasSameCoreAt}
 use Rattle.mh_pager.proofs.PlacesMove.{if_ok, placed_by_joining, placed_by_appending, placing_exceeds}
 use Rattle.mh_pager.proofs.worklist.Worklist.put_unkept.Goals as goal
@@ -18,7 +18,7 @@ take-requires g c =
     let kernels = c.args.self.now.kernels.items in
     let within : c.in-Some.n < length kernels = slice_get_within kernels c.in-Some.n first.0 first.1.at in
     let P : Kernel → Type 0 = λ k. HaveSameCore (Holds k) (Holds c.args.kernel) in
-    let core : HasSameCoreAt c.args.kernel kernels c.in-Some.n = (λ k at. (let one : Some first.0 ≡ Some k = sym first.1.at ∙ at in let same : first.0 ≡ k = cc in subst P same first.1.has.0)) in
+    let core : HasSameCoreAt c.args.kernel kernels c.in-Some.n = (λ k at. (let one : Some first.0 ≡ Some k = sym first.1.at ∙ at in let same : first.0 ≡ k = cc in subst P same first.1.holds.0)) in
     (search rules, (search rules, (c.requires.fits, (c.requires.kernel, (c.requires.ready, (within, (core, c.requires.kept)))))))
 
 pub returns-in_ok-take-in-Some-clause-ok : goal.returns-in_ok-take-in-Some-clause-ok
@@ -31,7 +31,7 @@ returns-in-None-clause-ok g c =
     let untaken = c.in-None.ensures in
     if_ok c.append.result c.append.ensures.ok (λ n a. placed_by_appending (plain_of c.args.grammar.now) c.args.kernel (merge_state_of c.args.self.now) (merge_state_of c.append.new.self) n c.requires.unkept untaken a)
 
-pub returns-in-None-clause-over : goal.returns-in-None-clause-over
-returns-in-None-clause-over g c e =
+pub returns-in-None-clause-exceeds : goal.returns-in-None-clause-exceeds
+returns-in-None-clause-exceeds g c e =
     let untaken = c.in-None.ensures in
-    placing_exceeds (plain_of c.args.grammar.now) c.args.kernel (merge_state_of c.args.self.now) MAX_STATES c.requires.unkept untaken (c.append.ensures.over e)
+    placing_exceeds (plain_of c.args.grammar.now) c.args.kernel (merge_state_of c.args.self.now) max_states c.requires.unkept untaken (c.append.ensures.exceeds e)

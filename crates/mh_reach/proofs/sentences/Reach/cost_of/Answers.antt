@@ -8,11 +8,11 @@ use Rattle.mh_reach.proofs.sentences.Reach.cost_of.Goals as goal
 pub returns-in-None : goal.returns-in-None
 returns-in-None c =
     let known = rw (sym c.self.view_is) at c.requires in
-    let at = index_at c.self.inside.best.items c.args.state c.index.result.now (let l = c.self.invariant.long in omega (arith, l, known)) c.index.ensures in
+    let at = index_at c.self.inside.best.items c.args.state c.index.result.now (let l = c.self.invariant.len in omega (arith, l, known)) c.index.ensures in
     subst (λ (t : TableData). LeastCost t c.args.state None) c.self.view_is (c.self.invariant.each c.args.state None (at ∙ ap Some c.in-None.is))
 
 pub returns-in-Some : goal.returns-in-Some
 returns-in-Some c =
     let known = rw (sym c.self.view_is) at c.requires in
-    let at = index_at c.self.inside.best.items c.args.state c.index.result.now (let l = c.self.invariant.long in omega (arith, l, known)) c.index.ensures in
-    subst (λ (t : TableData). LeastCost t c.args.state (Some c.in-Some.best.cost)) c.self.view_is (least_cost c.self.inside.table.now c.self.invariant.tale.words c.self.invariant.journey.labels c.args.state c.in-Some.best (c.self.invariant.each c.args.state (Some c.in-Some.best) (at ∙ ap Some c.in-Some.is)))
+    let at = index_at c.self.inside.best.items c.args.state c.index.result.now (let l = c.self.invariant.len in omega (arith, l, known)) c.index.ensures in
+    subst (λ (t : TableData). LeastCost t c.args.state (Some c.in-Some.best.cost)) c.self.view_is (least_cost c.self.inside.table.now c.self.invariant.word_assignment.words c.self.invariant.label_assignment.labels c.args.state c.in-Some.best (c.self.invariant.each c.args.state (Some c.in-Some.best) (at ∙ ap Some c.in-Some.is)))

@@ -3,12 +3,12 @@ use Rattle.std.specs.Map.{update}
 use Rattle.mh_session.specs.SessionState.{SessionState}
 use Rattle.mh_session_branches.specs.Names.{at_name, same}
 use Rattle.mh_session.specs.code.ChangesName.{ChangesName}
-use Rattle.mh_session.proofs.ChangesName.{removal_of}
+use Rattle.mh_session.proofs.ChangesName.{removal_keeps_table}
 use Rattle.mh_session.proofs.IsServed.{forget_served}
 use Rattle.mh_session.proofs.session.Session.forget.Goals as goal
 
 pub invariant_of-self-2 : goal.invariant_of-self-2
-invariant_of-self-2 c = removal_of c.self.inside.table.now c.self.inside.branches.entries c.remove.new.self.entries c.args.name.now c.self.invariant c.remove.ensures.updates.0
+invariant_of-self-2 c = removal_keeps_table c.self.inside.table.now c.self.inside.branches.entries c.remove.new.self.entries c.args.name.now c.self.invariant c.remove.ensures.updates.0
 
 pub returns : goal.returns
 returns c =

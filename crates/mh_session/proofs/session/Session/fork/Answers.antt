@@ -6,7 +6,7 @@ use Rattle.mh_engine.specs.Steps.{resumed}
 use Rattle.mh_tables_core.specs.TooDeep.{too_deep}
 use Rattle.mh_session.specs.SessionState.{SessionState}
 use Rattle.mh_session_branches.specs.Names.{at_name}
-use Rattle.mh_session.proofs.ChangesName.{removal_of}
+use Rattle.mh_session.proofs.ChangesName.{removal_keeps_table}
 use Rattle.mh_session.proofs.IsServed.{found_none, begin_served, offer_served, resume_served, deep_served, resumed_of, fork_served, forget_served, DidPut}
 use Rattle.mh_session.proofs.session.Session.fork.Goals as goal
 
@@ -14,4 +14,4 @@ pub returns : goal.returns
 returns c =
     fork_served c.args.self.now c.put.new.self c.args.name.now c.args.fresh.now c.in-Some.checkpoint.now c.in_ok-forked.forked c.put.result (sym c.in-Some.ensures.found) c.in-Some.ensures.table
     (found_none c.find-2.result _ c.find-2.ensures.found (sym c.is_some.ensures ∙ c.if-is_some.false)) c.in_ok-forked.ensures
-    (record { reply = c.put.ensures.reply; fault = c.put.ensures.fault; put = c.put.ensures.put; same = c.put.ensures.same })
+    (record { reply = c.put.ensures.reply; fault = c.put.ensures.fault; name_changed = c.put.ensures.put; same = c.put.ensures.same })

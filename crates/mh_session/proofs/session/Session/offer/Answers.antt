@@ -6,12 +6,12 @@ use Rattle.mh_engine.specs.Steps.{resumed}
 use Rattle.mh_tables_core.specs.TooDeep.{too_deep}
 use Rattle.mh_session.specs.SessionState.{SessionState}
 use Rattle.mh_session_branches.specs.Names.{at_name}
-use Rattle.mh_session.proofs.ChangesName.{removal_of}
+use Rattle.mh_session.proofs.ChangesName.{removal_keeps_table}
 use Rattle.mh_session.proofs.IsServed.{found_none, begin_served, offer_served, resume_served, deep_served, resumed_of, fork_served, forget_served, DidPut}
 use Rattle.mh_session.proofs.session.Session.offer.Goals as goal
 
 pub returns : goal.returns
 returns c =
     offer_served c.args.self.now c.put.new.self c.args.name.now c.args.token c.in-InputNeeded.state c.in-Some.checkpoint.now c.in_ok-offered.offered c.put.result (sym c.in-Some.ensures.found) c.in-Some.ensures.table (sym c.in-InputNeeded.ensures)
-    c.in_ok-offered.ensures.made
-    (record { reply = c.put.ensures.reply; fault = c.put.ensures.fault; put = c.put.ensures.put; same = c.put.ensures.same })
+    c.in_ok-offered.ensures.value
+    (record { reply = c.put.ensures.reply; fault = c.put.ensures.fault; name_changed = c.put.ensures.put; same = c.put.ensures.same })

@@ -4,12 +4,12 @@ use Rattle.mh_grammar.specs.Text.{Text}
 use Rattle.mh_session_branches.specs.Names.{at_name, same}
 use Rattle.mh_session.specs.SessionState.{SessionState}
 use Rattle.mh_session.specs.code.ChangesName.{ChangesName}
-use Rattle.mh_session.proofs.ChangesName.{puts_of}
+use Rattle.mh_session.proofs.ChangesName.{put_keeps_table}
 use Rattle.mh_session.proofs.session.Session.put.Goals as goal
 
 pub invariant_of-self-2 : goal.invariant_of-self-2
 invariant_of-self-2 c =
-    puts_of c.self.inside.table.now c.self.inside.branches.entries c.insert.new.self.entries c.in_ok-name.name c.args.checkpoint c.self.invariant c.in_ok-insert.ensures.updates.0 (c.requires ∙ ap (λ (m : SessionState). m.table) (sym c.self.view_is))
+    put_keeps_table c.self.inside.table.now c.self.inside.branches.entries c.insert.new.self.entries c.in_ok-name.name c.args.checkpoint c.self.invariant c.in_ok-insert.ensures.updates.0 (c.requires ∙ ap (λ (m : SessionState). m.table) (sym c.self.view_is))
 
 pub returns-clause-put : goal.returns-clause-put
 returns-clause-put c =

@@ -12,7 +12,7 @@ returns-in-Ok-clause-text g c =
     counts_ran c.args.self.prepared.now c.args.self.number c.in-Ok.ensures.none (rows_of rows) c.in-Ok.ensures.ok _ (ap length c.as_slice.ensures.value ∙ sym (length-map rows row_of)) _ _ c.write_counts.result c.write_counts.ensures.text
 
 pub returns-in-Err-clause-text : goal.returns-in-Err-clause-text
-returns-in-Err-clause-text g c = counts_stop c.args.self.prepared.now _ c.in-Err.fault c.stop_of.result c.stop_of.ensures (λ s e. c.in-Err.ensures.long s (ap Err e)) c.args.self.number
+returns-in-Err-clause-text g c = counts_stop c.args.self.prepared.now _ c.in-Err.fault c.stop_of.result c.stop_of.ensures (λ s e. c.in-Err.ensures.too_long s (ap Err e)) c.args.self.number
 
 pub returns-in-Err-clause-counts : goal.returns-in-Err-clause-counts
 returns-in-Err-clause-counts g c = catalogue_fault_counts _ c.in-Err.fault c.stop_of.result c.stop_of.ensures

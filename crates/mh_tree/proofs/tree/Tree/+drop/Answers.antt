@@ -1,5 +1,5 @@
 use Rattle.std.proofs.Common.{rules, arith}
-use Rattle.mh_tree.proofs.DroppedTrees.{most_low, popped_heights, popped_fewer, kids_lower, dropped_low, joined_lower, joined_fewer}
+use Rattle.mh_tree.proofs.DroppedTrees.{recursion_measure_bound, popped_heights, popped_fewer, kids_lower, dropped_low, joined_lower, joined_fewer}
 use Rattle.mh_tree.proofs.tree.Tree.+drop.Goals as goal
 
 pub drop-children-requires : goal.drop-children-requires
@@ -8,7 +8,7 @@ drop-children-requires t c κs =
     let e = rw c.in-Some-pop.is at c.pop.ensures.items in
     let low = kids_lower c.trees.waiting.items c.pop.new.self.items c.in-Some-into_children.children.items c.in-Some-pop.tree is.0 e is.1 in
     let left = dropped_low _ c.in-Some-into_children.children.items c.append.new.other.items c.append.ensures.other_items in
-    let most = most_low c.append.new.other.items in
+    let most = recursion_measure_bound c.append.new.other.items in
     (((omega (arith, most, left, low, c.trees.invariant, c.decreases), tt), tt), (λ a m. search rules, λ a m. search rules))
 
 pub trees-smaller-in-Some-into_children : goal.trees-smaller-in-Some-into_children

@@ -1,0 +1,83 @@
+-- Proves that in files without a fault each name has a meaning.
+use Rattle.std.proofs.Common.{◌≡◌, ℕ, ◌+◌, ◌<◌, ◌≤◌, Bool, true, false, List, [], ◌∷◌, ◌++◌, Option, Some, length, refl, sym, ap, subst, ◌∙◌, ◌⊎◌, inl, inr}
+use Rattle.std.specs.Prelude.{◌||◌, not, is_some, if◌then◌else◌}
+use Rattle.std.specs.List.{All, flat_map, enumerate_from, list_any}
+use Rattle.std.proofs.lemmas.Bool.{cases_lt, lt-ltb}
+use Rattle.std.proofs.lemmas.List.Concat.{flat_map-append}
+use Rattle.mh_grammar.proofs.Lists.{nil_parts}
+use Rattle.mh_rules.specs.declared.modules.Ref.{Ref}
+use Rattle.mh_rules.specs.declared.modules.Actual.{Actual}
+use Rattle.mh_rules.specs.declared.modules.Alternative.{Alternative}
+use Rattle.mh_rules.specs.declared.modules.Rule.{Rule}
+use Rattle.mh_rules.specs.declared.modules.Module.{Module}
+use Rattle.mh_rules.specs.declared.joined.Head.{Head}
+use Rattle.mh_rules.specs.declared.joined.Joined.{Joined}
+use Rattle.mh_rules.specs.Depth.{AreProducersShallow}
+use Rattle.mh_rules.specs.Ready.{AreModulesReady}
+use Rattle.mh_join_names.specs.declared.fault.JoinFault.{JoinFault}
+use Rattle.mh_join_names.specs.declared.fault.JoinFault.TheVariants as faults
+use Rattle.mh_join_names.specs.declared.names.SymbolTables.{SymbolTables}
+use Rattle.mh_join_names.specs.declared.outlines.Outline.{Outline}
+use Rattle.mh_join_names.specs.Prelude.{prelude_rules}
+use Rattle.mh_grammar.specs.Text.{Text}
+use Rattle.mh_join_names.specs.Names.{same, files, formal_number, start_names, definitions, definitions_in, prelude_definitions, is_elsewhere, rules, insert_all, insert_key}
+use Rattle.mh_join_names.specs.Faults.{Meanings, meant_by, refs, is_error, text_of, unless, undefined, undefined_in_actual, undefined_in_alternative, undefined_prec, undefined_in_rule, undefined_start, undefined_in_level, undefined_in_on_error, undefined_in_declarations, undefined_in_file, duplicates, has_some, error_token, errors_in_actual, errors_in_alternative, errors_in_rule, errors_in_file, unlevelled_in_file, many_tokens, other_faults, faults_by}
+use Rattle.mh_join_names.specs.Joining.{IsJoinedBy, IsJoined}
+use Rattle.mh_join_names.specs.code.SymbolTables.{meanings_in, elsewhere_in, HasMeanings}
+use Rattle.mh_join_parts.specs.code.CanJoin.{unresolved, unresolved_in_rule, unresolved_in_rules, unresolved_in_file, unresolved_on_error, CanJoin, definitions_by}
+use Rattle.mh_join.proofs.PreludeResolved.{number_known, prelude_resolved}
+use Rattle.mh_join.proofs.CanJoin.{nil_by, nil_by_two}
+
+pub numbered : {B : Type 0} (g : Module → List B) (n : ℕ) (ms : List Module) → flat_map (λ f. g f.1) (enumerate_from n ms) ≡ flat_map g ms
+numbered g n [] = refl
+numbered g n (m ∷ ms) = ap (λ k. g m ++ k) (numbered g (n + 1) ms)
+
+no_error : (b c : Bool) (e f g : JoinFault) → unless (b || c) e ≡ [] → unless (not b) f ≡ [] → unless c g ≡ []
+no_error true true e f g p q = refl
+no_error true false e f g p q = let bad : f ∷ [] ≡ [] = q in cc
+no_error false true e f g p q = refl
+no_error false false e f g p q = let bad : e ∷ [] ≡ [] = p in cc
+
+ref_stands : (meant : Ref → Option Head) (r : Ref) → undefined true meant r ≡ [] → error_token r ≡ [] → undefined false meant r ≡ []
+ref_stands meant r p q = no_error (is_error r) (is_some (meant r)) (faults.Undefined (text_of r)) faults.ErrorToken (faults.Undefined (text_of r)) p q
+
+actual_stands : (meant : Ref → Option Head) (a : Actual) → undefined_in_actual true meant a ≡ [] → errors_in_actual a ≡ [] → undefined_in_actual false meant a ≡ []
+actual_stands meant a = nil_by_two (undefined true meant) error_token (undefined false meant) (ref_stands meant) (refs a)
+
+alternative_stands : (aliased : Text → Option Text) (meant : Ref → Option Head) (a : Alternative) → undefined_in_alternative aliased meant a ≡ [] → errors_in_alternative a ≡ [] → unresolved meant a ≡ []
+alternative_stands aliased meant a p q =
+    nil_by_two (undefined_in_actual true meant) errors_in_actual (undefined_in_actual false meant) (actual_stands meant) a.producers
+    (nil_parts (flat_map (undefined_in_actual true meant) a.producers) (undefined_prec aliased a.prec) p).0 q
+
+module _ (w : Meanings) where
+  rule_stands : (k : ℕ) (r : Rule) → undefined_in_rule w k r ≡ [] → errors_in_rule r ≡ [] → unresolved_in_rule w k r ≡ []
+  rule_stands k r = nil_by_two (undefined_in_alternative w.aliased (meant_by w k (formal_number r.formals))) errors_in_alternative (unresolved (meant_by w k (formal_number r.formals))) (alternative_stands w.aliased (meant_by w k (formal_number r.formals))) r.alternatives
+
+  pub file_stands : (f : ℕ × Module) → undefined_in_file w f ≡ [] → errors_in_file f.1 ≡ [] → unresolved_in_file w f ≡ []
+  file_stands f p q =
+      nil_by_two (undefined_in_rule w f.0) errors_in_rule (unresolved_in_rule w f.0) (rule_stands f.0) f.1.rules
+      (nil_parts (undefined_in_declarations w f.0 f.1) (flat_map (undefined_in_rule w f.0) f.1.rules) p).1 q
+
+  pub on_error_stands : (f : ℕ × Module) → undefined_in_file w f ≡ [] → unresolved_on_error w f ≡ []
+  on_error_stands f p =
+      let declared = (nil_parts (undefined_in_declarations w f.0 f.1) (flat_map (undefined_in_rule w f.0) f.1.rules) p).0 in
+      (nil_parts (flat_map (undefined_in_level w) f.1.levels) (flat_map (undefined_in_on_error (meant_by w f.0 (formal_number []))) f.1.on_error)
+      (nil_parts (flat_map (undefined_start w) f.1.starts) (flat_map (undefined_in_level w) f.1.levels ++ flat_map (undefined_in_on_error (meant_by w f.0 (formal_number []))) f.1.on_error) declared).1).1
+
+  pub starts_stand : (f : ℕ × Module) → undefined_in_file w f ≡ [] → flat_map (undefined_start w) f.1.starts ≡ []
+  starts_stand f p =
+      (nil_parts (flat_map (undefined_start w) f.1.starts) (flat_map (undefined_in_level w) f.1.levels ++ flat_map (undefined_in_on_error (meant_by w f.0 (formal_number []))) f.1.on_error)
+      (nil_parts (undefined_in_declarations w f.0 f.1) (flat_map (undefined_in_rule w f.0) f.1.rules) p).0).0
+
+-- If a function gives nothing for the items of two lists, it gives nothing for their union.
+pub kept_nil : {B : Type 0} (f : Text → List B) (ks xs : List Text) → flat_map f ks ≡ [] → flat_map f xs ≡ [] → flat_map f (insert_all same ks xs) ≡ []
+kept_nil f ks [] p q = p
+kept_nil {B = B} f ks (x ∷ xs) p q = kept_nil f (insert_key same ks x) xs (go (list_any (same x) ks)) (nil_parts (f x) (flat_map f xs) q).1
+  where
+    go : (b : Bool) → flat_map f (if b then ks else ks ++ x ∷ []) ≡ []
+    go true = p
+    go false = flat_map-append f ks (x ∷ []) ∙ ap (λ k. k ++ (f x ++ [])) p ∙ ap (λ k. k ++ []) (nil_parts (f x) (flat_map f xs) q).0
+
+pub flat_starts : (f : Text → List JoinFault) (ms : List Module) → flat_map (λ (m : Module). flat_map f m.starts) ms ≡ flat_map f (flat_map (λ m. m.starts) ms)
+flat_starts f [] = refl
+flat_starts f (m ∷ ms) = ap (λ k. flat_map f m.starts ++ k) (flat_starts f ms) ∙ sym (flat_map-append f m.starts (flat_map (λ m. m.starts) ms))

@@ -1,0 +1,2 @@
+pub mod NotLacking
+pub mod DecidedSearch

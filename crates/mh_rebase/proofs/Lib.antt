@@ -1,0 +1,14 @@
+pub mod AreKeptLines
+pub mod DecidesLine
+pub mod DecidesEntries
+pub mod WritesRows
+pub mod NamesAreWords
+pub mod Pieces
+pub mod IsWritten
+pub mod StatesOfSentences
+pub mod IsReadAgain
+pub mod AllAreKept
+pub mod AreCommented
+pub mod RebasedAgain
+pub mod CompleteIsKept
+pub mod RebasedUnique

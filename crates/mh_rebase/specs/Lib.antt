@@ -1,0 +1,3 @@
+pub mod ReadAgain
+pub mod EntryTexts
+pub mod code

@@ -1,0 +1,31 @@
+-- The premises that the calls of the work share.
+use Rattle.std.specs.Prelude.{ℕ, ◌<◌, ◌≤◌, length}
+use Rattle.std.specs.List.{All}
+use Rattle.mh_grammar.specs.Costs.{HaveCosts}
+use Rattle.mh_grammar.specs.Text.{Text}
+use Rattle.mh_opts.specs.Orders.{IsWithinLimits}
+use Rattle.mh_top_plans.specs.Files.{files_of_mode}
+use Rattle.mh_top_tables.specs.MayAskForTables.{MayAskForTables}
+use Rattle.mh_top_types.specs.Shapes.{Prepared}
+use Rattle.mh_top_types.specs.code.Prepared.{IsConsistent}
+use Rattle.mh_top_types.specs.declared.front.OrderAndGrammar.{OrderAndGrammar}
+use Rattle.mh_validate_valid.specs.Valid.{AreTokenNamesDistinct}
+
+-- The order and the grammar allow the work: the grammar has a start symbol, its tokens have costs and distinct names,
+-- the job is within its limits, and the shelf may be asked for the table file and the files of the job.
+pub record AllowsWork (front : OrderAndGrammar) (MayAsk : Text → Type 0) : Type 0 where
+  pub start : 0 < length front.grammar.starts
+  pub limits : IsWithinLimits front.order.job
+  pub costs : HaveCosts front.grammar.tokens
+  pub distinct_names : AreTokenNamesDistinct front.grammar
+  pub tables : MayAskForTables front.order MayAsk
+  pub asked : All MayAsk (files_of_mode front.order)
+
+-- The mode of an order may run on what is prepared, with sets of tokens of `width` words: the parts of what is prepared
+-- agree, and the shelf, the input (`Reads`) and out (`Writes`) may be used.
+pub record MayRunMode (width : ℕ) (p : Prepared) (MayAsk : Text → Type 0) (Reads Writes : Type 0) : Type 0 where
+  pub few : width ≤ 8
+  pub consistent : IsConsistent p
+  pub asked : All MayAsk (files_of_mode p.order)
+  pub may_read : Reads
+  pub may_write : Writes

@@ -1,0 +1,2 @@
+pub mod KnownSentences
+pub mod Running

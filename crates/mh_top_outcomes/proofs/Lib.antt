@@ -1,0 +1,12 @@
+mod SomeConflicts
+mod SomeWork
+mod LeastExample
+mod SelectedNumbers
+mod SomeCatalogue
+mod SomeEntries
+mod SomeAutomatonText
+mod SomeShortest
+mod SomeRandom
+mod SomeRebased
+mod SomeAnswer
+mod SomeOutcome

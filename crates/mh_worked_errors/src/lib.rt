@@ -1,0 +1,12 @@
+//! Worked examples of the whole tool: lists of errors; and messages files, compiled, compared, updated and rebased. Each
+//! result was worked out by hand.
+#![tactic(auto)]
+
+#[cfg(test)]
+mod errors;
+#[cfg(test)]
+mod keeping;
+#[cfg(test)]
+mod messages;
+#[cfg(test)]
+mod rebasing;
