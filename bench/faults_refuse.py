@@ -100,6 +100,7 @@ def jobs():
         yield ["--update-errors", messages, file], b""
         yield ["--rebase-errors", messages, file], b""
         yield ["--echo-errors", messages, file], b""
+        yield ["--check-errors", messages, file], b""
         yield ["--session", file], SESSION % token
         yield ["--show-automaton", file], b""
         yield ["--canonical", "--show-automaton", file], b""
@@ -111,6 +112,8 @@ def jobs():
         yield ["--tables", table, "--interpret", file], lines
         yield ["--tables", table, "--list-errors", file], b""
         yield ["--shortest-sentences", file], b""
+        yield ["--explain", file], b""
+        yield ["--list-errors", "--comment-expected", file], b""
         yield ["--random-sentence", "7", "--length", "50", file], b""
     yield ["--sample", "0"], b""
 

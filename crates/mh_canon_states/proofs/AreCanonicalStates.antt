@@ -15,7 +15,7 @@ use Rattle.mh_grammar.proofs.NumberingInvariant.{AllPlaced-push, AllPlaced-each,
 use Rattle.mh_items_kernels.specs.KernelTypes.{Items, Kernel}
 use Rattle.mh_items_kernels.specs.Kernels.{Holds, IsItemList}
 use Rattle.mh_items_kernels.specs.Collection.{targets_of}
-use Rattle.mh_canon_states.specs.Canonical.{Walk, items_of_walk, IsWalkOf, CanonicalExceeds}
+use Rattle.mh_canon_states.specs.Canonical.{StartPath, items_of_path, ReachesItems, CanonicalExceeds}
 use Rattle.mh_canon_states.specs.code.FoundStates.{IsCanonicalState, AreCanonicalStates, IsStateClosure, AreStateEdges}
 use Rattle.mh_items_kernels.specs.code.KernelMoves.{IsAfterDot, IsMove}
 use Rattle.mh_items_kernels.proofs.UniqueItemList.{kernel_same}
@@ -29,14 +29,14 @@ IsStateClosure-close g k closed s of_closed same = record {
   start = s.reach.start;
   path = s.reach.path;
   known = s.reach.known;
-  kernel = of_closed;
+  is_list = of_closed;
   same = AreSameItems-trans (Holds closed) (Close g (Holds k)) (Close g (PathItems g s.reach.start s.reach.path)) same (Close-same g (Holds k) (PathItems g s.reach.start s.reach.path) s.reach.same);
 }
 
 -- A move of a state's closure leads to a state.
 pub IsCanonicalState-move : (g : PlainGrammar) (closed : Items) (k : Kernel) (X : Symbol) → IsStateClosure g closed → IsAfterDot g closed X → IsMove g closed X k → IsCanonicalState g k
 IsCanonicalState-move g closed k X source behind move =
-    let look = Holds-core_item g closed source.kernel behind.production behind.dot behind.place in
+    let look = Holds-core_item g closed source.is_list behind.production behind.dot behind.place in
     let next : Moved g (Holds closed) X behind.production (suc behind.dot) look.0 = items.Moved.moved look.1 (drop_from-slice_get (rhs_of g behind.production) behind.dot X behind.at_dot) in
     record {
       kernel = move.kernel;
@@ -73,40 +73,40 @@ AreStateEdges-push g closed symbols old mid new row X k n e m p = record {
   placed = rw (map-append (λ (f : Edge). f.target) row (record { symbol = X; target = n } ∷ [])) (AllPlaced-push old mid new e.moves (targets_of row) k n e.placed p);
 }
 
--- The list of walks that lead to the states.
-walks : (g : PlainGrammar) (kernels : List Kernel) → AllByRecursion (IsCanonicalState g) kernels → List Walk
-walks g [] s = []
-walks g (k ∷ kernels) s = record { start = s.0.reach.start; path = s.0.reach.path } ∷ walks g kernels s.1
+-- For each state, a path that leads to it.
+paths_to : (g : PlainGrammar) (kernels : List Kernel) → AllByRecursion (IsCanonicalState g) kernels → List StartPath
+paths_to g [] s = []
+paths_to g (k ∷ kernels) s = record { start = s.0.reach.start; path = s.0.reach.path } ∷ paths_to g kernels s.1
 
-walks_len : (g : PlainGrammar) (kernels : List Kernel) (s : AllByRecursion (IsCanonicalState g) kernels) → length (walks g kernels s) ≡ length kernels
-unfolding walks
-walks_len g [] s = refl
-walks_len g (k ∷ kernels) s = ap suc (walks_len g kernels s.1)
+paths_to-length : (g : PlainGrammar) (kernels : List Kernel) (s : AllByRecursion (IsCanonicalState g) kernels) → length (paths_to g kernels s) ≡ length kernels
+unfolding paths_to
+paths_to-length g [] s = refl
+paths_to-length g (k ∷ kernels) s = ap suc (paths_to-length g kernels s.1)
 
-record Leads (g : PlainGrammar) (k : Kernel) (w : Walk) : Type 0 where
+record Leads (g : PlainGrammar) (k : Kernel) (w : StartPath) : Type 0 where
   state : IsCanonicalState g k
   known : w.start < length g.starts
-  same : AreSameItems (Holds k) (items_of_walk g w)
+  same : AreSameItems (Holds k) (items_of_path g w)
 
-walks_lead : (g : PlainGrammar) (kernels : List Kernel) (s : AllByRecursion (IsCanonicalState g) kernels) (i : ℕ) (w : Walk) → slice_get (walks g kernels s) i ≡ Some w → (k : Kernel) × (slice_get kernels i ≡ Some k) × Leads g k w
-unfolding walks
-walks_lead g [] s i w e = cc
-walks_lead g (k ∷ kernels) s zero w e =
-    let first : Walk = record { start = s.0.reach.start; path = s.0.reach.path } in
+paths_to-leads : (g : PlainGrammar) (kernels : List Kernel) (s : AllByRecursion (IsCanonicalState g) kernels) (i : ℕ) (w : StartPath) → slice_get (paths_to g kernels s) i ≡ Some w → (k : Kernel) × (slice_get kernels i ≡ Some k) × Leads g k w
+unfolding paths_to
+paths_to-leads g [] s i w e = cc
+paths_to-leads g (k ∷ kernels) s zero w e =
+    let first : StartPath = record { start = s.0.reach.start; path = s.0.reach.path } in
     let here : Leads g k first = record { state = s.0; known = s.0.reach.known; same = s.0.reach.same } in
     let one : first ≡ w = cc in
     (k, refl, rw one at here)
-walks_lead g (k ∷ kernels) s (suc i) w e = walks_lead g kernels s.1 i w e
+paths_to-leads g (k ∷ kernels) s (suc i) w e = paths_to-leads g kernels s.1 i w e
 
-walks_each : (g : PlainGrammar) (kernels : List Kernel) (s : AllByRecursion (IsCanonicalState g) kernels) → AllByRecursion (IsWalkOf g) (walks g kernels s)
-unfolding walks
-walks_each g [] s = tt
-walks_each g (k ∷ kernels) s = (
+paths_to-reaches : (g : PlainGrammar) (kernels : List Kernel) (s : AllByRecursion (IsCanonicalState g) kernels) → AllByRecursion (ReachesItems g) (paths_to g kernels s)
+unfolding paths_to
+paths_to-reaches g [] s = tt
+paths_to-reaches g (k ∷ kernels) s = (
   record {
     known = s.0.reach.known;
     has_item = record { production = s.0.has_item.production; dot = s.0.has_item.dot; look = s.0.has_item.look; holds = (s.0.reach.same s.0.has_item.production s.0.has_item.dot s.0.has_item.look).0 s.0.has_item.holds };
   },
-  walks_each g kernels s.1,
+  paths_to-reaches g kernels s.1,
 )
 
 -- More states than the limit are more item sets than the limit.
@@ -114,15 +114,15 @@ pub CanonicalExceeds-states : (g : PlainGrammar) (kernels : List Kernel) (limit 
 CanonicalExceeds-states g kernels limit s o =
     let all = recursion_from_All (IsCanonicalState g) kernels s.each in
     record {
-      walks = walks g kernels all;
-      each = All-from_recursion (IsWalkOf g) (walks g kernels all) (walks_each g kernels all);
+      paths = paths_to g kernels all;
+      each = All-from_recursion (ReachesItems g) (paths_to g kernels all) (paths_to-reaches g kernels all);
       distinct = λ i j v w e f same.
-          let a = walks_lead g kernels all i v e in
-          let b = walks_lead g kernels all j w f in
-          let sets : AreSameItems (Holds a.0) (Holds b.0) = AreSameItems-trans (Holds a.0) (items_of_walk g v) (Holds b.0) a.2.same (AreSameItems-trans (items_of_walk g v) (items_of_walk g w) (Holds b.0) same (AreSameItems-sym (Holds b.0) (items_of_walk g w) b.2.same)) in
+          let a = paths_to-leads g kernels all i v e in
+          let b = paths_to-leads g kernels all j w f in
+          let sets : AreSameItems (Holds a.0) (Holds b.0) = AreSameItems-trans (Holds a.0) (items_of_path g v) (Holds b.0) a.2.same (AreSameItems-trans (items_of_path g v) (items_of_path g w) (Holds b.0) same (AreSameItems-sym (Holds b.0) (items_of_path g w) b.2.same)) in
           let one : b.0 ≡ a.0 = sym (kernel_same g a.0 b.0 a.2.state.kernel b.2.state.kernel sets) in
           s.distinct.same i j a.0 a.1 (b.1 ∙ ap Some one);
-      exceeds = omega (arith, walks_len g kernels all);
+      exceeds = omega (arith, paths_to-length g kernels all);
     }
 
 -- If a kernel is placed at or after the limit, more item sets are reached than the limit.

@@ -1,5 +1,5 @@
--- Proves that a canonical automaton has the properties that every layer needs, and that no more item sets are reached
--- than it has states.
+-- Proves that a canonical automaton has the properties that all stages need of an automaton, and that no more item sets
+-- are reached than it has states.
 use Rattle.std.proofs.Common.{◌≡◌, ℕ, ◌<◌, ◌≤◌, List, [], ◌∷◌, length, refl, arith, inl, inr}
 use Rattle.std.specs.List.{AllByRecursion, AllZip, Contains}
 use Rattle.std.proofs.lemmas.Bool.{cases_lt}
@@ -18,7 +18,7 @@ use Rattle.mh_items_kernels.specs.KernelTypes.{Automaton}
 use Rattle.mh_items_kernels.specs.Kernels.{Holds}
 use Rattle.mh_items_kernels.specs.Automaton.{kernel_at, kernel_of, start_kernel, IsAutomaton}
 use Rattle.mh_canon_states.specs.Limits.{max_states}
-use Rattle.mh_canon_states.specs.Canonical.{IsCanonical, Walk, items_of_walk, IsWalkOf, CanonicalExceeds}
+use Rattle.mh_canon_states.specs.Canonical.{IsCanonical, StartPath, items_of_path, ReachesItems, CanonicalExceeds}
 use Rattle.mh_canon_states.proofs.PartialCollection.{IsItemList-start}
 use Rattle.mh_canon_states.proofs.CollectionIsCanonical.{slice_get-kernel_at, items_within}
 use Rattle.mh_items_kernels.proofs.UniqueItemList.{kernel_same}
@@ -84,29 +84,29 @@ module _ (g : PlainGrammar) (a : Automaton) (h : IsCanonical g a) where
     );
   }
 
-  -- The walk leads to the items of the kernel.
-  abbrev IsLed : Walk → Kernel → Type 0
-  IsLed w k = Contains a.kernels k × AreSameItems (Holds k) (items_of_walk g w)
+  -- The path leads to the items of the kernel, which is a state.
+  abbrev IsLed : StartPath → Kernel → Type 0
+  IsLed w k = Contains a.kernels k × AreSameItems (Holds k) (items_of_path g w)
 
-  -- A list of the states that the walks lead to.
-  led : (walks : List Walk) → AllByRecursion (IsWalkOf g) walks → (ks : List Kernel) × AllZip IsLed walks ks
+  -- The states that the paths lead to.
+  led : (paths : List StartPath) → AllByRecursion (ReachesItems g) paths → (ks : List Kernel) × AllZip IsLed paths ks
   led [] w = ([], tt)
-  led (v ∷ walks) w =
+  led (v ∷ paths) w =
       let s = h.complete v.start v.path w.0.known w.0.has_item in
-      let rest = led walks w.1 in
+      let rest = led paths w.1 in
       (kernel_at a s.0 ∷ rest.0, ((contains_at a.kernels s.0 (kernel_at a s.0) (slice_get-kernel_at a s.0 s.1), s.2), rest.1))
 
   -- No more item sets are reached than the canonical automaton has states.
   pub canonical_within_limit : (limit : ℕ) → length a.kernels ≤ limit → CanonicalExceeds g limit → ⊥
   canonical_within_limit limit few o =
-      let r = led o.walks (recursion_from_All (IsWalkOf g) o.walks o.each) in
+      let r = led o.paths (recursion_from_All (ReachesItems g) o.paths o.each) in
       let apart : AreDistinct r.0 = record {
         same = λ i j k e f.
-            let v = zip_right IsLed o.walks r.0 r.1 i k e in
-            let w = zip_right IsLed o.walks r.0 r.1 j k f in
+            let v = zip_right IsLed o.paths r.0 r.1 i k e in
+            let w = zip_right IsLed o.paths r.0 r.1 j k f in
             let one : IsLed v.0 k = v.2 in
             let two : IsLed w.0 k = w.2 in
-            o.distinct i j v.0 w.0 v.1 w.1 (AreSameItems-trans (items_of_walk g v.0) (Holds k) (items_of_walk g w.0) (AreSameItems-sym (Holds k) (items_of_walk g v.0) one.1) two.1);
+            o.distinct i j v.0 w.0 v.1 w.1 (AreSameItems-trans (items_of_path g v.0) (Holds k) (items_of_path g w.0) (AreSameItems-sym (Holds k) (items_of_path g v.0) one.1) two.1);
       } in
-      let le = length-distinct_in a.kernels r.0 apart (λ k c. let i = at_contains r.0 k c in let v = zip_right IsLed o.walks r.0 r.1 i.0 k i.1 in let one : IsLed v.0 k = v.2 in one.0) in
-      omega (arith, o.exceeds, zip_length IsLed o.walks r.0 r.1)
+      let le = length-distinct_in a.kernels r.0 apart (λ k c. let i = at_contains r.0 k c in let v = zip_right IsLed o.paths r.0 r.1 i.0 k i.1 in let one : IsLed v.0 k = v.2 in one.0) in
+      omega (arith, o.exceeds, zip_length IsLed o.paths r.0 r.1)

@@ -43,22 +43,22 @@ pub record IsCanonical (g : PlainGrammar) (a : Automaton) : Type 0 where
   pub breadth_first : InFirstSightOrder (length g.starts) (all_targets a) (length a.kernels)
 
 -- A start and a path of symbols, the newest symbol first.
-pub record Walk : Type 0 where
+pub record StartPath : Type 0 where
   pub start : ℕ
   pub path : List Symbol
 
--- The item set that a walk leads to.
-abbrev pub items_of_walk : PlainGrammar → Walk → ItemSet
-items_of_walk g w = PathItems g w.start w.path
+-- The item set that a path from a start leads to.
+abbrev pub items_of_path : PlainGrammar → StartPath → ItemSet
+items_of_path g w = PathItems g w.start w.path
 
--- The walk begins at a start of the grammar and leads to a nonempty item set.
-pub record IsWalkOf (g : PlainGrammar) (w : Walk) : Type 0 where
+-- The path begins at a start of the grammar and leads to a nonempty item set.
+pub record ReachesItems (g : PlainGrammar) (w : StartPath) : Type 0 where
   pub known : w.start < length g.starts
-  pub has_item : HasItem (items_of_walk g w)
+  pub has_item : HasItem (items_of_path g w)
 
 -- More different nonempty item sets are reached than the limit admits (Knuth 1965; the limit is this project's own).
 pub record CanonicalExceeds (g : PlainGrammar) (limit : ℕ) : Type 0 where
-  pub walks : List Walk
-  pub each : All (IsWalkOf g) walks
-  pub distinct : (i j : ℕ) (v w : Walk) → slice_get walks i ≡ Some v → slice_get walks j ≡ Some w → AreSameItems (items_of_walk g v) (items_of_walk g w) → i ≡ j
-  pub exceeds : limit < length walks
+  pub paths : List StartPath
+  pub each : All (ReachesItems g) paths
+  pub distinct : (i j : ℕ) (v w : StartPath) → slice_get paths i ≡ Some v → slice_get paths j ≡ Some w → AreSameItems (items_of_path g v) (items_of_path g w) → i ≡ j
+  pub exceeds : limit < length paths

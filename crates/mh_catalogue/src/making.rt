@@ -11,8 +11,8 @@ use mh_tables_core::Halting;
 use std::alloc::Global;
 
 /// Makes the catalogue of a table: a row for each state in which a sentence fails, in rising order, with the first
-/// sentence that fails there. Returns `TooLong` only if in some state each failing sentence costs more than 1,000,000,
-/// with the lowest such state; then there is no catalogue. Fails with `Memory` for want of memory alone.
+/// sentence that fails there. If sentences fail in some state, but each of them costs more than 1,000,000, returns no
+/// rows, but `TooLong` with the lowest such state. Fails with `Memory` only if memory runs out.
 pub fn catalogue(alloc: Global, table: &Halting) -> Result<Vec<Row>, CatalogueFault>
     ensures ok { IfOk result (λ rows. Catalogue table.now (rows_of rows.items)) }
     ensures short { IfOk result (λ rows. AreShort (rows_of rows.items)) }

@@ -85,8 +85,8 @@ module _ (t : TableData) where
         by (Before m is) = absurd (never_sound p.before m p.sentence f (subst (Sound t) is q.sound) p.breaks)
         by (Behind m is) = absurd (never_sound q.before m q.sentence g (subst (Sound t) is p.sound) q.breaks)
 
-    pub sound_right : (f : SoundnessFault) → Sound t xs → FirstFault t xs f → ⊥
-    sound_right f sound p = never_sound p.before p.later p.sentence f (subst (Sound t) p.order sound) p.breaks
+    pub sound_has_no_fault : (f : SoundnessFault) → Sound t xs → FirstFault t xs f → ⊥
+    sound_has_no_fault f sound p = never_sound p.before p.later p.sentence f (subst (Sound t) p.order sound) p.breaks
 
   -- ---- The list of messages is unique.
 

@@ -23,17 +23,20 @@ ending_text (Accepted read) = codes "not refused: ACCEPT\n"
 ending_text (Overshot state) = codes "not refused: OVERSHOOT\n"
 ending_text (Rejected at state) = []
 
+-- The end of the line for a sentence that is refused before its last token.
 unfoldable pub early_text : ℕ → Text
 early_text at = codes "refused early at index " ++ decimal at ++ codes "\n"
 
-unfoldable pub shared_text : ℕ → ℕ → Text
-shared_text state line = codes "state " ++ decimal state ++ codes " is shared with line " ++ decimal line ++ codes "\n"
+-- The end of the line for a sentence that fails in a state in which the sentence of an earlier line fails: the state
+-- and the earlier line.
+unfoldable pub shared_state_text : ℕ → ℕ → Text
+shared_state_text state line = codes "state " ++ decimal state ++ codes " is shared with line " ++ decimal line ++ codes "\n"
 
 -- The line that reports why the sentences of a file are not sound.
 abbrev pub check_line : Text → SoundnessFault → Text
 check_line name (NotRefusedAt line how) = place_text name line ++ ending_text how
 check_line name (RefusedEarlyAt line at) = place_text name line ++ early_text at
-check_line name (SharedBy first second state) = place_text name second ++ shared_text state first
+check_line name (SharedBy first second state) = place_text name second ++ shared_state_text state first
 
 unfoldable pub state_text : ℕ → ℕ → Text
 state_text state size = codes "state " ++ decimal state ++ codes " " ++ decimal size ++ codes "\n"

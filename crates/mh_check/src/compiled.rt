@@ -9,7 +9,7 @@ use std::alloc::Global;
 use std::marker::Model;
 
 /// A compiled messages file: for each state the message of the sentence that fails there, if there is one. All states
-/// of one entry share its message.
+/// of one entry share its message. A table has at most 2^32 states.
 #[derive(Drop)]
 pub struct Compiled {
     places: Vec<Option<SentencePlace>>,
@@ -17,12 +17,14 @@ pub struct Compiled {
 }
 
 impl Model for Compiled {
-    ghost use Rattle.std.specs.Prelude.{List, ℕ, Option, map};
+    ghost use Rattle.std.specs.Prelude.{◌≤◌, ◌^◌, List, ℕ, Option, length, map};
     ghost use Rattle.mh_check.specs.code.Places.{message_of_place};
 
     ghost Value = { List (Option (List ℕ)) };
 
     ghost view = { λ c. map (message_of_place c.messages.items) c.places.items };
+
+    ghost invariant = { λ c. length (map (message_of_place c.messages.items) c.places.items) ≤ 2 ^ 32 };
 }
 
 /// Combines the places of the states with the messages of the entries.
@@ -30,6 +32,7 @@ pub(crate) fn compiled_of(
     places: Vec<Option<SentencePlace>>,
     messages: Vec<Sequence<u8>>,
 ) -> Compiled
+    requires { length places.items ≤ 2 ^ 32 }
     ensures { result ≡ map (message_of_place messages.items) places.items }
 {
     Compiled { places, messages }
@@ -74,9 +77,10 @@ impl Compiled {
         self.message(state).is_some()
     }
 
-    /// The number of states of the table, also those without a message.
+    /// The number of states of the table, also those without a message: at most 2^32.
     pub fn states(&self) -> usize
-        ensures { result ≡ length self.now }
+        ensures count { result ≡ length self.now }
+        ensures few { result ≤ 2 ^ 32 }
     {
         self.places.len()
     }
@@ -100,7 +104,6 @@ fn put_missing(
 /// Returns the states for which the first file has a message and the second has none, in ascending order. Fails only if
 /// memory runs out.
 pub fn compare(alloc: Global, left: &Compiled, right: &Compiled) -> Result<Vec<u32>, Memory>
-    requires { length left.now ≤ 2 ^ 32 }
     ensures { IfOk result (λ states. states.items ≡ missing left.now right.now) }
 {
     let mut states = Vec::new(alloc);

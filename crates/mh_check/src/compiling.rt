@@ -44,6 +44,8 @@ pub fn compile(alloc: Global, table: &Halting, file: &MsgFile) -> Result<Compile
     requires known { AreSentencesOf (length table.now.grammar.starts) table.now.grammar.tokens file.now }
     ensures { Compiles table.now file.now result }
 {
+    // The table has at most 2^32 states.
+    let _facts = table.table();
     let places = match place_file(alloc, table, file.entries.as_slice()) {
         Ok(places) => places,
         Err(fault) => return Err(fault),

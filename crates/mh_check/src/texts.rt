@@ -3,7 +3,7 @@ ghost use Rattle.std.specs.Prelude.{◌≡◌, ◌≤◌, ◌^◌, ◌++◌, len
 ghost use Rattle.mh_run.specs.Verdicts.{ending_for};
 ghost use Rattle.mh_msgfile.specs.Messages.{ReportsFault as ReportsFileFault};
 ghost use Rattle.mh_check.specs.Compiling.{ReportsCheckFault, message_at};
-ghost use Rattle.mh_check.specs.Texts.{place_text, file_line, ending_text as ending_line, early_text, shared_text, check_line, state_text, message_text, compiled_text as compiled_lines};
+ghost use Rattle.mh_check.specs.Texts.{place_text, file_line, ending_text as ending_line, early_text, shared_state_text, check_line, state_text, message_text, compiled_text as compiled_lines};
 
 use crate::compiled::Compiled;
 use crate::compiling::CheckFault;
@@ -106,9 +106,9 @@ pub fn write_early(alloc: Global, text: &mut Vec<u8>, at: u32) -> Result<(), Mem
 
 /// Appends the text that a sentence fails in the state in which the sentence of an earlier line fails. Fails only if
 /// memory runs out.
-#[tactic(auto, unfolding(crate::specs::Texts::shared_text))]
+#[tactic(auto, unfolding(crate::specs::Texts::shared_state_text))]
 pub fn write_shared(alloc: Global, text: &mut Vec<u8>, state: u32, line: u32) -> Result<(), Memory>
-    ensures { OnOk result (text.new.items ≡ text.old.items ++ shared_text state line) }
+    ensures { OnOk result (text.new.items ≡ text.old.items ++ shared_state_text state line) }
 {
     text.extend_from_slice(b"state ")?;
     write_number(alloc, text, state as usize)?;

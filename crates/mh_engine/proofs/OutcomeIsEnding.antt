@@ -17,7 +17,7 @@ use Rattle.mh_engine.specs.code.Settling.{StepsLeadTo, SettlesTooDeep}
 use Rattle.mh_engine.specs.Outcomes.{tree_ending_for}
 use Rattle.mh_engine.specs.code.SentenceOutcomes.{ReachesPhase, AcceptsWithTree, IsReachedOutcome}
 use Rattle.mh_tables_core.specs.TreeRuns.{IsTreeOfRead, IsTooDeep, IsTreeEnding}
-use Rattle.mh_tables_core.proofs.IsTreeOfRead.{accepted_from}
+use Rattle.mh_tables_core.proofs.IsTreeOfRead.{accepted_derives}
 use Rattle.mh_engine.specs.declared.phase.Phase.{Phase}
 use Rattle.mh_engine.specs.declared.phase.Phase.TheVariants as phases
 use Rattle.mh_engine.specs.declared.sentence.TreeOutcome.{TreeOutcome}
@@ -136,7 +136,7 @@ run_ending t f start w lt (outcomes.Accept read tree) a =
     let m = accepted_moves r.position r.phase_is in
     let end = ends t f start w lt phases.Accepted read r Accepting m accepts ∙ ap (λ (n : ℕ). Ends (Accepted n)) (read_is t f start w lt phases.Accepted read r Accepting m accepts) in
     let one : trees_after t r.steps (initial start w) [] ≡ tree ∷ [] = sym (trees_are t f start w lt phases.Accepted read r Accepting m accepts) ∙ a.one_tree in (
-      subst (IsTreeOfRead t start w read) (ap (λ (ts : List SyntaxTree). get_or ts 0 (Leaf 0)) one) (accepted_from t f start w read r.steps lt end),
+      subst (IsTreeOfRead t start w read) (ap (λ (ts : List SyntaxTree). get_or ts 0 (Leaf 0)) one) (accepted_derives t f start w read r.steps lt end),
       fits t f start w lt phases.Accepted read r Accepting m accepts,
     )
 run_ending t f start w lt (outcomes.Overshoot state) r =

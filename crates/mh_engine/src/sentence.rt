@@ -1,6 +1,7 @@
 //! Runs of whole sentences that give trees.
-ghost use Rattle.std.specs.Prelude.{◌≡◌, ◌<◌, ◌^◌, ℕ, List, [], length, true, false, IfOk, IfErr, OnOk, All};
+ghost use Rattle.std.specs.Prelude.{◌≡◌, ◌<◌, ℕ, List, [], true, false, IfOk, IfErr, OnOk};
 ghost use Rattle.mh_tables_core.specs.TooDeep.{too_deep};
+ghost use Rattle.mh_tables_core.specs.Sentences.{FitsTable};
 ghost use Rattle.mh_tables_core.specs.Table.{TableData};
 ghost use Rattle.mh_tables_core.specs.TreeRuns.{IsTreeEnding};
 ghost use Rattle.mh_engine.specs.Outcomes.{tree_ending_for};
@@ -42,9 +43,7 @@ pub fn run_with_trees(
     start: u16,
     sentence: &[Token],
 ) -> Result<TreeOutcome, Memory>
-    requires start { start < length table.now.grammar.starts }
-    requires tokens { All (λ z. z < table.now.grammar.tokens) sentence.now }
-    requires few { length sentence.now < 2 ^ 32 }
+    requires { FitsTable table.now start sentence.now }
     ensures { IfOk result (λ outcome. IsTreeEnding table.now start sentence.now (tree_ending_for outcome)) }
 {
     let _rows = table.table();
@@ -62,9 +61,7 @@ fn run(
     start: u16,
     sentence: &[Token],
 ) -> Result<TreeOutcome, ResumeFault>
-    requires start { start < length table.now.grammar.starts }
-    requires tokens { All (λ z. z < table.now.grammar.tokens) sentence.now }
-    requires few { length sentence.now < 2 ^ 32 }
+    requires { FitsTable table.now start sentence.now }
     ensures reached { IfOk result (λ outcome. IsReachedOutcome table.now start sentence.now outcome) }
     ensures deep { IfErr result (λ fault. fault ≡ faults.TooDeep → IsReachedOutcome table.now start sentence.now outcomes.TooDeep) }
 {

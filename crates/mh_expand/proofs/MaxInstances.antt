@@ -22,8 +22,8 @@ HasNoFault-prefix : (j : Joined) (xs ys zs : List Term) → zs ≡ xs ++ ys → 
 HasNoFault-prefix j xs ys zs e c before after t fault split f = c before (after ++ ys) t fault (e ∙ ap (λ v. v ++ ys) split ∙ append_assoc before (t ∷ after) ys) f
 
 module _ (j : Joined) (us : List Term) (t : Term) (before after : List Term) (split : found_terms j us ≡ before ++ t ∷ after) (instance : IsInstance t) (new : Contains us t → ⊥) where
-  -- If the search finds t as a new instance after these terms, all instances that were found earlier are among the
-  -- terms before t.
+  -- If t is the next new instance after the terms `before`, then each instance that was found earlier occurs in
+  -- `before`.
   earlier_instances_before : (vs : List Term) → IsFindingOrder j vs → (more : List Term) → us ≡ vs ++ more → (u : Term) → Contains vs u → Contains before u
   earlier_instances_before [] expansion.IsFindingOrder.none more e u c = absurd (contains_none u c)
   earlier_instances_before vs (expansion.IsFindingOrder.more {ts = ws} {t = x} front behind a here i fresh others) more e u c =
@@ -44,7 +44,7 @@ module _ (j : Joined) (us : List Term) (t : Term) (before after : List Term) (sp
             )
       ]
 
--- If the terms found, in their order, have no fault up to some term, these terms are at most 20,000.
+-- If the instances in the order of finding lead to terms without a fault, they are at most 20,000.
 few_in_finding_order : (j : Joined) (ts : List Term) → IsFindingOrder j ts → HasNoFault j (found_terms j ts) → length ts ≤ 20000
 few_in_finding_order j [] expansion.IsFindingOrder.none clear = omega arith
 few_in_finding_order j ts (expansion.IsFindingOrder.more {ts = us} {t} before after a split i new others) clear =

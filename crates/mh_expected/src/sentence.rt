@@ -1,6 +1,7 @@
 //! The expected tokens after a sentence.
-ghost use Rattle.std.specs.Prelude.{◌≡◌, ◌<◌, ◌^◌, length, IfOk, All};
+ghost use Rattle.std.specs.Prelude.{◌<◌, length, IfOk, All};
 ghost use Rattle.mh_tables_core.specs.Run.{IsRunStack};
+ghost use Rattle.mh_tables_core.specs.Sentences.{FitsTable};
 ghost use Rattle.mh_expected.specs.Expected.{ExpectedTokens, Overshoots};
 ghost use Rattle.mh_expected.specs.code.Trials.{AsksOn};
 
@@ -20,9 +21,7 @@ pub fn expected(
     start: u16,
     sentence: &[Token],
 ) -> Result<TokenList, Memory>
-    requires start { start < length table.now.grammar.starts }
-    requires tokens { All (λ z. z < table.now.grammar.tokens) sentence.now }
-    requires few { length sentence.now < 2 ^ 32 }
+    requires fits { FitsTable table.now start sentence.now }
     requires overshoots { Overshoots table.now start sentence.now }
     ensures { IfOk result (λ list. ExpectedTokens table.now start sentence.now list) }
 {

@@ -55,8 +55,8 @@ fn reduce_all(
     ensures settled { IfOk result (λ choice. Settles table.now look stack.old.stack stack.new.stack (move_for choice)) }
 {
     let _rows = table.table();
-    // The loop ends: each reduction either leaves the state at index `floor` on the stack, which at most
-    // `MAX_REDUCTIONS` reductions in a row do, or lowers `floor`. `count` serves this proof alone.
+    // The loop ends: a reduction that removes the state at index `floor` lowers `floor`, and at most `MAX_REDUCTIONS`
+    // reductions in a row keep this state. `count` serves this proof alone.
     let mut floor = stack.len().saturating_sub(2);
     let mut count: u32 = 0;
     'reductions: loop {

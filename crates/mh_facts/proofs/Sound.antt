@@ -149,10 +149,10 @@ pub record RunsToState (t : TableData) (i s z : ℕ) (v rest : List ℕ) : Type 
   pub stack : List ℕ
   pub reaches : after t steps (at (i ∷ []) 0 (v ++ z ∷ rest)) ≡ at stack (length v) (z ∷ rest)
   pub top : top_of stack ≡ s
-  pub begun : 0 < length stack
+  pub not_empty : 0 < length stack
 
 pub RunsToState-reaches : (t : TableData) (f : Facts t) (i s z : ℕ) (v : List ℕ) → ReachesState t i s z v → (rest : List ℕ) → RunsToState t i s z v rest
-RunsToState-reaches t f i s z v rules.ReachesState.Begins rest = record { steps = 0; stack = i ∷ []; reaches = refl; top = refl; begun = omega arith }
+RunsToState-reaches t f i s z v rules.ReachesState.Begins rest = record { steps = 0; stack = i ∷ []; reaches = refl; top = refl; not_empty = omega arith }
 RunsToState-reaches t f i j z w (rules.ReachesState.Steps {s = s} {y = y} {v = v} h move word) rest =
     let one = RunsToState-reaches t f i s y v h (z ∷ rest) in
     let left : w ++ z ∷ rest ≡ v ++ y ∷ (z ∷ rest) = rw word (append_assoc v (y ∷ []) (z ∷ rest)) in
@@ -162,12 +162,12 @@ RunsToState-reaches t f i j z w (rules.ReachesState.Steps {s = s} {y = y} {v = v
       stack = one.stack ++ j ∷ [];
       reaches = rw (left, ← count) (shift_on t one.steps _ one.stack (length v) y j (z ∷ rest) one.reaches (rw one.top move));
       top = push_top one.stack j;
-      begun = let l = length-append one.stack (j ∷ []) in omega arith;
+      not_empty = let l = length-append one.stack (j ∷ []) in omega arith;
     }
 RunsToState-reaches t f i g z w (rules.ReachesState.Goes {s = s} {y = y} {e = e} {u = u} {v = v} q h inner move edge word) rest =
     let front : v ++ z ∷ rest ≡ y ∷ rest_after_first v z rest = leading_token_split v z rest ∙ ap (λ (k : ℕ). k ∷ rest_after_first v z rest) (leading_token-derives t s q (length (rhs_of t.grammar q)) y z v e inner) in
     let one = RunsToState-reaches t f i s y u h (rest_after_first v z rest) in
-    let two = derives_ran t f s q (length (rhs_of t.grammar q)) y z v e inner one.stack (length u) rest one.begun one.top in
+    let two = derives_ran t f s q (length (rhs_of t.grammar q)) y z v e inner one.stack (length u) rest one.not_empty one.top in
     let left : w ++ z ∷ rest ≡ u ++ (v ++ z ∷ rest) = rw word (append_assoc u v (z ∷ rest)) in
     let first : after t one.steps (at (i ∷ []) 0 (u ++ (v ++ z ∷ rest))) ≡ at one.stack (length u) (v ++ z ∷ rest) = rw front one.reaches in
     let both : after t (one.steps + two.steps) (at (i ∷ []) 0 (u ++ (v ++ z ∷ rest))) ≡ at (one.stack ++ two.above) (length u + length v) (z ∷ rest) =
@@ -176,9 +176,9 @@ RunsToState-reaches t f i g z w (rules.ReachesState.Goes {s = s} {y = y} {e = e}
     record {
       steps = one.steps + two.steps + 1;
       stack = one.stack ++ g ∷ [];
-      reaches = rw (left, ← count) (reduce_on t (one.steps + two.steps) _ one.stack two.above (length u + length v) z q e g rest both two.top move one.begun two.height (rw one.top edge));
+      reaches = rw (left, ← count) (reduce_on t (one.steps + two.steps) _ one.stack two.above (length u + length v) z q e g rest both two.top move one.not_empty two.height (rw one.top edge));
       top = push_top one.stack g;
-      begun = let l = length-append one.stack (g ∷ []) in omega arith;
+      not_empty = let l = length-append one.stack (g ∷ []) in omega arith;
     }
 
 -- Only tokens of the table are shifted.

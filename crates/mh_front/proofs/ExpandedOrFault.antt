@@ -27,7 +27,7 @@ use Rattle.mh_expand.proofs.IsExpanding.{right_arity_or_not, IsExpandable-found,
 use Rattle.mh_expand.proofs.FindsTerms.{rule_exists}
 use Rattle.mh_grammar_decided.proofs.DecidedSearch.{Decided, First, first}
 use Rattle.mh_front.proofs.DecidedTerms.{contains_or, split_in}
-use Rattle.mh_front.proofs.ExpansionSearch.{Stands, ends}
+use Rattle.mh_front.proofs.ExpansionSearch.{SearchState, ends}
 
 atom_of : (t : Term) (h : Head) → head_of t ≡ h → length (arguments t) ≡ 0 → t ≡ Atom h
 atom_of (Atom g) h e none = ap Atom e
@@ -53,32 +53,32 @@ module _ (t : Term) (ds : List (List Applied)) where
     | inr none ↦ (None, λ k d e c. none k (slice_get_within ds k d e) (d, e, c))
   ]
 
-module _ (j : Joined) (gone : List Term) (s : Stands j gone (found_terms j gone) []) where
-  fits : (x : Term) → Contains (found_terms j gone) x → HasRightArity j x
+module _ (j : Joined) (terms : List Term) (s : SearchState j terms (found_terms j terms) []) where
+  fits : (x : Term) → Contains (found_terms j terms) x → HasRightArity j x
   fits x c = elim (right_arity_or_not j x) [
     | inl f ↦ f
-    | inr wrong ↦ absurd (let at = split_in (found_terms j gone) x c in s.clear at.0 at.1 x (Arity (text j x)) at.2 (expansion.IsFault.count wrong))
+    | inr wrong ↦ absurd (let at = split_in (found_terms j terms) x c in s.clear at.0 at.1 x (Arity (text j x)) at.2 (expansion.IsFault.count wrong))
   ]
 
-  part : (x : Term) → Contains (found_terms j gone) x → (p : Part) × IsPart gone x p
+  part : (x : Term) → Contains (found_terms j terms) x → (p : Part) × IsPart terms x p
   part x c = by (head_of x) refl (fits x c)
     where
-      by : (h : Head) → head_of x ≡ h → TakesArguments j (head_of x) (length (arguments x)) → (p : Part) × IsPart gone x p
+      by : (h : Head) → head_of x ≡ h → TakesArguments j (head_of x) (length (arguments x)) → (p : Part) × IsPart terms x p
       by (Formal k) e f = absurd (subst (λ (h : Head). TakesArguments j h (length (arguments x))) e f)
       by (Token z) e f = (parts.Token z, atom_of x (Token z) e (subst (λ (h : Head). TakesArguments j h (length (arguments x))) e f))
       by (Rule r) e f =
           let instance : IsInstance x = subst expansion.IsRule (sym e) tt in
-          let at = at_contains gone x (s.found.all x c instance) in
+          let at = at_contains terms x (s.found.all x c instance) in
           (parts.Instance at.0, at.1)
 
-  parts_of : (xs : List Term) → ((x : Term) → Contains xs x → Contains (found_terms j gone) x) → (ps : List Part) × AllZip (IsPart gone) xs ps
+  parts_of : (xs : List Term) → ((x : Term) → Contains xs x → Contains (found_terms j terms) x) → (ps : List Part) × AllZip (IsPart terms) xs ps
   parts_of [] within = ([], tt)
   parts_of (x ∷ xs) within =
       let p = part x (within x (contains_here x xs)) in
       let ps = parts_of xs (λ y c. within y (contains_there x xs y c)) in
       (p.0 ∷ ps.0, (p.1, ps.1))
 
-  productions_of : (t : Term) (alternatives : List JoinedAlternative) → ((a : JoinedAlternative) → Contains alternatives a → (x : Term) → Contains (right_side t a) x → Contains (found_terms j gone) x) → (ps : List InstanceProduction) × AllZip (IsProduction gone t) alternatives ps
+  productions_of : (t : Term) (alternatives : List JoinedAlternative) → ((a : JoinedAlternative) → Contains alternatives a → (x : Term) → Contains (right_side t a) x → Contains (found_terms j terms) x) → (ps : List InstanceProduction) × AllZip (IsProduction terms t) alternatives ps
   productions_of t [] within = ([], tt)
   productions_of t (a ∷ alternatives) within =
       let rhs = parts_of (right_side t a) (within a (contains_here a alternatives)) in
@@ -89,38 +89,38 @@ module _ (j : Joined) (gone : List Term) (s : Stands j gone (found_terms j gone)
   with_rule t (Some q) e i f = (q.inlined, ap (option_map (λ (r : JoinedRule). r.inlined)) e)
   with_rule t None e i f = absurd (let there = rule_exists j (head_of t) (length (arguments t)) i f in cc)
 
-  instance_of : (t : Term) → Contains gone t → (i : Instance) × IsInstanceOf j gone t i
+  instance_of : (t : Term) → Contains terms t → (i : Instance) × IsInstanceOf j terms t i
   instance_of t c =
-      let at = at_contains gone t c in
-      let fit = IsExpandable-found j (found_terms j gone) gone s.clear s.found at.0 t at.1 in
+      let at = at_contains terms t c in
+      let fit = IsExpandable-found j (found_terms j terms) terms s.clear s.found at.0 t at.1 in
       let inlined = with_rule t (rule_of j t) refl fit.instance fit.right_arity in
       let on_error = rank t j.on_error in
-      let productions = productions_of t (alternatives_of j t) (λ a d x e. Contains-append_right (start_terms j) (flat_map (producers_of j) gone) x (contains_flat_map (producers_of j) gone t x c (contains_flat_map (right_side t) (alternatives_of j t) a x d e))) in
+      let productions = productions_of t (alternatives_of j t) (λ a d x e. Contains-append_right (start_terms j) (flat_map (producers_of j) terms) x (contains_flat_map (producers_of j) terms t x c (contains_flat_map (right_side t) (alternatives_of j t) a x d e))) in
       (record { name = text j t; inlined = inlined.0; on_error = on_error.0; productions = productions.0 }, record { name = refl; inlined = inlined.1; on_error = on_error.1; productions = productions.1 })
 
-  instances_of : (ts : List Term) → ((t : Term) → Contains ts t → Contains gone t) → (is : List Instance) × AllZip (IsInstanceOf j gone) ts is
+  instances_of : (ts : List Term) → ((t : Term) → Contains ts t → Contains terms t) → (is : List Instance) × AllZip (IsInstanceOf j terms) ts is
   instances_of [] within = ([], tt)
   instances_of (t ∷ ts) within =
       let i = instance_of t (within t (contains_here t ts)) in
       let rest = instances_of ts (λ u c. within u (contains_there t ts u c)) in
       (i.0 ∷ rest.0, (i.1, rest.1))
 
-  names_of : (ts : List Term) → ((t : Term) → Contains ts t → Contains gone t) → (ns : List ℕ) × AreNumbersOf gone ns ts
+  names_of : (ts : List Term) → ((t : Term) → Contains ts t → Contains terms t) → (ns : List ℕ) × AreNumbersOf terms ns ts
   names_of [] within = ([], tt)
   names_of (t ∷ ts) within =
-      let at = at_contains gone t (within t (contains_here t ts)) in
+      let at = at_contains terms t (within t (contains_here t ts)) in
       let rest = names_of ts (λ u c. within u (contains_there t ts u c)) in
       (at.0 ∷ rest.0, (at.1, rest.1))
 
   pub expanded : (e : Expanded) × IsExpanded j e
   expanded =
-      let starts = names_of (start_terms j) (λ t c. s.found.all t (Contains-append_left (start_terms j) (flat_map (producers_of j) gone) t c) (start_rule j t c)) in
-      let instances = instances_of gone (λ t c. c) in (
+      let starts = names_of (start_terms j) (λ t c. s.found.all t (Contains-append_left (start_terms j) (flat_map (producers_of j) terms) t c) (start_rule j t c)) in
+      let instances = instances_of terms (λ t c. c) in (
         record { tokens = j.tokens; starts = starts.0; instances = instances.0 },
         record {
           tokens = refl;
-          terms = gone;
-          exact = λ t. (finding_order_reached j gone s.order t, reached_found j gone s.found t);
+          terms = terms;
+          exact = λ t. (finding_order_reached j terms s.order t, reached_found j terms s.found t);
           order = s.order;
           starts = starts.1;
           each = instances.1;

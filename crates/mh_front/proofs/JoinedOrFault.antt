@@ -21,7 +21,7 @@ use Rattle.mh_join_parts.specs.code.CanJoin.{unresolved_in_rules, unresolved_in_
 use Rattle.mh_join.proofs.CanJoin.{nil_by, nil_by_two}
 use Rattle.mh_join.proofs.PreludeResolved.{number_known, prelude_resolved}
 use Rattle.mh_front.proofs.DefinitionsAre.{numbered, file_stands, on_error_stands, starts_stand, kept_nil, flat_starts}
-use Rattle.mh_front.proofs.NamesResolve.{There, is_there, there_append, there_map, there_flat, rules_there, files_there, on_error_there}
+use Rattle.mh_front.proofs.NamesResolve.{HaveValues, HasValue-some, HaveValues-append, HaveValues-map, HaveValues-flat_map, rules_have_values, files_have_values, on_error_has_values}
 
 -- The rules of outlines from index i up, if their alternatives are resolved.
 record Ruled (w : Meanings) (elsewhere : ℕ → Text → Bool) (ds : List Definition) (n : ℕ) (outlines : List Outline) : Type 0 where
@@ -32,7 +32,7 @@ record Ruled (w : Meanings) (elsewhere : ℕ → Text → Bool) (ds : List Defin
 abbrev with_alternatives : (ℕ → Text → Bool) → Outline → List JoinedAlternative → JoinedRule
 with_alternatives elsewhere o alternatives = record (rule_without elsewhere o) { alternatives = alternatives }
 
-more : (w : Meanings) (elsewhere : ℕ → Text → Bool) (ds : List Definition) (n : ℕ) (o : Outline) (outlines : List Outline) → There (flat_map (alternatives_for w n) ds) → Ruled w elsewhere ds (suc n) outlines → Ruled w elsewhere ds n (o ∷ outlines)
+more : (w : Meanings) (elsewhere : ℕ → Text → Bool) (ds : List Definition) (n : ℕ) (o : Outline) (outlines : List Outline) → HaveValues (flat_map (alternatives_for w n) ds) → Ruled w elsewhere ds (suc n) outlines → Ruled w elsewhere ds n (o ∷ outlines)
 more w elsewhere ds n o outlines alternatives rest = record { made = with_alternatives elsewhere o alternatives.0 ∷ rest.made; same = ap (λ rs. rule_without elsewhere o ∷ rs) rest.same; each = at }
   where
     at : (i : ℕ) (r : JoinedRule) → slice_get (with_alternatives elsewhere o alternatives.0 ∷ rest.made) i ≡ Some r → map Some r.alternatives ≡ flat_map (alternatives_for w (n + i)) ds
@@ -42,7 +42,7 @@ more w elsewhere ds n o outlines alternatives rest = record { made = with_altern
         ap (λ (q : JoinedRule). map Some q.alternatives) (sym one) ∙ alternatives.1 ∙ ap (λ (i : ℕ). flat_map (alternatives_for w i) ds) place
     at (suc i) r e = let place : suc n + i ≡ n + suc i = omega arith in rest.each i r e ∙ ap (λ (i : ℕ). flat_map (alternatives_for w i) ds) place
 
-ruled : (w : Meanings) (elsewhere : ℕ → Text → Bool) (ds : List Definition) → ((i : ℕ) → There (flat_map (alternatives_for w i) ds)) → (n : ℕ) (outlines : List Outline) → Ruled w elsewhere ds n outlines
+ruled : (w : Meanings) (elsewhere : ℕ → Text → Bool) (ds : List Definition) → ((i : ℕ) → HaveValues (flat_map (alternatives_for w i) ds)) → (n : ℕ) (outlines : List Outline) → Ruled w elsewhere ds n outlines
 ruled w elsewhere ds there n [] = record { made = []; same = refl; each = λ i r e. cc }
 ruled w elsewhere ds there n (o ∷ outlines) = more w elsewhere ds n o outlines (there n) (ruled w elsewhere ds there (suc n) outlines)
 
@@ -67,16 +67,16 @@ module _ (p : Bool) (ms : List Module) (none : join_faults p ms ≡ []) where
   starts_stand_all : flat_map (undefined_start w) w.starts ≡ []
   starts_stand_all = kept_nil (undefined_start w) [] (flat_map (λ m. m.starts) ms) refl (sym (flat_starts (undefined_start w) ms) ∙ sym (numbered (λ (m : Module). flat_map (undefined_start w) m.starts) 1 ms) ∙ nil_by (undefined_in_file w) (λ (f : ℕ × Module). flat_map (undefined_start w) f.1.starts) (starts_stand w) (files ms) undefined_none)
 
-  alternatives : (i : ℕ) → There (flat_map (alternatives_for w i) (definitions p ms))
+  alternatives : (i : ℕ) → HaveValues (flat_map (alternatives_for w i) (definitions p ms))
   alternatives i =
-      subst There (sym (flat_map-append (alternatives_for w i) (flat_map (definitions_in (start_names ms)) (files ms)) (prelude_definitions (prelude_rules p))))
-      (there_append (flat_map (alternatives_for w i) (flat_map (definitions_in (start_names ms)) (files ms))) (flat_map (alternatives_for w i) (prelude_definitions (prelude_rules p))) (files_there w i (start_names ms) (files ms) rules_stand) (rules_there w i (λ x. Some 0) 0 0 (prelude_rules p) prelude_stand))
+      subst HaveValues (sym (flat_map-append (alternatives_for w i) (flat_map (definitions_in (start_names ms)) (files ms)) (prelude_definitions (prelude_rules p))))
+      (HaveValues-append (flat_map (alternatives_for w i) (flat_map (definitions_in (start_names ms)) (files ms))) (flat_map (alternatives_for w i) (prelude_definitions (prelude_rules p))) (files_have_values w i (start_names ms) (files ms) rules_stand) (rules_have_values w i (λ x. Some 0) 0 0 (prelude_rules p) prelude_stand))
 
-  start_numbers : There (map (w.numbers.rule None) w.starts)
-  start_numbers = there_map (w.numbers.rule None) (undefined_start w) (λ x e. is_there (w.numbers.rule None x) (known_unless (is_some (w.numbers.rule None x)) (faults.Undefined x) e)) w.starts starts_stand_all
+  start_numbers : HaveValues (map (w.numbers.rule None) w.starts)
+  start_numbers = HaveValues-map (w.numbers.rule None) (undefined_start w) (λ x e. HasValue-some (w.numbers.rule None x) (known_unless (is_some (w.numbers.rule None x)) (faults.Undefined x) e)) w.starts starts_stand_all
 
-  on_errors : There (flat_map (on_error_in w) (files ms))
-  on_errors = there_flat (on_error_in w) (unresolved_on_error w) (on_error_there w) (files ms) (nil_by (undefined_in_file w) (unresolved_on_error w) (on_error_stands w) (files ms) undefined_none)
+  on_errors : HaveValues (flat_map (on_error_in w) (files ms))
+  on_errors = HaveValues-flat_map (on_error_in w) (unresolved_on_error w) (on_error_has_values w) (files ms) (nil_by (undefined_in_file w) (unresolved_on_error w) (on_error_stands w) (files ms) undefined_none)
 
   all_rules : Ruled w (is_elsewhere ms) (definitions p ms) 0 (rules p ms)
   all_rules = ruled w (is_elsewhere ms) (definitions p ms) alternatives 0 (rules p ms)

@@ -15,7 +15,7 @@ use Rattle.mh_front.specs.declared.fault.GrammarFault.TheVariants.{Join, Expand,
 use Rattle.mh_front.specs.Stages.{IsGrammarFault, IsGrammarOfModules}
 use Rattle.mh_front.proofs.JoinedOrFault.{joined_or_fault}
 use Rattle.mh_front.proofs.ExpandedOrFault.{expanded_or_fault}
-use Rattle.mh_front.proofs.SomeInlined.{none_neither}
+use Rattle.mh_front.proofs.SomeInlined.{inlined_or_fault}
 
 module _ (prelude : Bool) (modules : List Module) (ready : AreModulesReady modules) where
   abbrev pub GrammarOrFault : Type 0
@@ -23,7 +23,7 @@ module _ (prelude : Bool) (modules : List Module) (ready : AreModulesReady modul
 
   of_joined : (j : Joined) → Joins prelude modules (Ok j) → NotLacking GrammarOrFault
   of_joined j joined = elim (expanded_or_fault j) [
-    | inl e ↦ chain (none_neither e.0 (IsExpandedReady-expanded j e.0 e.1 (joins.ready prelude modules j ready joined) (few_instances j e.0 e.1))) (λ r. elim r [
+    | inl e ↦ chain (inlined_or_fault e.0 (IsExpandedReady-expanded j e.0 e.1 (joins.ready prelude modules j ready joined) (few_instances j e.0 e.1))) (λ r. elim r [
       | inl g ↦ given (inl (g.0, record { joined = j; joins = joined; grammar = record { expanded = e.0; expands = e.1; grammar = g.1 } }))
       | inr fault ↦ given (inr (Inline fault.0, record { joined = j; joins = joined; is_fault = record { expanded = e.0; expands = e.1; is_fault = fault.2; not_memory = fault.1 } }))
     ])

@@ -34,8 +34,9 @@ module _ (e : Expanded) (ready : IsExpandedReady e) where
   abbrev is : List Instance
   is = e.instances
 
-  abbrev Told : Type 0
-  Told = ((g : Grammar) × IsGrammarOf e g) ⊎ ((fault : InlineFault) × IsNotMemory fault × IsFault e fault)
+  -- A grammar that the expansion gives, or its first fault.
+  abbrev InlinedOrFault : Type 0
+  InlinedOrFault = ((g : Grammar) × IsGrammarOf e g) ⊎ ((fault : InlineFault) × IsNotMemory fault × IsFault e fault)
 
   productions : HasNoCycle e → (os : List Origin) → ((s : Origin) → Contains os s → IsOrigin is s) → NotLacking ((ps : List Production) × AreProductions e.tokens is os ps)
   productions acyclic [] each = given ([], inlined.AreProductions.none)
@@ -50,7 +51,7 @@ module _ (e : Expanded) (ready : IsExpandedReady e) where
     abbrev Live : ℕ → Type 0
     Live k = (m : ℕ) → slice_get e.starts k ≡ Some m → IsProductive (plain_of g) (nonterminal_number is m)
 
-    empty : IsWithinLimits g → Lacks Live (length e.starts) → Told
+    empty : IsWithinLimits g → Lacks Live (length e.starts) → InlinedOrFault
     empty small w =
         let m = get_within e.starts w.at w.within in
         let below : m.0 < length is = All-contains (λ s. s < length is) e.starts m.0 ready.starts_below (contains_at e.starts w.at m.0 m.1) in
@@ -77,7 +78,7 @@ module _ (e : Expanded) (ready : IsExpandedReady e) where
           ),
         )
 
-    live : IsWithinLimits g → ((k : ℕ) → k < length e.starts → Live k) → Told
+    live : IsWithinLimits g → ((k : ℕ) → k < length e.starts → Live k) → InlinedOrFault
     live small all = inl (
       g,
       record {
@@ -92,7 +93,7 @@ module _ (e : Expanded) (ready : IsExpandedReady e) where
       },
     )
 
-    sized : IsWithinLimits g → NotLacking Told
+    sized : IsWithinLimits g → NotLacking InlinedOrFault
     sized small = chain (lacks_or Live (length e.starts)) (λ r. elim r [ inl w ↦ given (empty small w) | inr all ↦ given (live small all) ])
 
     short : (Any (λ (p : Production). max_symbols < length p.rhs) g.productions → ⊥) → All (λ (p : Production). length p.rhs ≤ max_symbols) g.productions
@@ -101,13 +102,13 @@ module _ (e : Expanded) (ready : IsExpandedReady e) where
       | inr m ↦ m
     ]))
 
-    measured : NotLacking Told
+    measured : NotLacking InlinedOrFault
     measured = chain (decided (ExceedsLimits g)) (λ d. elim d [
       | inl over ↦ given (inr (TooManyProductions, tt, (acyclic, kept, g, is_of, over)))
       | inr not ↦ sized (record { few = elim (cases_lt max_productions (length g.productions)) [ inl l ↦ absurd (not (inl l)) | inr m ↦ m ]; short = short (λ a. not (inr a)) })
     ])
 
-  with_starts : HasNoCycle e → HasNoInlineStart e → NotLacking Told
+  with_starts : HasNoCycle e → HasNoInlineStart e → NotLacking InlinedOrFault
   with_starts acyclic kept =
       let os = origins is in
       chain (productions acyclic os.0 (λ s c. (os.1.exact s).0 c)) (λ ps.
@@ -117,16 +118,16 @@ module _ (e : Expanded) (ready : IsExpandedReady e) where
   abbrev Stays : ℕ → Type 0
   Stays k = (m : ℕ) → slice_get e.starts k ≡ Some m → is_inlined is m ≡ false
 
-  inline_start : HasNoCycle e → Lacks Stays (length e.starts) → Told
+  inline_start : HasNoCycle e → Lacks Stays (length e.starts) → InlinedOrFault
   inline_start acyclic w = let m = get_within e.starts w.at w.within in by m.0 m.1 (is_inlined is m.0) refl
     where
-      by : (m : ℕ) → slice_get e.starts w.at ≡ Some m → (b : Bool) → is_inlined is m ≡ b → Told
+      by : (m : ℕ) → slice_get e.starts w.at ≡ Some m → (b : Bool) → is_inlined is m ≡ b → InlinedOrFault
       by m at true inline =
           let i = inline_instance is m inline in
           inr (InlineStart i.instance.name, tt, (acyclic, record { number = m; named = record { instance = i.instance; at = i.at; name_is = refl }; first = record { place = w.at; at = at; inlined = inline; first = λ k n l f. w.before k l n f } }))
       by m at false stays = absurd (w.not (λ n f. subst (λ (x : ℕ). is_inlined is x ≡ false) (same_Some m n (sym at ∙ f)) stays))
 
-  with_no_cycle : HasNoCycle e → NotLacking Told
+  with_no_cycle : HasNoCycle e → NotLacking InlinedOrFault
   with_no_cycle acyclic = chain (lacks_or Stays (length e.starts)) (λ r. elim r [
     | inl w ↦ given (inline_start acyclic w)
     | inr all ↦ with_starts acyclic (All-from_recursion (λ s. is_inlined is s ≡ false) e.starts (recursion-from (λ s. is_inlined is s ≡ false) e.starts (λ s c. let at = at_contains e.starts s c in all at.0 (slice_get_within e.starts at.0 s at.1) s at.1)))
@@ -135,13 +136,13 @@ module _ (e : Expanded) (ready : IsExpandedReady e) where
   abbrev Straight : ℕ → Type 0
   Straight n = IsCyclic e n → ⊥
 
-  cycle : (w : Lacks Straight (length is)) → IsCyclic e w.at → Told
+  cycle : (w : Lacks Straight (length is)) → IsCyclic e w.at → InlinedOrFault
   cycle w c =
       let i = get_within is w.at w.within in
       inr (InlineCycle i.0.name, tt, record { number = w.at; named = record { instance = i.0; at = i.1; name_is = refl }; first = record { cyclic = c; first = w.before } })
 
-  pub none_neither : NotLacking Told
-  none_neither = chain (lacks_or Straight (length is)) (λ r. elim r [
+  pub inlined_or_fault : NotLacking InlinedOrFault
+  inlined_or_fault = chain (lacks_or Straight (length is)) (λ r. elim r [
     | inl w ↦ chain (decided (IsCyclic e w.at)) (λ d. elim d [ inl c ↦ given (cycle w c) | inr not ↦ absurd (w.not not) ])
     | inr all ↦ with_no_cycle (λ n c. all n (inline_instance is n (reaches_user is n n c)).within c)
   ])

@@ -29,3 +29,4 @@ pub use types::{
     Assoc, Grammar, Level, Look, MAX_COST, MAX_HEIGHT, MAX_NUMBERED, Memory, NontermInfo,
     Production, Sentence, Symbol, Token, TokenInfo, lost,
 };
+pub use worklist::users_of;

@@ -44,8 +44,8 @@ pub(crate) fn mark_all(
 }
 
 /// For each nonterminal the indices of the productions whose right sides contain the nonterminal, once for each
-/// occurrence.
-fn users_of(alloc: Global, grammar: &Grammar) -> Result<Vec<Vec<usize>>, Memory>
+/// occurrence. The list only guides a search, so the contract says no more than its length.
+pub fn users_of(alloc: Global, grammar: &Grammar) -> Result<Vec<Vec<usize>>, Memory>
     requires { IsInRange (plain_of grammar.now) }
     ensures { IfOk result (λ users. vec_len users ≡ length grammar.now.nonterminals) }
 {

@@ -17,7 +17,7 @@ use std::alloc::Global;
 /// kernel.
 #[derive(Drop)]
 pub struct MoveBuilder<const W: usize> {
-    /// The closures of the kernels.
+    /// Computes the closures of the kernels.
     pub(crate) closer: ClosureBuilder<W>,
     /// Scratch space, empty between two kernels.
     pub(crate) rows: SymbolRows<W>,

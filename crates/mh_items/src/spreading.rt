@@ -25,7 +25,7 @@ pub(crate) fn spread<const W: usize>(
     requires seeds { AreAllWaiting set.old }
     ensures table { OnOk result (ArePendingLooks set.new) }
     ensures size { OnOk result (vec_len set.new.looks ≡ vec_len set.old.looks) }
-    ensures rest { OnOk result ((n : ℕ) → IsWaiting set.new n → ⊥) }
+    ensures none_waits { OnOk result ((n : ℕ) → IsWaiting set.new n → ⊥) }
     ensures wanted { OnOk result ((kernel : KernelOf) → AreKernelLooks (plain_of grammar.now) kernel set.old → AreClosureLooks (plain_of grammar.now) kernel set.new) }
 {
     // Only the contract uses the grammar.

@@ -1,4 +1,4 @@
--- The properties that every layer needs of an automaton, whether it is canonical (Knuth 1965), merged (Pager 1977) or
+-- The properties that all stages need of an automaton, whether it is canonical (Knuth 1965), merged (Pager 1977) or
 -- read from a table file. Reachability of the states is not among them, because a table file may hold unreachable
 -- states.
 use Rattle.std.specs.Prelude.{◌≡◌, ◌<◌, ◌≤◌, ◌^◌, ℕ, List, [], ◌∷◌, Option, Some, length, slice_index_or}

@@ -1,4 +1,4 @@
-//! LR(1) kernels, the symbols at their dots, and the properties that every layer needs of an automaton.
+//! LR(1) kernels, the symbols at their dots, and the properties that all stages need of an automaton.
 #![tactic(auto)]
 
 mod items;

@@ -87,7 +87,7 @@ in_flat {X = X} f (x ∷ xs) y h = go (in_flat f xs y) (in_append (f x) (flat_ma
     go more (inl a) = (x, inl refl, a)
     go more (inr b) = let r = more b in (r.0, inr r.1, r.2)
 
--- If a function is empty at each element of a list, it is empty at each member.
+-- If the lists `f x` for the elements of a list together have no element, each of them is empty.
 nil_in : {X Y : Type 0} (f : X → List Y) (xs : List X) (x : X) → flat_map f xs ≡ [] → In xs x → f x ≡ []
 nil_in f [] x e h = elim h [ ]
 nil_in f (y ∷ xs) x e (inl is) = ap f (sym is) ∙ (nil_parts (f y) (flat_map f xs) e).0
@@ -201,10 +201,10 @@ with_facts : {X : Type 0} (Q : X → Type 0) (xs : List X) → AllByRecursion Q 
 with_facts Q [] all = []
 with_facts Q (x ∷ xs) all = (x, all.0) ∷ with_facts Q xs all.1
 
-facts_of : {X : Type 0} (Q : X → Type 0) (xs : List X) (all : AllByRecursion Q xs) → map (λ e. e.0) (with_facts Q xs all) ≡ xs
+with_facts-elements : {X : Type 0} (Q : X → Type 0) (xs : List X) (all : AllByRecursion Q xs) → map (λ e. e.0) (with_facts Q xs all) ≡ xs
 unfolding with_facts
-facts_of Q [] all = refl
-facts_of Q (x ∷ xs) all = ap (λ k. x ∷ k) (facts_of Q xs all.1)
+with_facts-elements Q [] all = refl
+with_facts-elements Q (x ∷ xs) all = ap (λ k. x ∷ k) (with_facts-elements Q xs all.1)
 
 module _ (P : Head → Type 0) (meant : Ref → Option Head) (good : (r : Ref) (h : Head) → meant r ≡ Some h → P h) where
   abbrev IsGood : Actual → Type 0
@@ -225,9 +225,10 @@ module _ (P : Head → Type 0) (meant : Ref → Option Head) (good : (r : Ref) (
       let args = args_good y.args parts.1 (ap (map (resolved meant)) (ap (λ (v : Actual-F Actual). v.args) is) ∙ all_of_parts (map (resolved meant) x.args) parts.1 parts.3) in
       subst (every-Applied (λ b. P b.head)) parts.4
       (every_made-Applied (λ b. P b.head) (record { head = parts.0; args = parts.1 }) (record { head = parts.0; args = with_facts (every-Applied (λ b. P b.head)) parts.1 args })
-      (ap (λ v. record { head = parts.0; args = v }) (facts_of (every-Applied (λ b. P b.head)) parts.1 args)) (good x.head parts.0 parts.2)))
+      (ap (λ v. record { head = parts.0; args = v }) (with_facts-elements (every-Applied (λ b. P b.head)) parts.1 args)) (good x.head parts.0 parts.2)))
 
-  -- If all actuals of a list resolve to applied heads, then each head has the property that all meanings have.
+  -- If each head that a name can mean has the property P, and all actuals of a list resolve, then each head in the
+  -- resolved actuals has P.
   all_good : (actuals : List Actual) (ks : List Applied) → all_resolved meant actuals ≡ Some ks → AllByRecursion (every-Applied (λ b. P b.head)) ks
   all_good actuals ks e = go actuals ks (all_of_parts (map (resolved meant) actuals) ks e)
     where

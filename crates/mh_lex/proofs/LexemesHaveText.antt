@@ -221,7 +221,7 @@ not_looked_into (attribute q) t = tt
 not_looked_into (own_attribute q) t = tt
 not_looked_into type_text t = tt
 
--- Code ends at some position of its bytes.
+-- The bytes after code are the bytes from some position on.
 Body-drop : {e : Delimiter} {bytes rest : List ℕ} → Body e bytes rest → (n : ℕ) × (rest ≡ drop n bytes)
 Body-drop (closes {n = n} s q) = (n, q)
 Body-drop {bytes = bytes} (passes {n = n} s b) = let x = Body-drop b in (n + x.0, x.1 ∙ drop-drop x.0 n bytes)

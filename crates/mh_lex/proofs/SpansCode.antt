@@ -10,7 +10,7 @@ use Rattle.mh_lex.specs.declared.kinds.Kind.TheVariants as kinds
 use Rattle.mh_lex.specs.declared.kinds.Lexeme.{Lexeme}
 use Rattle.mh_lex.specs.Bodies.{Body}
 use Rattle.mh_lex.specs.Bodies.Body.{closes, passes, nests, remark}
-use Rattle.mh_lex.specs.InCode.{CodeItem, StartsItem, Code, IsOpenedCode, IsCode, SpansCode, Code as code, HasCode as coded}
+use Rattle.mh_lex.specs.InCode.{CodeItem, StartsItem, Code, IsOpenedCode, HasCodeIfAny, SpansCode, Code as code, HasCode as coded}
 use Rattle.mh_lex.specs.Lexing.{Scanned, Lexes}
 use Rattle.mh_lex.specs.Lexing.Scanned.{short, long}
 use Rattle.mh_lex.proofs.CodeItems.{AreBytes, Reading, nest_of, close_of, has_items, reading_of, Reading as readings}
@@ -105,7 +105,7 @@ code_in {e} {s} {rest} h are (remark {mid = mid} q b c) =
 
 -- The text of a scanned lexeme is code, if its kind has code.
 abbrev Coded : Option Kind → List ℕ → List ℕ → Type 0
-Coded what bytes rest = (t : List ℕ) × (bytes ≡ t ++ rest) × HoldsForKind IsCode what t rest
+Coded what bytes rest = (t : List ℕ) × (bytes ≡ t ++ rest) × HoldsForKind HasCodeIfAny what t rest
 
 with_opening : (opening : List ℕ) (nest : Option ℕ) (close s t rest : List ℕ) → s ≡ opening ++ t → CodeIn nest close t rest → (u : List ℕ) × (s ≡ u ++ rest) × IsOpenedCode opening nest close u rest
 with_opening opening nest close s t rest q x = (opening ++ x.text, q ∙ ap (λ k. opening ++ k) x.split ∙ sym (append_assoc opening x.text rest), (x.text, refl, x.is))
@@ -121,7 +121,7 @@ opened k d n s rest (openings.own_attribute q) are b w =
     let x = with_opening (37 ∷ 91 ∷ 64 ∷ []) (Some 91) (93 ∷ []) s (drop 3 s) rest q (code_in refl (all_drop (λ b. b < 256) 3 s are) b) in (x.0, x.1, coded.own_attribute x.2)
 opened k d n s rest openings.type_text are b w = let x = Scanned-text w in (x.0, x.1, tt)
 
-no_code : (k : Kind) → holds_code k ≡ false → (t rest : List ℕ) → IsCode k t rest
+no_code : (k : Kind) → holds_code k ≡ false → (t rest : List ℕ) → HasCodeIfAny k t rest
 no_code kinds.Action h t rest = absurd (cc)
 no_code kinds.Header h t rest = absurd (cc)
 no_code kinds.Attribute h t rest = absurd (cc)
@@ -134,4 +134,4 @@ coded_of bytes rest (Some k) are (long {e = d} {n = n} s b) = opened k d n bytes
 
 pub lexemes_span_code : (bytes : List ℕ) (ls : List Lexeme) (f : Option ℕ) → AreBytes bytes → Lexes bytes ls f → AllByRecursion (SpansCode bytes) ls
 lexemes_span_code bytes ls f are l =
-    lexemes_hold bytes IsCode (λ pre s rest what e w. coded_of s rest what (bytes_of_rest bytes s pre e are) w) ls f l
+    lexemes_hold bytes HasCodeIfAny (λ pre s rest what e w. coded_of s rest what (bytes_of_rest bytes s pre e are) w) ls f l

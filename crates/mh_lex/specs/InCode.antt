@@ -68,19 +68,20 @@ pub data Code : Option ℕ → List ℕ → List ℕ → List ℕ → Type 0 whe
 abbrev pub IsOpenedCode : List ℕ → Option ℕ → List ℕ → List ℕ → List ℕ → Type 0
 IsOpenedCode opening nest close text rest = (code : List ℕ) × (text ≡ opening ++ code) × Code nest close code rest
 
--- The text of an action, a header or an attribute is an opening and code; lexemes of other kinds have no code.
+-- The text of an action, a header or an attribute is an opening and code.
 pub data HasCode : Kind → List ℕ → List ℕ → Type 0 where
   action : {text rest : List ℕ} → IsOpenedCode (codes "{") (Some 123) (codes "}") text rest → HasCode kinds.Action text rest
   header : {text rest : List ℕ} → IsOpenedCode (codes "%{") None (codes "%}") text rest → HasCode kinds.Header text rest
   attribute : {text rest : List ℕ} → IsOpenedCode (codes "[@") (Some 91) (codes "]") text rest → HasCode kinds.Attribute text rest
   own_attribute : {text rest : List ℕ} → IsOpenedCode (codes "%[@") (Some 91) (codes "]") text rest → HasCode kinds.Attribute text rest
 
-abbrev pub IsCode : Kind → List ℕ → List ℕ → Type 0
-IsCode kinds.Action text rest = HasCode kinds.Action text rest
-IsCode kinds.Header text rest = HasCode kinds.Header text rest
-IsCode kinds.Attribute text rest = HasCode kinds.Attribute text rest
-IsCode _ text rest = ⊤
+-- If the kind is an action, a header or an attribute, the text has its code; other kinds have no code.
+abbrev pub HasCodeIfAny : Kind → List ℕ → List ℕ → Type 0
+HasCodeIfAny kinds.Action text rest = HasCode kinds.Action text rest
+HasCodeIfAny kinds.Header text rest = HasCode kinds.Header text rest
+HasCodeIfAny kinds.Attribute text rest = HasCode kinds.Attribute text rest
+HasCodeIfAny _ text rest = ⊤
 
 -- The bytes of the lexeme, which are followed by the rest of the file, are an opening and code, if its kind has code.
 abbrev pub SpansCode : List ℕ → Lexeme → Type 0
-SpansCode bytes l = IsCode l.kind (bytes_of bytes l) (drop l.end bytes)
+SpansCode bytes l = HasCodeIfAny l.kind (bytes_of bytes l) (drop l.end bytes)

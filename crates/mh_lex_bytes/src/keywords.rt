@@ -19,7 +19,8 @@ pub enum Keyword {
     Prec,
 }
 
-/// A keyword and its word. The word's type is a parameter so that definitions can name the constant `KEYWORDS`.
+/// A keyword and its word. The type of the word is a parameter: `&str` in the table `KEYWORDS`, and a list of bytes in
+/// the definitions.
 pub struct KeywordRow<T> {
     pub word: T,
     pub keyword: Keyword,

@@ -12,4 +12,5 @@ pub mod PrintedAgain
 pub mod IsLineOf
 pub mod LoopSteps
 pub mod ReadsLooseEntries
+pub mod HasBlocks
 pub mod WrittenEntries

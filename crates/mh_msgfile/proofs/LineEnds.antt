@@ -33,9 +33,9 @@ lines_of_with_ends (line ∷ lines) all =
     subst (λ (bytes : Text). AreLines bytes (line ∷ lines)) (sym (append_assoc line (10 ∷ []) (with_ends lines))) cut
 
 -- A line that has no CR at its end loses no byte.
-pub ends_in_cr : (line : Text) (c : Bool) → (nat_lt 0 (length line) && slice_index line (length line - 1) == 13) ≡ c → ((front : Text) → line ≡ front ++ 13 ∷ [] → ⊥) → no_cr line ≡ line
-ends_in_cr line false is free = cond-false _ _ _ is
-ends_in_cr line true is free = absurd (free (take (length line - 1) line) last_cr)
+pub no_cr-unchanged : (line : Text) (c : Bool) → (nat_lt 0 (length line) && slice_index line (length line - 1) == 13) ≡ c → ((front : Text) → line ≡ front ++ 13 ∷ [] → ⊥) → no_cr line ≡ line
+no_cr-unchanged line false is free = cond-false _ _ _ is
+no_cr-unchanged line true is free = absurd (free (take (length line - 1) line) last_cr)
   where
     last_cr : line ≡ take (length line - 1) line ++ 13 ∷ []
     last_cr =

@@ -15,7 +15,7 @@ use Rattle.mh_msgfile.specs.declared.messages.MsgSentence.{MsgSentence}
 use Rattle.mh_msgfile.specs.declared.messages.Entry.{Entry}
 use Rattle.mh_msgfile.specs.declared.messages.MsgFile.{MsgFile}
 use Rattle.mh_msgfile.proofs.SentenceBounds.{sentence_start, sentence_tokens}
-use Rattle.mh_msgfile.proofs.LineEnds.{with_ends, IsReadUnchanged, lines_end, lines_of_with_ends, ends_in_cr}
+use Rattle.mh_msgfile.proofs.LineEnds.{with_ends, IsReadUnchanged, lines_end, lines_of_with_ends, no_cr-unchanged}
 use Rattle.mh_msgfile.proofs.Runs.{run_none}
 use Rattle.mh_msgfile.proofs.CanonicalLine.{HasNoSeparator, run_plain, canonical_line, line_begins}
 
@@ -384,7 +384,7 @@ module _ (g : Grammar) where
     pub message_lines : (lines : List Text) (before : Text) → ((front rest : Text) → before ++ with_ends lines ≡ front ++ 13 ∷ 10 ∷ rest → ⊥) → AllByRecursion (λ line. (HasNoLineFeed line × (is_kept_text line ≡ true)) × (blank_text line ≡ false)) lines → AllByRecursion IsLine lines
     message_lines [] before free all = tt
     message_lines (line ∷ lines) before free all = (
-      ((all.0.0.0, ends_in_cr line _ refl (λ front is. free (before ++ front) (with_ends lines) (here front is))), all.0.0.1),
+      ((all.0.0.0, no_cr-unchanged line _ refl (λ front is. free (before ++ front) (with_ends lines) (here front is))), all.0.0.1),
       message_lines lines (before ++ (line ++ 10 ∷ [])) (λ front rest is. free front rest (sym (append_assoc before (line ++ 10 ∷ []) (with_ends lines)) ∙ is)) all.1,
     )
       where

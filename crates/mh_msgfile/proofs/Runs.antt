@@ -1,10 +1,11 @@
--- Lemmas on the runs of a list between separators: the first run, and the runs after it.
+-- Lemmas on the fields of a list, which are the parts between its separators, and on its runs, which are its nonempty
+-- fields: the first run, and the runs after the first run.
 use Rattle.std.proofs.Common.{◌≡◌, ◌+◌, ◌<◌, ◌≤◌, ℕ, Bool, true, false, List, [], ◌∷◌, length, take, drop, filter, refl, sym, ◌∙◌, ap, subst, if◌then◌else◌, arith, add-one, length-drop}
 use Rattle.mh_msgfile.specs.code.LineSteps.{blank_count, piece_size}
 use Rattle.mh_msgfile.specs.Sentences.{put_first, fields, has_items, runs}
 
 module _ {A : Type 0} (separates : A → Bool) where
-  -- The fields after the first one, of a list that is empty or begins with a separator.
+  -- For a list that is empty or begins with a separator: its fields without the first field, which is empty.
   abbrev tail_fields : List A → List (List A)
   tail_fields [] = []
   tail_fields (x ∷ rest) = fields separates rest

@@ -3,6 +3,7 @@ pub mod StartNames
 pub mod Sentences
 pub mod Messages
 pub mod LooseFiles
+pub mod FileBlocks
 pub mod FileTexts
 pub mod FreeSpacing
 pub mod code

@@ -2,6 +2,7 @@
 //! lines and blocks without a grammar, and written.
 #![tactic(auto)]
 
+mod blocks;
 mod laws;
 mod lexicon;
 mod lines;
@@ -11,6 +12,7 @@ mod pieces;
 mod printing;
 mod sentence;
 
+pub use blocks::{LooseBlocks, read_blocks};
 pub use laws::{canonical_is_read, printed_again, spaced_is_read, spelled_once};
 pub use lexicon::Lexicon;
 pub use loose::{LooseEntry, LooseFault, LooseFile, LooseLine, read_loose};

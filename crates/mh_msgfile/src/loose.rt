@@ -8,7 +8,8 @@ ghost use Rattle.mh_msgfile.specs.LooseFiles.{loose_line, HasShortLines, ReadsLo
 ghost use Rattle.mh_msgfile.specs.code.LooseSteps.{ReadsLooseEntries};
 ghost use Rattle.mh_msgfile.specs.declared.loose.LooseFault.TheVariants as faults;
 
-use crate::lines::{line_at, put_lines};
+use crate::blocks::read_blocks;
+use crate::lines::line_at;
 use crate::messages::{first_block, first_line, kept_lines, message_of};
 use mh_grammar::{Memory, Name, Sequence, from_bytes};
 use std::alloc::{AllocError, Global};
@@ -91,57 +92,53 @@ fn entry_of_blocks(
     Ok(LooseEntry { sentences, message })
 }
 
-/// Appends the entries of the blocks of these lines.
+/// Appends the entries of the blocks of these lines. Returns the first line of the last block, if this block has no
+/// message.
 fn put_block_entries(
     alloc: Global,
     lines: &[Name],
     numbers: &[u32],
     entries: &mut Sequence<LooseEntry>,
-) -> Result<(), LooseFault>
+) -> Result<Option<u32>, Memory>
     requires { entries.old ≡ [] }
-    ensures { ReadsLooseEntries lines.now (runs (is_blank_line lines.now) numbers.now) entries.new result }
+    ensures { IfOk result (ReadsLooseEntries lines.now (runs (is_blank_line lines.now) numbers.now) entries.new) }
 {
     let mut rest = numbers;
     while let Some((block, after)) = first_block(lines, rest) {
         let Some((message, after)) = first_block(lines, after) else {
-            return Err(LooseFault::Shape {
-                line: first_line(block),
-            });
+            return Ok(Some(first_line(block)));
         };
         entries.push(entry_of_blocks(alloc, lines, block, message)?)?;
         rest = after;
     }
-    Ok(())
+    Ok(None)
 }
 
-/// Appends the entries of a file with these lines.
-fn put_line_entries(
+/// Appends the entries of a file with these lines. Returns the first line of the last block, if this block has no
+/// message.
+pub(crate) fn put_line_entries(
     alloc: Global,
     lines: &[Name],
     entries: &mut Sequence<LooseEntry>,
-) -> Result<(), LooseFault>
+) -> Result<Option<u32>, Memory>
     requires few { length lines.now < 2 ^ 31 }
     requires none { entries.old ≡ [] }
-    ensures { ReadsLooseEntries lines.now (blocks lines.now) entries.new result }
+    ensures { IfOk result (ReadsLooseEntries lines.now (blocks lines.now) entries.new) }
 {
     let kept = kept_lines(alloc, lines)?;
     put_block_entries(alloc, lines, kept.as_slice(), entries)
 }
 
-/// Reads the entries of a messages file without a grammar: their sentence lines are not read as sentences. Lines that
-/// begin with `#` are ignored. The remaining blocks, which blank lines separate, are alternately sentence lines and the
-/// message of these lines. Fails with `Shape` exactly if the number of blocks is odd, with the first line of the last
-/// block, and with `Memory` only if memory runs out.
+/// Reads the entries of a messages file without a grammar, as `read_blocks` does. Fails with `Shape` exactly if the
+/// number of blocks is odd, with the first line of the last block, and with `Memory` only if memory runs out.
 pub fn read_loose(alloc: Global, bytes: &[u8]) -> Result<LooseFile, LooseFault>
     requires { length bytes.now < 2 ^ 31 }
     ensures file { ReadsLoose bytes.now result }
     ensures short { IfOk result HasShortLines }
 {
-    let mut lines = Sequence::new(alloc);
-    put_lines(alloc, &mut lines, bytes)?;
-    let mut entries = Sequence::new(alloc);
-    match put_line_entries(alloc, lines.as_slice(), &mut entries) {
-        Ok(()) => Ok(LooseFile { entries }),
-        Err(fault) => Err(fault),
+    let found = read_blocks(alloc, bytes)?;
+    match found.unpaired {
+        None => Ok(found.file),
+        Some(line) => Err(LooseFault::Shape { line }),
     }
 }

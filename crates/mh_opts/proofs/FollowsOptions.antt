@@ -148,9 +148,11 @@ mode_kept rows modes.CompareErrors = refl
 mode_kept rows modes.EchoErrors = refl
 mode_kept rows modes.UpdateErrors = refl
 mode_kept rows modes.RebaseErrors = refl
+mode_kept rows modes.CheckErrors = refl
 mode_kept rows modes.Sample = refl
 mode_kept rows modes.ShortestSentences = refl
 mode_kept rows modes.RandomSentence = refl
+mode_kept rows modes.Explain = refl
 
 pub follows_options : (words : List Text) (order : Order) → order_of words ≡ Ok order → FollowsOptions words order
 follows_options words order e =
@@ -168,4 +170,5 @@ follows_options words order e =
       stdlib = sym (ap (λ (o : Order). o.stdlib) one.2) ∙ ap not (given (codes "no-stdlib") refl refl);
       show_cst = sym (ap (λ (o : Order). o.show_cst) one.2) ∙ given (codes "interpret-show-cst") refl refl;
       show_expected = sym (ap (λ (o : Order). o.show_expected) one.2) ∙ given (codes "show-expected") refl refl;
+      comment_expected = sym (ap (λ (o : Order). o.comment_expected) one.2) ∙ given (codes "comment-expected") refl refl;
     }

@@ -1,4 +1,5 @@
--- Lemmas on clap's result, as the rows that the definitions read.
+-- Lemmas on the result of clap, which the definitions read as a list of rows: an option is given if the source of its
+-- value is the command line.
 use Rattle.std.proofs.Common.{◌≡◌, ◌∙◌, Option, Some, None, false, refl, sym, ap, true≢false}
 use Rattle.std.specs.Prelude.{is_some, option_and_then}
 use Rattle.std.specs.Option.{option_map_or}

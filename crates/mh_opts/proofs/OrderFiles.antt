@@ -1,5 +1,5 @@
--- Proves that the grammar files of an order are those that the reading by POSIX conventions finds, and that an option
--- used too often gives no order.
+-- Proves that the grammar files of a parsed command line are the words that are operands by the POSIX conventions, and
+-- that a command line with an option used too often is refused.
 use Rattle.std.proofs.Common.{◌≡◌, ◌∙◌, ◌+◌, ◌<◌, ◌≤◌, ◌++◌, ◌&&◌, ◌||◌, ℕ, Bool, true, false, not, List, [], ◌∷◌, Option, Some, None, Result, Ok, Err, codes, drop, length, nat_eq, refl, sym, ap, subst, bytes_eq, fold, is_some, if◌then◌else◌, true≢false, arith}
 use Rattle.std.specs.Prelude.{IfOk, nat_le, unwrap_or}
 use Rattle.std.specs.List.{list_all, starts_with}
@@ -21,7 +21,7 @@ use Rattle.mh_opts.specs.declared.repeated_option.SeenUses.{SeenUses}
 use Rattle.mh_opts.specs.declared.repeated_option.SeenUses.TheVariants.{Nothing, One, All}
 use Rattle.mh_opts.specs.App.{menhir_app}
 use Rattle.mh_opts.specs.Options.{late_needs, needs, options}
-use Rattle.mh_opts.specs.Orders.{clashes, file_of, grammars_of, is_sample, job_for, lacks_number, lists_nothing, misplaced_in, mode_in, order_by, order_for, order_in, order_late, order_of, order_renamed, order_with, written, EqualsUnlessMemory, IsWithinLimits}
+use Rattle.mh_opts.specs.Orders.{clashes, comments_nothing, file_of, grammars_of, is_sample, job_for, lacks_number, lists_nothing, misplaced_in, mode_in, order_by, order_for, order_in, order_late, order_of, order_renamed, order_with, written, EqualsUnlessMemory, IsWithinLimits}
 use Rattle.mh_opts.specs.Numbers.{at_most as up_to, max_length, number_in}
 use Rattle.mh_opts.specs.PosixReading.{at_most, awaits, files_from, files_in, is_listed, is_option, is_use_of, occurrences}
 use Rattle.mh_opts.specs.RepeatedOption.{again, is_end, is_reserved, is_use, renamed, renamed_from, seen_after, word_with}
@@ -49,7 +49,7 @@ pub words_of : (words : List Text) → argument_words menhir_app words ≡ words
 unfolding options
 words_of words = refl
 
--- The words have no fault, neither in the walk nor when the last value is settled.
+-- Clap finds no fault in the words, one after another, nor in the last option, which is checked after the last word.
 abbrev Taken : Shape → Names → Walk → List Text → Type 0
 Taken s names w words = (walk_fault s names w words ≡ []) × (settle_fault s.rules s.args_override_self (fold (walked s.rules names) w words).held ≡ [])
 
@@ -91,7 +91,10 @@ chosen_order false fault r order e = e
 
 late_is : (rows : List Row) (mode : JobKind) (option : Option Text) (order : Order) → order_late rows mode option ≡ Ok order → order_for rows mode ≡ order
 late_is rows mode (Some option) order e = cc
-late_is rows mode None order e = let same = chosen_order (not (is_sample mode) && is_empty (grammars_of rows)) NoGrammar (Ok (order_for rows mode)) order e in cc
+late_is rows mode None order e =
+    let with_grammar = (if not (is_sample mode) && is_empty (grammars_of rows) then Err NoGrammar else Ok (order_for rows mode)) in
+    let placed = chosen_order (comments_nothing rows mode) (Misplaced (written (codes "comment-expected"))) with_grammar order e in
+    let same = chosen_order (not (is_sample mode) && is_empty (grammars_of rows)) NoGrammar (Ok (order_for rows mode)) order placed in cc
 
 by_mode : (rows : List Row) (mode : JobKind) (option : Option Text) (order : Order) → order_with rows mode option ≡ Ok order → order_for rows mode ≡ order
 by_mode rows mode (Some option) order e = cc
@@ -139,8 +142,10 @@ job_limits rows modes.CompareErrors = tt
 job_limits rows modes.EchoErrors = tt
 job_limits rows modes.UpdateErrors = tt
 job_limits rows modes.RebaseErrors = tt
+job_limits rows modes.CheckErrors = tt
 job_limits rows modes.Sample = tt
 job_limits rows modes.ShortestSentences = tt
+job_limits rows modes.Explain = tt
 
 pub order_limits : (words : List Text) (order : Order) → order_of words ≡ Ok order → IsWithinLimits order.job
 order_limits words order e =

@@ -25,9 +25,11 @@ mode_of (job.CompareErrors first second) = mode.CompareErrors
 mode_of (job.EchoErrors file) = mode.EchoErrors
 mode_of (job.UpdateErrors file) = mode.UpdateErrors
 mode_of (job.RebaseErrors file) = mode.RebaseErrors
+mode_of (job.CheckErrors file) = mode.CheckErrors
 mode_of (job.Sample number) = mode.Sample
 mode_of job.ShortestSentences = mode.ShortestSentences
 mode_of (job.RandomSentence seed length) = mode.RandomSentence
+mode_of job.Explain = mode.Explain
 
 -- The mode of an option that is among the words before `--`.
 abbrev pub mode_among : List Text → Opt Text → Option JobKind
@@ -46,3 +48,4 @@ pub record FollowsOptions (words : List Text) (order : Order) : Type 0 where
   pub stdlib : order.stdlib ≡ not (is_used_in (codes "no-stdlib") words)
   pub show_cst : order.show_cst ≡ is_used_in (codes "interpret-show-cst") words
   pub show_expected : order.show_expected ≡ is_used_in (codes "show-expected") words
+  pub comment_expected : order.comment_expected ≡ is_used_in (codes "comment-expected") words

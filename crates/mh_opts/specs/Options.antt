@@ -31,14 +31,17 @@ options =
     ∷ valued (codes "echo-errors") (Some mode.EchoErrors)
     ∷ valued (codes "update-errors") (Some mode.UpdateErrors)
     ∷ valued (codes "rebase-errors") (Some mode.RebaseErrors)
+    ∷ valued (codes "check-errors") (Some mode.CheckErrors)
     ∷ valued (codes "sample") (Some mode.Sample)
     ∷ flag (codes "shortest-sentences") (Some mode.ShortestSentences)
     ∷ valued (codes "random-sentence") (Some mode.RandomSentence)
     ∷ valued (codes "length") None
+    ∷ flag (codes "explain") (Some mode.Explain)
     ∷ valued (codes "messages") None
     ∷ valued (codes "tables") None
     ∷ flag (codes "interpret-show-cst") None
     ∷ flag (codes "show-expected") None
+    ∷ flag (codes "comment-expected") None
     ∷ flag (codes "canonical") None
     ∷ flag (codes "strict") None
     ∷ flag (codes "no-stdlib") None

@@ -72,8 +72,10 @@ job_for rows mode.CompileErrors = job.CompileErrors (file_of rows (codes "compil
 job_for rows mode.Sample = job.Sample (unwrap_or (number_of rows) 0)
 job_for rows mode.ShortestSentences = job.ShortestSentences
 job_for rows mode.RandomSentence = job.RandomSentence (unwrap_or (seed_of rows) 0) (unwrap_or (length_of rows) 0)
+job_for rows mode.Explain = job.Explain
 job_for rows mode.UpdateErrors = job.UpdateErrors (file_of rows (codes "update-errors"))
 job_for rows mode.RebaseErrors = job.RebaseErrors (file_of rows (codes "rebase-errors"))
+job_for rows mode.CheckErrors = job.CheckErrors (file_of rows (codes "check-errors"))
 job_for rows mode.EchoErrors = job.EchoErrors (file_of rows (codes "echo-errors"))
 job_for rows mode.CompareErrors = job.CompareErrors (file_of rows (codes "compare-errors")) (file_of rows (codes "compare-errors-2"))
 
@@ -110,6 +112,7 @@ order_for rows mode = record {
   stdlib = not (is_given (codes "no-stdlib") rows);
   show_cst = is_given (codes "interpret-show-cst") rows;
   show_expected = is_given (codes "show-expected") rows;
+  comment_expected = is_given (codes "comment-expected") rows;
   messages = first_of (codes "messages") rows;
   tables = first_of (codes "tables") rows;
 }
@@ -126,10 +129,23 @@ clashes rows mode = is_given (codes "tables") rows && (is_given (codes "canonica
 abbrev pub lists_nothing : List Row → Bool
 lists_nothing rows = is_given (codes "show-expected") rows && (not (is_given (codes "interpret") rows) || is_given (codes "messages") rows)
 
--- The last checks of an order: the late needs, and a grammar file for every mode but a sample.
+-- The mode writes comment lines of failing sentences.
+abbrev pub writes_comments : JobKind → Bool
+writes_comments mode.ListErrors = true
+writes_comments mode.UpdateErrors = true
+writes_comments mode.RebaseErrors = true
+writes_comments mode.InterpretError = true
+writes_comments mode = false
+
+-- The option `--comment-expected` has no meaning in a mode without comment lines.
+abbrev pub comments_nothing : List Row → JobKind → Bool
+comments_nothing rows mode = is_given (codes "comment-expected") rows && not (writes_comments mode)
+
+-- The last checks of an order: the late needs, comment lines, and a grammar file for every mode but a sample.
 abbrev pub order_late : List Row → JobKind → Option Text → Result Order UsageFault
 order_late rows mode (Some option) = Err (Misplaced (written option))
-order_late rows mode None = if not (is_sample mode) && is_empty (grammars_of rows) then Err NoGrammar else Ok (order_for rows mode)
+order_late rows mode None =
+    if comments_nothing rows mode then Err (Misplaced (written (codes "comment-expected"))) else (if not (is_sample mode) && is_empty (grammars_of rows) then Err NoGrammar else Ok (order_for rows mode))
 
 -- A sample has its own grammar; every other mode needs a grammar file.
 abbrev pub order_with : List Row → JobKind → Option Text → Result Order UsageFault

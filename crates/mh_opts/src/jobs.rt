@@ -20,6 +20,8 @@ pub(crate) const INTERPRET_SHOW_CST: &str = "interpret-show-cst";
 
 pub(crate) const SHOW_EXPECTED: &str = "show-expected";
 
+pub(crate) const COMMENT_EXPECTED: &str = "comment-expected";
+
 pub(crate) const CANONICAL: &str = "canonical";
 
 pub(crate) const STRICT: &str = "strict";
@@ -38,6 +40,8 @@ pub(crate) const ECHO_ERRORS: &str = "echo-errors";
 pub(crate) const UPDATE_ERRORS: &str = "update-errors";
 
 pub(crate) const REBASE_ERRORS: &str = "rebase-errors";
+
+pub(crate) const CHECK_ERRORS: &str = "check-errors";
 
 pub(crate) const SAMPLE: &str = "sample";
 
@@ -74,12 +78,16 @@ pub enum Job {
     UpdateErrors { file: Name },
     /// `--rebase-errors FILE`: a messages file for another version of the grammar, rebased onto this grammar.
     RebaseErrors { file: Name },
+    /// `--check-errors FILE`: everything that is wrong with a messages file.
+    CheckErrors { file: Name },
     /// `--sample N`: the counts of a sample, that is of a generated grammar.
     Sample { number: u32 },
     /// `--shortest-sentences`: the shortest word of each nonterminal.
     ShortestSentences,
     /// `--random-sentence SEED` with `--length LENGTH`: the random sentence of a seed, of at most `length` tokens.
     RandomSentence { seed: u64, length: u32 },
+    /// `--explain`: for each conflict with a warning, the first sentence that runs into it, and its actions.
+    Explain,
 }
 
 /// A job without its files and its number. The table of options holds modes, because a constant cannot own memory.
@@ -96,9 +104,11 @@ pub enum JobKind {
     EchoErrors,
     UpdateErrors,
     RebaseErrors,
+    CheckErrors,
     Sample,
     ShortestSentences,
     RandomSentence,
+    Explain,
 }
 
 /// The job that compares two messages files.
@@ -136,6 +146,9 @@ pub(crate) fn job_of(alloc: Global, matches: &ArgMatches<'_>, mode: JobKind) -> 
         JobKind::RebaseErrors => Ok(Job::RebaseErrors {
             file: file_of(alloc, matches, REBASE_ERRORS)?,
         }),
+        JobKind::CheckErrors => Ok(Job::CheckErrors {
+            file: file_of(alloc, matches, CHECK_ERRORS)?,
+        }),
         JobKind::Sample => Ok(Job::Sample {
             number: sample_number(matches),
         }),
@@ -144,6 +157,7 @@ pub(crate) fn job_of(alloc: Global, matches: &ArgMatches<'_>, mode: JobKind) -> 
             seed: seed_number(matches),
             length: length_number(matches),
         }),
+        JobKind::Explain => Ok(Job::Explain),
     }
 }
 
@@ -164,7 +178,7 @@ pub struct Need<T> {
     pub needs: T,
 }
 
-const OPTIONS: [Opt<&str>; 23] = [
+const OPTIONS: [Opt<&str>; 26] = [
     Opt {
         name: INTERPRET,
         action: ArgAction::SetTrue,
@@ -226,6 +240,11 @@ const OPTIONS: [Opt<&str>; 23] = [
         mode: Some(JobKind::RebaseErrors),
     },
     Opt {
+        name: CHECK_ERRORS,
+        action: ArgAction::Set,
+        mode: Some(JobKind::CheckErrors),
+    },
+    Opt {
         name: SAMPLE,
         action: ArgAction::Set,
         mode: Some(JobKind::Sample),
@@ -246,6 +265,11 @@ const OPTIONS: [Opt<&str>; 23] = [
         mode: None,
     },
     Opt {
+        name: "explain",
+        action: ArgAction::SetTrue,
+        mode: Some(JobKind::Explain),
+    },
+    Opt {
         name: MESSAGES,
         action: ArgAction::Set,
         mode: None,
@@ -262,6 +286,11 @@ const OPTIONS: [Opt<&str>; 23] = [
     },
     Opt {
         name: SHOW_EXPECTED,
+        action: ArgAction::SetTrue,
+        mode: None,
+    },
+    Opt {
+        name: COMMENT_EXPECTED,
         action: ArgAction::SetTrue,
         mode: None,
     },

@@ -23,6 +23,9 @@ pub struct Order {
     pub show_cst: bool,
     /// `--show-expected`: true if the tokens expected in place of a refused token are listed.
     pub show_expected: bool,
+    /// `--comment-expected`: true if the comment lines of a failing sentence end with the tokens that are expected in
+    /// place of its last.
+    pub comment_expected: bool,
     /// `--messages FILE`: the messages file for refused sentences, if given.
     pub messages: Option<Name>,
     /// `--tables FILE`: the table file to use in place of a built table, if given.

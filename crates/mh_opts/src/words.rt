@@ -11,9 +11,9 @@ ghost use Rattle.mh_opts.specs.App.{plain};
 use crate::clap_result::{both, is_given, length_of, number_of, seed_of, value_of};
 use crate::command::menhir_command;
 use crate::jobs::{
-    CANONICAL, GRAMMARS, INTERPRET, INTERPRET_SHOW_CST, JobKind, LENGTH, MESSAGES, NO_STDLIB, Need,
-    Opt, RANDOM_SENTENCE, SAMPLE, SHOW_EXPECTED, STRICT, TABLES, job_of, late_needs, needs,
-    options,
+    CANONICAL, COMMENT_EXPECTED, GRAMMARS, INTERPRET, INTERPRET_SHOW_CST, JobKind, LENGTH,
+    MESSAGES, NO_STDLIB, Need, Opt, RANDOM_SENTENCE, SAMPLE, SHOW_EXPECTED, STRICT, TABLES, job_of,
+    late_needs, needs, options,
 };
 use crate::modes::{FoundModes, with_next};
 use crate::order::{Order, UsageFault};
@@ -135,7 +135,7 @@ fn files_beside(
     )
 }
 
-/// The order of a mode, with all other options.
+/// The order with the job of this mode and the values of all other options.
 fn order_for(alloc: Global, matches: &ArgMatches<'_>, mode: JobKind) -> Result<Order, Memory>
     ensures { IfOk result (λ order. order ≡ orders.order_for (rows_of (found_of matches.now)) mode) }
 {
@@ -151,6 +151,7 @@ fn order_for(alloc: Global, matches: &ArgMatches<'_>, mode: JobKind) -> Result<O
         stdlib: !is_given(matches, NO_STDLIB),
         show_cst: is_given(matches, INTERPRET_SHOW_CST),
         show_expected: is_given(matches, SHOW_EXPECTED),
+        comment_expected: is_given(matches, COMMENT_EXPECTED),
         messages,
         tables,
     })
@@ -186,6 +187,19 @@ fn lists_nothing(matches: &ArgMatches<'_>) -> bool
 {
     is_given(matches, SHOW_EXPECTED)
         && (!is_given(matches, INTERPRET) || is_given(matches, MESSAGES))
+}
+
+/// Returns true if the mode writes comment lines of failing sentences.
+fn writes_comments(mode: JobKind) -> bool
+    ensures { result ≡ orders.writes_comments mode }
+{
+    matches!(
+        mode,
+        JobKind::ListErrors
+            | JobKind::UpdateErrors
+            | JobKind::RebaseErrors
+            | JobKind::InterpretError
+    )
 }
 
 /// The order of a mode, or the first fault: a misplaced option, or no grammar.
@@ -224,13 +238,18 @@ fn order_late(alloc: Global, matches: &ArgMatches<'_>, mode: JobKind) -> Result<
             option: written_name(alloc, option)?,
         });
     }
+    if is_given(matches, COMMENT_EXPECTED) && !writes_comments(mode) {
+        return Err(UsageFault::Misplaced {
+            option: written_name(alloc, COMMENT_EXPECTED)?,
+        });
+    }
     if !is_sample(mode) && !has_grammar(matches) {
         return Err(UsageFault::NoGrammar);
     }
     Ok(order_for(alloc, matches, mode)?)
 }
 
-/// The order that the matches spell, or the first fault after `Parse`.
+/// The order that the matches spell, or the first fault. `Parse` is not among the faults: the words are parsed already.
 fn matched_order(alloc: Global, matches: &ArgMatches<'_>) -> Result<Order, UsageFault>
     ensures { EqualsUnlessMemory (order_in (rows_of (found_of matches.now))) result }
 {

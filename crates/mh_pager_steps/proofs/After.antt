@@ -1,4 +1,5 @@
--- Lemmas on paths of symbols: they are monotone in the first set, and may begin with a move.
+-- Lemmas on the items after a path of symbols: more items before the path give more items after the path, and a path
+-- after a move is a path with one symbol more.
 use Rattle.std.proofs.Common.{◌≡◌, ℕ, List, [], ◌∷◌, ◌++◌, refl, ap, subst, inl, inr}
 use Rattle.mh_grammar.specs.declared.types.Symbol.{Symbol}
 use Rattle.mh_grammar.specs.Plain.{PlainGrammar}

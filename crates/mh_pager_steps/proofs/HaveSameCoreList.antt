@@ -12,7 +12,7 @@ use Rattle.mh_grammar.proofs.Lists.{contains_at, at_contains, recursion_at, risi
 use Rattle.mh_items_kernels.specs.KernelTypes.{KernelItem, Kernel}
 use Rattle.mh_items_kernels.specs.Kernels.{Holds, IsKernelItem, IsItemList, IsItemBefore}
 use Rattle.mh_items_kernels.proofs.UniqueItemList.{before_not_same_place, before_asymmetric}
-use Rattle.mh_pager_steps.specs.WeakCompatibility.{IsInCore, HaveSameCore, Covers, HaveCommonLook, AreCompatible}
+use Rattle.mh_pager_steps.specs.WeakCompatibility.{IsInCore, HaveSameCore, HaveOneCore, Covers, HaveCommonLook, AreCompatible}
 use Rattle.mh_pager_steps.specs.code.Cores.{core_item}
 use Rattle.mh_pager_steps.specs.code.ItemLists.{HaveSameCoreList, AreItemLooksWithin, ShareLook, MeetsCondition, MeetsConditionEverywhere}
 
@@ -30,12 +30,15 @@ item_that_holds k p d a h =
 pub holds_by_item : (k : Kernel) (p d i : ℕ) (x : KernelItem) (a : Look) → IsItem k p d i x → Contains x.looks a → Holds k p d a
 holds_by_item k p d i x a is c = (x, contains_at k.items i x is.at, is.production, is.dot, c)
 
--- An item list has only one item with a given production and dot.
-pub item_unique : (g : PlainGrammar) (k : Kernel) → IsItemList g k → (p d i j : ℕ) (x y : KernelItem) → IsItem k p d i x → IsItem k p d j y → (i ≡ j) × (x ≡ y)
-item_unique g k is p d i j x y a b = (place, same)
+-- A kernel has at most one item with a given production and dot.
+abbrev pub AreItemsUnique : Kernel → Type 0
+AreItemsUnique k = (p d i j : ℕ) (x y : KernelItem) → IsItem k p d i x → IsItem k p d j y → (i ≡ j) × (x ≡ y)
+
+pub rising_is_unique : (k : Kernel) → IsRising IsItemBefore k.items → AreItemsUnique k
+rising_is_unique k rising p d i j x y a b = (place, same)
   where
     never : (m n : ℕ) (u v : KernelItem) → m < n → IsItem k p d m u → IsItem k p d n v → ⊥
-    never m n u v l s t = before_not_same_place u v (rising_at IsItemBefore k.items is.rising m n u v l s.at t.at) (s.production ∙ sym t.production) (s.dot ∙ sym t.dot)
+    never m n u v l s t = before_not_same_place u v (rising_at IsItemBefore k.items rising m n u v l s.at t.at) (s.production ∙ sym t.production) (s.dot ∙ sym t.dot)
 
     place : i ≡ j
     place = elim (cases_lt i j) [
@@ -77,27 +80,29 @@ find (x ∷ xs) p d = elim (cases_eq x.production p) [
   | inr s ↦ found_later x xs p d (λ u v. s u) (find xs p d)
 ]
 
-module _ (g : PlainGrammar) (k m : Kernel) (of_k : IsItemList g k) (of_m : IsItemList g m) where
-  module _ (paired : HaveSameCoreList k.items m.items) where
-    -- The other list has an item with the same production and dot, at the same index.
-    pub partner_right : (p d i : ℕ) (x : KernelItem) → IsItem k p d i x → (y : KernelItem) × IsItem m p d i y
-    partner_right p d i x a =
-        let y = get_within m.items i (rw (← paired.0) (slice_get_within k.items i x a.at)) in
-        let one = paired.1 i x y.0 a.at y.1 in
-        (y.0, record { at = y.1; production = sym one.0 ∙ a.production; dot = sym one.1 ∙ a.dot })
+module _ (k m : Kernel) (paired : HaveSameCoreList k.items m.items) where
+  -- The other list has an item with the same production and dot, at the same index.
+  pub partner_right : (p d i : ℕ) (x : KernelItem) → IsItem k p d i x → (y : KernelItem) × IsItem m p d i y
+  partner_right p d i x a =
+      let y = get_within m.items i (rw (← paired.0) (slice_get_within k.items i x a.at)) in
+      let one = paired.1 i x y.0 a.at y.1 in
+      (y.0, record { at = y.1; production = sym one.0 ∙ a.production; dot = sym one.1 ∙ a.dot })
 
-    pub partner_left : (p d i : ℕ) (y : KernelItem) → IsItem m p d i y → (x : KernelItem) × IsItem k p d i x
-    partner_left p d i y a =
-        let x = get_within k.items i (rw paired.0 (slice_get_within m.items i y a.at)) in
-        let one = paired.1 i x.0 y x.1 a.at in
-        (x.0, record { at = x.1; production = one.0 ∙ a.production; dot = one.1 ∙ a.dot })
+  pub partner_left : (p d i : ℕ) (y : KernelItem) → IsItem m p d i y → (x : KernelItem) × IsItem k p d i x
+  partner_left p d i y a =
+      let x = get_within k.items i (rw paired.0 (slice_get_within m.items i y a.at)) in
+      let one = paired.1 i x.0 y x.1 a.at in
+      (x.0, record { at = x.1; production = one.0 ∙ a.production; dot = one.1 ∙ a.dot })
 
-    pub paired_core : HaveSameCore (Holds k) (Holds m)
-    paired_core p d = (
-      (λ h. let x = item_that_holds k p d h.0 h.1 in let y = partner_right p d x.0 x.1 x.2 in item_in_core g m of_m p d x.0 y.0 y.1),
-      (λ h. let y = item_that_holds m p d h.0 h.1 in let x = partner_left p d y.0 y.1 y.2 in item_in_core g k of_k p d y.0 x.0 x.1),
-    )
+  -- Where the items of the one kernel are unique, so are those of the other.
+  pub unique_right : AreItemsUnique k → AreItemsUnique m
+  unique_right of_k p d i j x y a b =
+      let u = partner_left p d i x a in
+      let v = partner_left p d j y b in
+      let place : i ≡ j = (of_k p d i j u.0 v.0 u.1 v.1).0 in
+      (place, let one : Some x ≡ Some y = sym a.at ∙ ap (slice_get m.items) place ∙ b.at in cc)
 
+  module _ (of_k : AreItemsUnique k) (of_m : AreItemsUnique m) where
     -- If the looks are contained at each index, one item set contains the other.
     pub within_covers : AreItemLooksWithin m.items k.items → Covers (Holds k) (Holds m)
     within_covers w p d a h =
@@ -110,7 +115,7 @@ module _ (g : PlainGrammar) (k m : Kernel) (of_k : IsItemList g k) (of_m : IsIte
         let own = own_item m i y at in
         let mine = partner_left y.production y.dot i y own in
         let z = item_that_holds k y.production y.dot a (c y.production y.dot a (holds_by_item m y.production y.dot i y a own h)) in
-        let one = item_unique g k of_k y.production y.dot z.0 i z.1 mine.0 z.2 mine.1 in
+        let one = of_k y.production y.dot z.0 i z.1 mine.0 z.2 mine.1 in
         let same : mine.0 ≡ x = (let two : Some mine.0 ≡ Some x = sym mine.1.at ∙ to in cc) in
         rw (one.1 ∙ same) at z.3
 
@@ -118,13 +123,13 @@ module _ (g : PlainGrammar) (k m : Kernel) (of_k : IsItemList g k) (of_m : IsIte
     common_meet : (p d q e i j : ℕ) (j1 j2 : Kernel) (x y : KernelItem) → IsItem j1 p d i x → IsItem j2 q e j y → ShareLook x.looks y.looks → HaveCommonLook (Holds j1) p d (Holds j2) q e
     common_meet p d q e i j j1 j2 x y a b c = (c.0, holds_by_item j1 p d i x c.0 a c.1, holds_by_item j2 q e j y c.0 b c.2)
 
-    look_of : (j1 : Kernel) → IsItemList g j1 → (p d i : ℕ) (x : KernelItem) (a : Look) → IsItem j1 p d i x → Holds j1 p d a → Contains x.looks a
+    look_of : (j1 : Kernel) → AreItemsUnique j1 → (p d i : ℕ) (x : KernelItem) (a : Look) → IsItem j1 p d i x → Holds j1 p d a → Contains x.looks a
     look_of j1 is p d i x a item h =
         let z = item_that_holds j1 p d a h in
-        let one = item_unique g j1 is p d z.0 i z.1 x z.2 item in
+        let one = is p d z.0 i z.1 x z.2 item in
         rw one.1 at z.3
 
-    meet_common : (p d q e i j : ℕ) (j1 j2 : Kernel) → IsItemList g j1 → IsItemList g j2 → (x y : KernelItem) → IsItem j1 p d i x → IsItem j2 q e j y → HaveCommonLook (Holds j1) p d (Holds j2) q e → ShareLook x.looks y.looks
+    meet_common : (p d q e i j : ℕ) (j1 j2 : Kernel) → AreItemsUnique j1 → AreItemsUnique j2 → (x y : KernelItem) → IsItem j1 p d i x → IsItem j2 q e j y → HaveCommonLook (Holds j1) p d (Holds j2) q e → ShareLook x.looks y.looks
     meet_common p d q e i j j1 j2 is1 is2 x y a b m = (m.0, look_of j1 is1 p d i x m.0 a m.1, look_of j2 is2 q e j y m.0 b m.2)
 
     module _ (p d q e i j : ℕ) (a b c f : KernelItem) (at_a : IsItem k p d i a) (at_b : IsItem m p d i b) (at_c : IsItem k q e j c) (at_f : IsItem m q e j f) where
@@ -149,7 +154,7 @@ module _ (g : PlainGrammar) (k m : Kernel) (of_k : IsItemList g k) (of_m : IsIte
         let u : IsItem m c.production c.dot j f = (let one = paired.1 j c f at_c at_f in record { at = at_f; production = sym one.0; dot = sym one.1 }) in
         suits_fit a.production a.dot c.production c.dot i j a b c f x y z u (w a.production a.dot c.production c.dot (λ t v.
         let same : IsItem k a.production a.dot j c = record { at = at_c; production = sym t; dot = sym v } in
-        let e : i ≡ j = (item_unique g k of_k a.production a.dot i j a c x same).0 in
+        let e : i ≡ j = (of_k a.production a.dot i j a c x same).0 in
         omega arith))
 
     swap : (p d q e : ℕ) → ((HaveCommonLook (Holds k) q e (Holds m) p d → ⊥) × (HaveCommonLook (Holds k) p d (Holds m) q e → ⊥)) ⊎ (HaveCommonLook (Holds k) q e (Holds k) p d ⊎ HaveCommonLook (Holds m) q e (Holds m) p d) → ((HaveCommonLook (Holds k) p d (Holds m) q e → ⊥) × (HaveCommonLook (Holds k) q e (Holds m) p d → ⊥)) ⊎ (HaveCommonLook (Holds k) p d (Holds k) q e ⊎ HaveCommonLook (Holds m) p d (Holds m) q e)
@@ -161,13 +166,19 @@ module _ (g : PlainGrammar) (k m : Kernel) (of_k : IsItemList g k) (of_m : IsIte
     compatible_if_meets h p d q e apart = elim (find k.items p d) [
       | inl f ↦ elim (find k.items q e) [
         | inl s ↦ found f.0 f.1 s.0 s.1 (record { at = f.2; production = f.3; dot = f.4 }) (record { at = s.2; production = s.3; dot = s.4 })
-        | inr n ↦ inl ((λ x. n (place_of q e ((paired_core q e).1 (x.0, x.2)))), (λ x. n (place_of q e (x.0, x.1))))
+        | inr n ↦ inl ((λ x. n (partner_of q e (x.0, x.2))), (λ x. n (place_of q e (x.0, x.1))))
       ]
-      | inr n ↦ inl ((λ x. n (place_of p d (x.0, x.1))), (λ x. n (place_of p d ((paired_core p d).1 (x.0, x.2)))))
+      | inr n ↦ inl ((λ x. n (place_of p d (x.0, x.1))), (λ x. n (partner_of p d (x.0, x.2))))
     ]
       where
         place_of : (r s : ℕ) → IsInCore (Holds k) r s → Found k.items r s
         place_of r s x = let y = item_that_holds k r s x.0 x.1 in (y.0, y.1, y.2.at, y.2.production, y.2.dot)
+
+        partner_of : (r s : ℕ) → IsInCore (Holds m) r s → Found k.items r s
+        partner_of r s x =
+            let y = item_that_holds m r s x.0 x.1 in
+            let z = partner_left r s y.0 y.1 y.2 in
+            (y.0, z.0, z.1.at, z.1.production, z.1.dot)
 
         found : (i : ℕ) (a : KernelItem) (j : ℕ) (c : KernelItem) → IsItem k p d i a → IsItem k q e j c → ((HaveCommonLook (Holds k) p d (Holds m) q e → ⊥) × (HaveCommonLook (Holds k) q e (Holds m) p d → ⊥)) ⊎ (HaveCommonLook (Holds k) p d (Holds k) q e ⊎ HaveCommonLook (Holds m) p d (Holds m) q e)
         found i a j c at_a at_c =
@@ -184,6 +195,14 @@ module _ (g : PlainGrammar) (k m : Kernel) (of_k : IsItemList g k) (of_m : IsIte
                     absurd (apart (sym at_a.production ∙ ap (λ (x : KernelItem). x.production) is ∙ at_c.production) (sym at_a.dot ∙ ap (λ (x : KernelItem). x.dot) is ∙ at_c.dot)))
               ]
             ]
+
+-- Lists whose items have the same places at each index have one core.
+module _ (g : PlainGrammar) (k m : Kernel) (of_k : IsItemList g k) (of_m : IsItemList g m) (paired : HaveSameCoreList k.items m.items) where
+  pub paired_core : HaveSameCore (Holds k) (Holds m)
+  paired_core p d = (
+    (λ h. let x = item_that_holds k p d h.0 h.1 in let y = partner_right k m paired p d x.0 x.1 x.2 in item_in_core g m of_m p d x.0 y.0 y.1),
+    (λ h. let y = item_that_holds m p d h.0 h.1 in let x = partner_left k m paired p d y.0 y.1 y.2 in item_in_core g k of_k p d y.0 x.0 x.1),
+  )
 
 bare_rising : (xs : List KernelItem) → IsRising IsItemBefore xs → IsRising IsItemBefore (map core_item xs)
 bare_rising [] r = tt
@@ -230,3 +249,7 @@ module _ (g : PlainGrammar) (k m : Kernel) (of_k : IsItemList g k) (of_m : IsIte
 
   pub core_paired : HaveSameCoreList k.items m.items
   core_paired = paired_if_cores_equal k.items m.items cores_equal
+
+  -- Two item lists of one grammar with the same core are kernels of one core.
+  pub have_one_core : HaveOneCore k m
+  have_one_core = record { count = core_paired.0; places = core_paired.1; rising = of_k.rising }

@@ -1,10 +1,10 @@
 //! The search for the target state of a move.
 ghost use Rattle.std.specs.Prelude.{◌≡◌, ◌<◌, ◌≤◌, ◌↔◌, ℕ, Some, slice_get, IsTrue, MatchOption};
-ghost use Rattle.mh_grammar.specs.Plain.{PlainGrammar, plain_of};
+ghost use Rattle.mh_grammar.specs.Plain.{plain_of};
 ghost use Rattle.mh_items_kernels.specs.KernelTypes.{Kernel as KernelOf};
 ghost use Rattle.mh_items_kernels.specs.Kernels.{Holds, IsItemList};
 ghost use Rattle.mh_pager_steps.specs.code.Cores.{AreCandidates};
-ghost use Rattle.mh_pager_steps.specs.WeakCompatibility.{HaveSameCore, Covers, AreCompatible};
+ghost use Rattle.mh_pager_steps.specs.WeakCompatibility.{HaveSameCore, HaveOneCore, Covers, AreCompatible};
 ghost use Rattle.mh_pager_steps.specs.code.StateTests.{PassesTest, HasCoreAndPasses};
 ghost use Rattle.mh_pager_steps.specs.FirstState.{IsFirst, HasNoneWith};
 
@@ -26,8 +26,7 @@ pub enum StateTest {
 /// items already have a look in common within one of the kernels. It takes no memory.
 pub fn weakly_compatible<const W: usize>(left: &Kernel<W>, right: &Kernel<W>) -> bool
     requires few { W ≤ 8 }
-    requires kernels { (g : PlainGrammar) × IsItemList g left.now × IsItemList g right.now }
-    requires core { HaveSameCore (Holds left.now) (Holds right.now) }
+    requires core { HaveOneCore left.now right.now }
     ensures { IsTrue result ↔ AreCompatible (Holds left.now) (Holds right.now) }
 {
     are_compatible(left.items.as_slice(), right.items.as_slice())

@@ -1,8 +1,6 @@
 -- Proves that the sentence of the best candidate of a state comes first of all sentences that fail there.
-use Rattle.std.proofs.Common.{◌≡◌, ℕ, ◌+◌, ◌<◌, ◌≤◌, inl, inr, List, [], ◌∷◌, ◌++◌, length, Some, None, Option, refl, ap, sym, subst, arith, length-append, ◌∙◌}
+use Rattle.std.proofs.Common.{◌≡◌, ℕ, ◌+◌, ◌<◌, inl, inr, List, [], ◌∷◌, ◌++◌, length, Some, None, Option, refl, ap, sym, subst, arith, length-append, ◌∙◌}
 use Rattle.std.specs.Prelude.{IfSome, min}
-use Rattle.std.specs.List.{AllByRecursion}
-use Rattle.std.proofs.lemmas.Grind.{common_steps}
 use Rattle.std.proofs.lemmas.Bool.{cases_lt}
 use Rattle.mh_tables_core.specs.Table.{TableData, cost_of_token}
 use Rattle.mh_tables_core.specs.Facts.{Facts}
@@ -10,11 +8,9 @@ use Rattle.mh_tables_core.specs.Failing.{Fails, cost_by, cost_of_word}
 use Rattle.mh_tables_core.specs.Run.{Refuses, run_move_of}
 use Rattle.mh_facts.specs.declared.store.FactKey.{FactKey}
 use Rattle.mh_facts.specs.Stored.{Facts as Stored}
-use Rattle.mh_facts.specs.code.BestFirst.{Label, extended_label, HasNoLater, HasNoLaterLabel, LabelsClosedBy}
+use Rattle.mh_facts.specs.code.BestFirst.{Label, extended_label}
 use Rattle.mh_facts.specs.Costs.{cap}
-use Rattle.mh_facts.specs.code.Orders as orders
 use Rattle.mh_facts.proofs.LeastSentences.{fails_candidate, closed_reached, candidate_fails}
-use Rattle.mh_facts.proofs.SearchInvariant.{closes_all_at}
 use Rattle.mh_grammar.proofs.Lists.{get_cases, below_next}
 use Rattle.mh_grammar.proofs.WordOrder.{lex_refl}
 use Rattle.mh_facts.specs.declared.classes.TokenClasses.{TokenClasses}
@@ -23,18 +19,18 @@ use Rattle.mh_reach_found.proofs.AllNumbered.{all_numbered}
 use Rattle.mh_reach_found.specs.declared.arrivals.StateAndNext.{StateAndNext}
 use Rattle.mh_reach_found.specs.declared.arrivals.Arrival.{Arrival}
 use Rattle.mh_reach.specs.declared.sentences.FailureCandidate.{FailureCandidate}
-use Rattle.mh_facts.specs.code.TokenClasses.{rep_of}
+use Rattle.mh_facts.specs.code.TokenClasses.{AreTokenClasses, rep_of}
 use Rattle.mh_facts.specs.code.WordAssignment.{WordNoLater, cost_up_to_cap, weigh}
-use Rattle.mh_reach_found.specs.code.SearchResult.{GotoFactsIn}
 use Rattle.mh_reach_found.specs.code.Arrivals.{LabelNoLater, ArrivalList, LabelBy, HasArrival, arrival_at, labels_at, AreLeastArrivalsFor}
 use Rattle.mh_reach_found.specs.code.SentenceComparison.{HasAssignments, numbers_of}
 use Rattle.mh_reach.specs.Reaching.{LeastCost}
-use Rattle.mh_reach.specs.code.Candidates.{CostsAreCapped, InOrderOr, IsNoWorse, IsBetterOf, IsBetterOfOptions, IsCandidateOn, IsBestBelow, best_for, step_of, spot_of, IsBestCandidate, IsBestAt, AreBest, IsReachResult}
+use Rattle.mh_reach.specs.code.Candidates.{CostsAreCapped, IsNoWorse, IsBetterOf, IsBetterOfOptions, IsCandidateOn, IsBestBelow, best_for, step_of, spot_of, IsBestCandidate, IsBestAt, AreBest, IsReachResult}
 use Rattle.mh_facts.proofs.WordAssignment.{capped_one, weigh_word, order_laws, min_cap, option_unique}
 use Rattle.mh_reach_found.proofs.LabelOrder.{label_laws, by_numbers, cheaper_at, both_over}
 use Rattle.mh_reach_found.proofs.StateAndNextKeys.{label_unique}
 use Rattle.mh_reach_found.proofs.SentenceParts.{precedes_trans}
 use Rattle.mh_reach_found.proofs.LabelTrace.{arrived_at}
+use Rattle.mh_reach.proofs.ComingLabel.{coming_at, in_order, labels_closed, no_dearer_to}
 
 pub best_begins : (t : TableData) (c : TokenClasses) (facts : Stored) (spots : ArrivalList) (s : ℕ) → IsBestBelow t c facts spots s 0 None
 best_begins t c facts spots s z r lt refuses e = absurd (omega arith)
@@ -96,13 +92,6 @@ module _ (t : TableData) (c : TokenClasses) (facts : Stored) (spots : ArrivalLis
 pub capped_cost : (t : TableData) (f : Facts t) (s i : ℕ) (w : List ℕ) → Fails t i w s → cost_up_to_cap t w ≡ min (cost_of_word t w) cap
 capped_cost t f s i w fails = ap (λ (n : ℕ). min n cap) (weigh_word t f w fails.sentence.tokens)
 
--- Labels that are in order are in order as sentences of a catalogue, or both have the highest cost.
-in_order : (t : TableData) (f : Facts t) (k l : Label) → AllByRecursion (λ z. z < t.grammar.tokens) k.word → AllByRecursion (λ z. z < t.grammar.tokens) l.word → LabelNoLater t k l → InOrderOr t k.start k.word l.start l.word
-in_order t f k l a b (orders.SentenceLe.Cheaper lt) = let e = weigh_word t f k.word a in let g = weigh_word t f l.word b in inl (inl (omega (arith, e, g, lt)))
-in_order t f k l a b (orders.SentenceLe.Over x y) = let e = weigh_word t f k.word a in let g = weigh_word t f l.word b in inr (omega (arith, e, x), omega (arith, g, y))
-in_order t f k l a b (orders.SentenceLe.Sooner same lt) = inl (inr (sym (weigh_word t f k.word a) ∙ same ∙ weigh_word t f l.word b, inl lt))
-in_order t f k l a b (orders.SentenceLe.Lower same start le) = inl (inr (sym (weigh_word t f k.word a) ∙ same ∙ weigh_word t f l.word b, inr (start, le)))
-
 module _ (t : TableData) (f : Facts t) (c : TokenClasses) (found : SearchResult) (spots : ArrivalList) (h : AreLeastArrivalsFor t c found spots) where
   abbrev rep : ℕ → ℕ → ℕ
   rep = rep_of c
@@ -112,9 +101,6 @@ module _ (t : TableData) (f : Facts t) (c : TokenClasses) (found : SearchResult)
 
   abbrev words : FactKey → Option (List ℕ)
   words = h.found_is.word_assignment.words
-
-  closed : LabelsClosedBy t rep words (labels_at labels) (HasNoLaterLabel (LabelNoLater t) (labels_at labels))
-  closed = closes_all_at t rep (WordNoLater t) (LabelNoLater t) (order_laws t) (label_laws t) words (GotoFactsIn c words found.work) (labels_at labels) (HasNoLater (WordNoLater t) words) h.found_is.closed h.arrived.closed
 
   pub costs_are_capped : CostsAreCapped spots
   costs_are_capped k r e = let told = h.arrived.label_assignment.some k r e in let m = min_cap (cost_by (weigh t) told.label.word) in let is = told.cost_is in omega (arith, is, m)
@@ -136,7 +122,7 @@ module _ (t : TableData) (f : Facts t) (c : TokenClasses) (found : SearchResult)
   candidate : (s i : ℕ) (w : List ℕ) → Fails t i w s → (z : ℕ) × (k : RefusedArrival s z) × LabelNoLater t (extended_label k.label (z ∷ [])) (record { start = i; word = w })
   candidate s i w fails =
       let got = fails_candidate t f rep (WordNoLater t) (LabelNoLater t) (order_laws t) (label_laws t) (labels_at labels)
-      (closed_reached t f rep (WordNoLater t) (LabelNoLater t) (order_laws t) (label_laws t) words h.found_is.complete (labels_at labels) closed) i s w fails in
+      (closed_reached t f rep (WordNoLater t) (LabelNoLater t) (order_laws t) (label_laws t) words h.found_is.complete (labels_at labels) (labels_closed t f c found spots h)) i s w fails in
       let z = got.0 in
       let l = got.1 in
       let there = arrived_at t words spots h.arrived.label_assignment (spot_of c s z) l got.2.reached_at in
@@ -182,17 +168,19 @@ module _ (t : TableData) (f : Facts t) (c : TokenClasses) (found : SearchResult)
             rw token (in_order t f (extended_label l (z ∷ [])) (record { start = i; word = w }) fails.sentence.tokens other.sentence.tokens all));
       }
 
-  pub is_reach : (best : List (Option FailureCandidate)) → AreBest t c found.store spots (length t.states) best → IsReachResult t found.store spots best
-  is_reach best a = record { word_assignment = h.found_is.word_assignment; label_assignment = h.arrived.label_assignment; len = a.len; each = λ s b e. best_at s b (a.each s b e) }
-
-no_dearer : (t : TableData) (i : ℕ) (u : List ℕ) (i' : ℕ) (v : List ℕ) → InOrderOr t i u i' v → min (cost_of_word t u) cap ≤ min (cost_of_word t v) cap
-no_dearer t i u i' v (inl (inl lt)) = grind (arith, common_steps, lt)
-no_dearer t i u i' v (inl (inr (e, rest))) = grind (arith, common_steps, e)
-no_dearer t i u i' v (inr (a, b)) = grind (arith, common_steps, a, b)
+  pub is_reach : AreTokenClasses t c → (best : List (Option FailureCandidate)) → AreBest t c found.store spots (length t.states) best → IsReachResult t c found.store spots best
+  is_reach classes best a = record {
+    sized = classes.sized;
+    word_assignment = h.found_is.word_assignment;
+    label_assignment = h.arrived.label_assignment;
+    len = a.len;
+    each = λ s b e. best_at s b (a.each s b e);
+    comings = coming_at t f c found spots h;
+  }
 
 pub least_cost : (t : TableData) (words : FactKey → Option (List ℕ)) (labels : StateAndNext → Option Label) (s : ℕ) (b : FailureCandidate) → IsBestCandidate t words labels s b → LeastCost t s (Some b.cost)
 least_cost t words labels s b h = (
-  λ i w fails. (let le = no_dearer t h.label.start (h.label.word ++ b.token ∷ []) i w (h.first i w fails) in let e = h.cost_is in omega (arith, le, e)),
+  λ i w fails. (let le = no_dearer_to t h.label.start (h.label.word ++ b.token ∷ []) i w (h.first i w fails) in let e = h.cost_is in omega (arith, le, e)),
   (h.label.start, h.label.word ++ b.token ∷ [], h.fails, h.cost_is),
 )
 

@@ -1,4 +1,6 @@
 mod BetterCandidate
 mod BestCandidate
+mod Coming
+mod ComingLabel
 mod FailsFirst
 mod WritesWord

@@ -177,24 +177,25 @@ fn store_of(found: SearchResult) -> FactStore
     found.store
 }
 
-/// Chooses the best candidates, and keeps the parts of both results that spell their sentences. Fails for want of
-/// memory alone.
+/// Chooses the best candidates, and keeps the classes and the parts of both results that spell sentences. Fails for
+/// want of memory alone.
 pub(crate) fn reach_by<'t>(
     alloc: Global,
     table: &'t Halting,
-    classes: &TokenClasses,
+    classes: TokenClasses,
     found: SearchResult,
     arrivals: Arrivals,
 ) -> Result<Reach<'t>, Memory>
-    requires classes { AreTokenClasses table.now classes.now }
-    requires arrivals { AreLeastArrivalsFor table.now classes.now found arrivals.spots }
+    requires classes { AreTokenClasses table.now classes }
+    requires arrivals { AreLeastArrivalsFor table.now classes found arrivals.spots }
     ensures { IfOk result (λ reach. reach ≡ table.now) }
 {
     let inner = table.table();
     inner.facts();
-    match all_best(alloc, inner, classes, &found, &arrivals) {
+    match all_best(alloc, inner, &classes, &found, &arrivals) {
         Ok(best) => Ok(Reach {
             table,
+            classes,
             store: store_of(found),
             arrivals,
             best,
@@ -202,6 +203,7 @@ pub(crate) fn reach_by<'t>(
         Err(memory) => {
             // Each value is dropped by one call: at the end of a scope its fields would be dropped one by one, which
             // takes long to prove.
+            drop(classes);
             drop(found);
             drop(arrivals);
             Err(memory)

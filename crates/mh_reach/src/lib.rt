@@ -1,6 +1,8 @@
-//! The least sentence that fails in each state (Pottier 2016).
+//! The least sentence that fails in each state (Pottier 2016), and the least that comes to a state with a given token
+//! next.
 //!
-//! `reach` runs both searches of a table; `Reach` gives the least cost and the first sentence of each state.
+//! `reach` runs both searches of a table; `Reach` gives the least cost and the first sentence of each state, also with
+//! a given token next.
 //!
 //! A *path* is a state with the first symbols of a production's right side. A *fact* is a path with a word, and with a
 //! first and a next token: with the word and then the next token to come, a run follows the path and shifts the word.
@@ -18,21 +20,25 @@
 //! 3. `mh_reach_arrivals`: the second search settles, for each state with a next token, the least sentence with which a
 //!    run reaches the state. It begins in the states of the starts and continues by shifts and by the goto facts of the
 //!    first search, again by cost and then by sentence.
-//! 4. `candidates`: a state that refuses a token and is reached with this token next has a candidate, which is the sentence
-//!    of the arrival and the token. The least candidate of all tokens is kept.
-//! 5. `sentences`, `spell`: the sentence is spelled backwards, from each arrival and fact to those that it was derived
+//! 4. `candidates`: a state that refuses a token and is reached with this token next has a candidate, which is the
+//!    sentence of the arrival and the token. The least candidate of all tokens is kept.
+//! 5. `sentences`: the sentence of an arrival is also the first that comes to its state with its token next.
+//! 6. `sentences`, `spell`: the sentence is spelled backwards, from each arrival and fact to those that it was derived
 //!    from.
 //!
 //! The result is complete because both searches are closed under the rules: for each sentence that the rules refuse in
 //! a state there is a candidate that comes no later, or both cost more than 1,000,000. The law
 //! `mh_facts::failures_are_reached` says that the sentences that the rules refuse in a state are exactly those that
-//! fail there.
+//! fail there; `comings_are_reached` says that the sentences with which the rules reach a state are exactly
+//! those that come there.
 #![tactic(auto)]
 
 mod candidates;
+mod laws;
 mod searches;
 mod sentences;
 mod spell;
 
+pub use laws::comings_are_reached;
 pub use searches::reach;
 pub use sentences::Reach;

@@ -1,6 +1,7 @@
 //! Both searches of a table, one after the other.
 ghost use Rattle.std.specs.Prelude.{◌≡◌, IfOk};
 ghost use Rattle.mh_facts.specs.code.TokenClasses.{AreTokenClasses};
+ghost use Rattle.mh_reach_found.specs.code.Arrivals.{AreLeastArrivalsFor};
 
 use crate::candidates::reach_by;
 use crate::sentences::Reach;
@@ -8,31 +9,39 @@ use mh_facts::TokenClasses;
 use mh_grammar::Memory;
 use mh_reach_arrivals::arrive::arrive;
 use mh_reach_classes::classes_of;
+use mh_reach_found::{Arrivals, SearchResult};
 use mh_reach_paths::search;
-use mh_tables_core::Halting;
+use mh_tables_core::{Halting, Table};
 use std::alloc::Global;
 
-/// Searches a table with the given token classes.
-fn reach_over<'t>(
+/// Runs both searches of a table with the given token classes.
+fn searched(
     alloc: Global,
-    table: &'t Halting,
+    table: &Table,
     classes: &TokenClasses,
-) -> Result<Reach<'t>, Memory>
+) -> Result<(SearchResult, Arrivals), Memory>
     requires { AreTokenClasses table.now classes.now }
-    ensures { IfOk result (λ reach. reach ≡ table.now) }
+    ensures { IfOk result (λ r. AreLeastArrivalsFor table.now classes.now r.0 r.1.spots) }
 {
-    let inner = table.table();
-    let found = search(alloc, inner, classes)?;
-    let arrivals = arrive(alloc, inner, classes, &found)?;
-    reach_by(alloc, table, classes, found, arrivals)
+    let found = search(alloc, table, classes)?;
+    let arrivals = arrive(alloc, table, classes, &found)?;
+    Ok((found, arrivals))
 }
 
-/// Finds, for each state of a table, whether a sentence fails there, and the first sentence that does. The contract
-/// names only the table of the result; what was found is in the invariant of `Reach`, from which its calls promise
-/// their results. Fails for want of memory alone.
+/// Finds, for each state of a table, whether a sentence fails there, and the first sentence that does; and for each
+/// token, whether a sentence comes to the state with this token next, and the first that does. The contract names only
+/// the table of the result; what was found is in the invariant of `Reach`, from which its calls promise their results.
+/// Fails for want of memory alone.
 pub fn reach<'t>(alloc: Global, table: &'t Halting) -> Result<Reach<'t>, Memory>
     ensures { IfOk result (λ reach. reach ≡ table.now) }
 {
-    let classes = classes_of(alloc, table.table())?;
-    reach_over(alloc, table, &classes)
+    let inner = table.table();
+    let classes = classes_of(alloc, inner)?;
+    match searched(alloc, inner, &classes) {
+        Ok((found, arrivals)) => reach_by(alloc, table, classes, found, arrivals),
+        Err(memory) => {
+            drop(classes);
+            Err(memory)
+        }
+    }
 }

@@ -1,12 +1,15 @@
-//! The least cost of a sentence that fails in a state, and the first sentence of that cost. A spot is a state with a
-//! next token.
+//! The least cost of a sentence that fails in a state, and the first sentence of that cost; the same for the sentences
+//! that come to a state with a given token next. A spot is a state with a next token.
 ghost use Rattle.std.specs.Prelude.{◌≡◌, ◌<◌, IfOk, length};
 ghost use Rattle.mh_tables_core.specs.Failing.{FailsFirst, FailsWithinMaxCost};
+ghost use Rattle.mh_reach.specs.Coming.{FirstComing, ComesWithinMaxCost};
+ghost use Rattle.mh_facts.specs.code.TokenClasses.{IsSized};
+ghost use Rattle.mh_reach.specs.code.Candidates.{spot_of};
 ghost use Rattle.mh_reach.specs.code.Spelling.{HasLabel, WritesSentence};
-ghost use Rattle.mh_reach.specs.Reaching.{LeastCost};
+ghost use Rattle.mh_reach.specs.Reaching.{LeastCost, LeastCostTo};
 
 use crate::spell::spell;
-use mh_facts::FactStore;
+use mh_facts::{FactStore, TokenClasses, class_of};
 use mh_grammar::{Memory, Sentence, Sequence, Token};
 use mh_reach_found::{ArrivalStep, Arrivals, StateAndNext, arrival_of};
 use mh_tables_core::{Halting, Table};
@@ -22,10 +25,12 @@ pub struct FailureCandidate {
     pub token: Token,
 }
 
-/// For each state of a table, whether a sentence fails there, and the first sentence that does.
+/// For each state of a table, whether a sentence fails there, and the first sentence that does; and for each token,
+/// whether a sentence comes to the state with the token next, and the first that does.
 #[derive(Drop)]
 pub struct Reach<'t> {
     pub(crate) table: &'t Halting,
+    pub(crate) classes: TokenClasses,
     pub(crate) store: FactStore,
     pub(crate) arrivals: Arrivals,
     pub(crate) best: Vec<Option<FailureCandidate>>,
@@ -39,7 +44,7 @@ impl<'t> Model for Reach<'t> {
 
     ghost view = { λ r. r.table.now };
 
-    ghost invariant = { λ r. IsReachResult r.table.now r.store r.arrivals.spots r.best.items };
+    ghost invariant = { λ r. IsReachResult r.table.now r.classes r.store r.arrivals.spots r.best.items };
 }
 
 /// Appends the tokens of a spot's sentence to `backwards`, from the last to the first. Returns the number of its start.
@@ -73,7 +78,27 @@ fn walk(
     }
 }
 
+/// The spot of a state with a token next, by the representative of the token.
+fn spot_of(table: &Table, classes: &TokenClasses, state: u32, token: Token) -> StateAndNext
+    requires sized { IsSized table.now classes.now }
+    requires state { state < length table.now.states }
+    requires token { token < table.now.grammar.tokens }
+    ensures { result ≡ spot_of classes.now state token }
+{
+    StateAndNext {
+        state,
+        next: class_of(table, classes, state, token).representative,
+    }
+}
+
 impl<'t> Reach<'t> {
+    /// The table that was searched.
+    pub fn table(&self) -> &'t Halting
+        ensures { result.now ≡ self.now }
+    {
+        self.table
+    }
+
     /// The least cost of a sentence that fails in a state, none if no sentence does. The cost 1,000,001 means more than
     /// 1,000,000.
     pub fn cost_of(&self, state: u32) -> Option<u32>
@@ -114,5 +139,47 @@ impl<'t> Reach<'t> {
                 })
             }
         }
+    }
+
+    /// The least cost of a sentence that comes to a state with this token next, none if no sentence does. The token
+    /// next has no part in the cost. The cost 1,000,001 means more than 1,000,000.
+    pub fn cost_to(&self, state: u32, token: Token) -> Option<u32>
+        requires state { state < length self.now.states }
+        requires token { token < self.now.grammar.tokens }
+        ensures { LeastCostTo self.now state token result }
+    {
+        let table = self.table.table();
+        let spot = spot_of(table, &self.classes, state, token);
+        match arrival_of(&self.arrivals, spot) {
+            None => None,
+            Some(arrival) => Some(arrival.cost),
+        }
+    }
+
+    /// The first of the sentences that come to a state with this token next, without this token: by cost, then by
+    /// start, then by the numbers of the tokens in lexicographic order. A sentence that costs at most 1,000,000 must
+    /// come there. Fails for want of memory alone.
+    pub fn sentence_to(&self, alloc: Global, state: u32, token: Token) -> Result<Sentence, Memory>
+        requires state { state < length self.now.states }
+        requires token { token < self.now.grammar.tokens }
+        requires cheap { ComesWithinMaxCost self.now state token }
+        ensures { IfOk result (λ sentence. FirstComing self.now sentence.start sentence.tokens state token) }
+    {
+        let table = self.table.table();
+        let spot = spot_of(table, &self.classes, state, token);
+        let mut backwards = Vec::new(alloc);
+        let start = walk(
+            alloc,
+            table,
+            &self.store,
+            &self.arrivals,
+            spot,
+            &mut backwards,
+        )?;
+        backwards.reverse();
+        Ok(Sentence {
+            start,
+            tokens: Sequence::from_vec(backwards),
+        })
     }
 }

@@ -11,7 +11,7 @@ ghost use Rattle.mh_facts.specs.code.TokenClasses.{AreTokenClasses, place_of};
 ghost use Rattle.mh_facts.specs.code.SearchRules.{IsUniqueItem};
 ghost use Rattle.mh_reach_found.specs.code.SearchResult.{IsSearchResult};
 ghost use Rattle.mh_reach_found.specs.code.Arrivals.{AreLeastArrivalsFor};
-ghost use Rattle.mh_reach_arrivals.specs.code.ArrivalSearch.{TakesNextArrival, StepsOn, StepsAlong, StepsEdge, StepsShift, StepsOverGoto, IsStartArrival, KeepsUnreached, TakesAllUnreached, ArrivalInvariantFor, ArrivalsReadyFor};
+ghost use Rattle.mh_reach_arrivals.specs.code.ArrivalSearch.{CanStepFrom, TakesNextArrival, StepsOn, StepsAlong, StepsEdge, StepsShift, StepsOverGoto, IsStartArrival, KeepsUnreached, TakesAllUnreached, ArrivalInvariantFor, ArrivalsReadyFor};
 ghost use Rattle.mh_reach_found.specs.code.SentenceComparison.{HasAssignments};
 ghost use Rattle.mh_reach_arrivals.specs.code.ArrivalOrder.{AreKnownSteps, SentenceNoLater};
 ghost use Rattle.mh_reach_words.specs.code.Sorting.{IsSorted, HaveSameElements};
@@ -64,9 +64,7 @@ fn step_edge(
     from: SettledArrival,
     edge: Edge,
 ) -> Result<(), Memory>
-    requires classes { AreTokenClasses table.now classes.now }
-    requires state { from.spot.state < length table.now.states }
-    requires cost { from.cost ≤ cap }
+    requires from { CanStepFrom table.now classes.now from.spot from.cost }
     requires edge { edge_of table.now from.spot.state edge.symbol ≡ Some edge.target }
     ensures { OnOk result (QueueGains (StepsEdge table.now classes.now from.spot from.cost edge) queue.old.buckets.items queue.new.buckets.items) }
 {
@@ -86,9 +84,7 @@ fn step_on(
     from: SettledArrival,
     token: Token,
 ) -> Result<(), Memory>
-    requires classes { AreTokenClasses table.now classes.now }
-    requires state { from.spot.state < length table.now.states }
-    requires cost { from.cost ≤ cap }
+    requires from { CanStepFrom table.now classes.now from.spot from.cost }
     requires token { token < table.now.grammar.tokens }
     ensures { OnOk result (QueueGains (StepsAlong table.now classes.now from.spot from.cost token) queue.old.buckets.items queue.new.buckets.items) }
 {
@@ -124,9 +120,7 @@ fn step_shifts(
     queue: &mut Queue<WaitingArrival>,
     from: SettledArrival,
 ) -> Result<(), Memory>
-    requires classes { AreTokenClasses table.now classes.now }
-    requires state { from.spot.state < length table.now.states }
-    requires cost { from.cost ≤ cap }
+    requires { CanStepFrom table.now classes.now from.spot from.cost }
     ensures { OnOk result (QueueGains (StepsShift table.now classes.now from.spot from.cost) queue.old.buckets.items queue.new.buckets.items) }
 {
     table.facts();

@@ -5,7 +5,7 @@ ghost use Rattle.mh_grammar.specs.Plain.{production_count};
 ghost use Rattle.mh_tables_core.specs.Table.{edge_of};
 ghost use Rattle.mh_facts.specs.code.ByLeftSide.{IsByLeftSide};
 ghost use Rattle.mh_facts.specs.code.Queues.{ListGains};
-ghost use Rattle.mh_reach_classes.specs.code.Reductions.{EndOf, IsReductionBy, IsReductionByAny, IsReductionOverEdge, IsReductionFrom, AreAllReductions};
+ghost use Rattle.mh_reach_classes.specs.code.Reductions.{IsPathEndOrNone, IsReductionBy, IsReductionByAny, IsReductionOverEdge, IsReductionFrom, AreAllReductions};
 
 use indexmap::IndexSet;
 use mh_facts::{ByLeftSide, productions_of};
@@ -25,7 +25,7 @@ pub struct Reduction {
 fn end_of(table: &Table, from: u32, production: u32) -> Option<u32>
     requires from { from < length table.now.states }
     requires production { production < production_count table.now.grammar }
-    ensures { EndOf table.now from production result }
+    ensures { IsPathEndOrNone table.now from production result }
 {
     table.facts();
     let mut end = from;
@@ -133,7 +133,7 @@ fn note_in(
 }
 
 /// Returns all reductions that lead to states. Fails for want of memory alone.
-pub fn past_of(
+pub fn reductions_to_states(
     alloc: Global,
     table: &Table,
     left: &ByLeftSide,

@@ -6,7 +6,7 @@ ghost use Rattle.mh_reach_classes.specs.code.Reductions.{AreAllReductions};
 ghost use Rattle.mh_facts.specs.code.TokenClasses.{AreTokenClasses, rep_of};
 ghost use Rattle.mh_reach_classes.specs.code.ClassRows.{IsAtRepresentative, IsClassRow, IsClassFor, AddsRow, IsPartition, TreatsAlike, TreatsAllAlike, RepresentThemselves, are_treated_alike};
 
-use crate::leading_reductions::{Reduction, past_of};
+use crate::leading_reductions::{Reduction, reductions_to_states};
 use indexmap::IndexSet;
 use mh_facts::{TokenClass, TokenClasses, by_left_side, class_of};
 use mh_grammar::{Memory, Token};
@@ -409,7 +409,7 @@ fn all_past(alloc: Global, table: &Table) -> Result<IndexSet<Reduction>, Memory>
     ensures { IfOk result (λ past. AreAllReductions table.now past.keys) }
 {
     let left = by_left_side(alloc, table)?;
-    past_of(alloc, table, &left)
+    reductions_to_states(alloc, table, &left)
 }
 
 /// The classes that the refinement finds, untested.

@@ -285,7 +285,7 @@ module _ (t : TableData) (f : Facts t) (c : TokenClasses) (cls : AreTokenClasses
         let d : p.key.dot + 1 ≡ suc p.key.dot = omega arith in
         waits (min (p.cost + v.cost) cap) o (key p.key.from p.key.production (suc p.key.dot) p.key.first v.next) (u ++ m) there (rw d refl) (u, m, a, b, refl)
 
-    -- A complete path gives a goto fact, which is filed, unless the same goto fact was filed before.
+    -- A complete path gives a goto fact: the path is added to its row, unless a path with the same goto fact is there.
     asks_whole : (z g : ℕ) → i.key.dot ≡ length (rhs_of t.grammar i.key.production) → edge_of t i.key.from (N (lhs_of t.grammar i.key.production)) ≡ Some g → run_move_of t i.end (rep g z ∷ []) ≡ Reduces i.key.production → rep i.end (rep g z) ≡ i.key.next → z < t.grammar.tokens
         → (u : List ℕ) × GotoFactsIn c later new i.key.from (lhs_of t.grammar i.key.production) i.key.first (rep g z) u × WordNoLater t u w
     asks_whole z g whole edge move after lt =

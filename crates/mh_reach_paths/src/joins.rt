@@ -1,6 +1,6 @@
 //! The rules of the search: the facts that follow from settled facts. A fact is settled when it is stored with its
 //! least word.
-ghost use Rattle.std.specs.Prelude.{◌≡◌, ◌<◌, ◌≤◌, ◌↔◌, ◌+◌, ◌^◌, ◌∷◌, [], IfOk, IsTrue, OnOk, false, length, min, slice_get, Some};
+ghost use Rattle.std.specs.Prelude.{◌≡◌, ◌<◌, ◌≤◌, ◌↔◌, ◌+◌, ◌^◌, ◌∷◌, [], IfOk, IsTrue, OnOk, false, min, slice_get, Some};
 ghost use Rattle.mh_grammar.specs.declared.types.Symbol.TheVariants.{T, N};
 ghost use Rattle.mh_grammar.specs.Plain.{rhs_of, lhs_of};
 ghost use Rattle.mh_tables_core.specs.Table.{edge_of};
@@ -10,9 +10,9 @@ ghost use Rattle.mh_facts.specs.declared.work.CompletePath.{CompletePath};
 ghost use Rattle.mh_facts.specs.declared.work.SettledFact.{SettledFact};
 ghost use Rattle.mh_facts.specs.code.Queues.{QueueGains, Among, AddsToRow};
 ghost use Rattle.mh_facts.specs.code.TokenClasses.{AreTokenClasses, rep_of, place_of};
-ghost use Rattle.mh_facts.specs.code.SearchRules.{InRange, FollowsShift, FollowsGoto, IsUniqueItem, HasRows, IsReady, ExpandsFact, complete_path_of, complete_paths_at};
+ghost use Rattle.mh_facts.specs.code.SearchRules.{InRange, FollowsShift, FollowsGoto, IsUniqueItem, IsReady, ExpandsFact, complete_path_of, complete_paths_at};
 ghost use Rattle.mh_tables_core.specs.Run.{Reduces, run_move_of};
-ghost use Rattle.mh_reach_paths.specs.code.GotoFacts.{WithNext, AddsGoto, AddsGotos};
+ghost use Rattle.mh_reach_paths.specs.code.GotoFacts.{WithNext, AddsGoto, AddsGotos, IsCompletePathIn};
 ghost use Rattle.mh_facts.specs.code.Queues.{ListGains};
 ghost use Rattle.mh_facts.specs.code.TokenClasses.{representatives_at};
 
@@ -242,10 +242,7 @@ fn meet_goto(
     inner: SettledFact,
     complete_path: CompletePath,
 ) -> Result<(), Memory>
-    requires classes { AreTokenClasses table.now classes.now }
-    requires rows { HasRows table.now classes.now work.old }
-    requires inner { InRange table.now inner }
-    requires complete { inner.key.dot ≡ length (rhs_of table.now.grammar inner.key.production) }
+    requires complete { IsCompletePathIn table.now classes.now work.old inner }
     requires complete_path { complete_path ≡ complete_path_of table.now inner complete_path.target complete_path.next }
     requires edge { edge_of table.now inner.key.from (N complete_path.nonterminal) ≡ Some complete_path.target }
     requires listed { Contains (representatives_at classes.now complete_path.target) complete_path.next }
@@ -284,10 +281,7 @@ fn meet_gotos(
     inner: SettledFact,
     target: u32,
 ) -> Result<(), Memory>
-    requires classes { AreTokenClasses table.now classes.now }
-    requires rows { HasRows table.now classes.now work.old }
-    requires inner { InRange table.now inner }
-    requires complete { inner.key.dot ≡ length (rhs_of table.now.grammar inner.key.production) }
+    requires complete { IsCompletePathIn table.now classes.now work.old inner }
     requires edge { edge_of table.now inner.key.from (N (lhs_of table.now.grammar inner.key.production)) ≡ Some target }
     ensures { OnOk result (AddsGotos table.now classes.now work.old work.new inner target (representatives_at classes.now target)) }
 {

@@ -26,7 +26,7 @@ use Rattle.mh_rules.specs.declared.modules.LevelDecl.{LevelDecl}
 use Rattle.mh_rules.specs.declared.modules.Module.{Module}
 use Rattle.mh_reader_parser.specs.declared.token_kinds.TokenKind.TheVariants as signs
 use Rattle.mh_reader_parser.specs.Costs.{cost_of}
-use Rattle.mh_reader_parser.specs.TokenKinds.{FileToken, cost_along, cost_after, file_token_by, token_kind_by, text_by, file_tokens}
+use Rattle.mh_reader_parser.specs.TokenKinds.{FileToken, cost_at_front, cost_after, file_token_by, token_kind_by, text_by, file_tokens}
 use Rattle.mh_reader_parser.specs.Spelling as spelling
 use Rattle.mh_rules.specs.Modules.{no_module}
 use Rattle.mh_reader_parser.specs.Spelling.{LimitedActual, ListOf, IsAlias, IsTokenItem, IsRef, Declaration, Producers, IsPrec, Productions, Groups, Modifiers, Formals, OptionalFormals, IsRule, Rules, File, Spells}
@@ -299,7 +299,7 @@ module_mixed m h =
 -- The cost of the first cost attribute among the attributes with which the lexemes begin.
 abbrev cost_before : List Piece → Option ℕ
 cost_before [] = None
-cost_before (t ∷ ts) = cost_along (token_kind_by t.0 t.1) t.1 (cost_before ts)
+cost_before (t ∷ ts) = cost_at_front (token_kind_by t.0 t.1) t.1 (cost_before ts)
 
 -- The token kinds, texts and costs that the grammar of grammar files reads from these lexemes.
 abbrev reads_with_costs : List Piece → List FileToken
@@ -321,13 +321,13 @@ plain_other (t ∷ ts) h = (plain_no t.0 h.0.1, plain_other ts h.1)
     plain_no kinds.Attribute e = cc
     plain_no _ e = refl
 
-other_along : (k : Kind) (t : List ℕ) (c : Option ℕ) → is_attribute k ≡ false → cost_along (token_kind_by k t) t c ≡ None
-other_along kinds.Attribute t c e = absurd (cc)
-other_along _ t c e = refl
+cost_at_front-other : (k : Kind) (t : List ℕ) (c : Option ℕ) → is_attribute k ≡ false → cost_at_front (token_kind_by k t) t c ≡ None
+cost_at_front-other kinds.Attribute t c e = absurd (cc)
+cost_at_front-other _ t c e = refl
 
 no_cost : (ts : List Piece) → AllByRecursion IsNoAttribute ts → cost_before ts ≡ None
 no_cost [] h = refl
-no_cost (t ∷ ts) h = other_along t.0 t.1 (cost_before ts) h.0
+no_cost (t ∷ ts) h = cost_at_front-other t.0 t.1 (cost_before ts) h.0
 
 -- Without attributes there are no costs.
 without_costs : (ts : List Piece) → AllByRecursion IsNoAttribute ts → reads_with_costs ts ≡ reads ts []
@@ -437,7 +437,7 @@ laid_reads bytes pre at (t ∷ ts) e n =
     let later = laid_reads bytes (pre ++ (t.1 ++ 32 ∷ [])) (at + length t.1 + 1) ts next place in
     let behind = laid_out_lexemes (at + length t.1 + 1) ts in
     record {
-      costs = ap (λ k. cost_along (token_kind_by t.0 k) k (cost_after bytes behind)) own ∙ ap (λ c. cost_along (token_kind_by t.0 t.1) t.1 c) later.costs;
+      costs = ap (λ k. cost_at_front (token_kind_by t.0 k) k (cost_after bytes behind)) own ∙ ap (λ c. cost_at_front (token_kind_by t.0 t.1) t.1 c) later.costs;
       reads = ap (λ k. file_token_by (token_kind_by t.0 k) (text_by t.0 k) (cost_after bytes behind) ++ file_tokens bytes behind) own ∙
           ap (λ c. file_token_by (token_kind_by t.0 t.1) (text_by t.0 t.1) c ++ file_tokens bytes behind) later.costs ∙ ap (λ k. file_token_by (token_kind_by t.0 t.1) (text_by t.0 t.1) (cost_before ts) ++ k) later.reads;
     }

@@ -1,5 +1,5 @@
--- Lemmas on the parser's step for token kinds that its state does not name, for the states of actuals; and on the
--- states in which no file may end.
+-- Lemmas on the default case of the parser's step in the states that read an actual, and on the states in which no file
+-- may end.
 use Rattle.std.proofs.Common.{◌≡◌, ℕ, List, [], None, refl}
 use Rattle.mh_rules.specs.declared.modules.Ref.{Ref}
 use Rattle.mh_rules.specs.declared.modules.Ref.TheVariants.{Plain}

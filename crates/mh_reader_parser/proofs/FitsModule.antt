@@ -28,7 +28,7 @@ use Rattle.mh_rules.specs.declared.modules.Module.{Module}
 use Rattle.mh_reader_parser.specs.declared.token_kinds.TokenKind.{TokenKind}
 use Rattle.mh_reader_parser.specs.declared.token_kinds.TokenKind.TheVariants as signs
 use Rattle.mh_reader_parser.specs.Costs.{cost_of}
-use Rattle.mh_reader_parser.specs.TokenKinds.{FileToken, cost_along, cost_after, file_token_by, token_kind_by, text_by, kind_of_mark, kind_of_keyword, kind_or_unknown, file_tokens, file_tokens_of, is_capital}
+use Rattle.mh_reader_parser.specs.TokenKinds.{FileToken, cost_at_front, cost_after, file_token_by, token_kind_by, text_by, kind_of_mark, kind_of_keyword, kind_or_unknown, file_tokens, file_tokens_of, is_capital}
 use Rattle.mh_reader_parser.specs.Spelling as spelling
 use Rattle.mh_rules.specs.Modules.{applied, alternative, no_module}
 use Rattle.mh_rules.specs.Ready.{IsTokenReady}
@@ -119,13 +119,13 @@ option_or-is_cost : (a b : Option ℕ) → IfSome a IsCost → IfSome b IsCost �
 option_or-is_cost None b h k = k
 option_or-is_cost (Some n) b h k = h
 
-along_ready : (o : Option TokenKind) (t : List ℕ) (c : Option ℕ) → IfSome c IsCost → IfSome (cost_along o t c) IsCost
-along_ready None t c h = option_or-is_cost (cost_of t) c (cost_of_is_cost t) h
-along_ready (Some g) t c h = tt
+cost_at_front-is_cost : (o : Option TokenKind) (t : List ℕ) (c : Option ℕ) → IfSome c IsCost → IfSome (cost_at_front o t c) IsCost
+cost_at_front-is_cost None t c h = option_or-is_cost (cost_of t) c (cost_of_is_cost t) h
+cost_at_front-is_cost (Some g) t c h = tt
 
 cost_after-is_cost : (bytes : List ℕ) (ls : List Lexeme) → IfSome (cost_after bytes ls) IsCost
 cost_after-is_cost bytes [] = tt
-cost_after-is_cost bytes (l ∷ ls) = along_ready (token_kind_by l.kind (bytes_of bytes l)) (bytes_of bytes l) (cost_after bytes ls) (cost_after-is_cost bytes ls)
+cost_after-is_cost bytes (l ∷ ls) = cost_at_front-is_cost (token_kind_by l.kind (bytes_of bytes l)) (bytes_of bytes l) (cost_after bytes ls) (cost_after-is_cost bytes ls)
 
 pub lexemes_fit : (bytes : List ℕ) (ls : List Lexeme) → AllByRecursion (HasTextOfKind bytes) ls → AllFit (file_tokens bytes ls)
 lexemes_fit bytes [] h = tt

@@ -25,7 +25,7 @@ use Rattle.mh_reader_parser.specs.declared.parser_states.ParserState.{ParserStat
 use Rattle.mh_reader_parser.specs.declared.parser_states.ParserState.TheVariants as places
 use Rattle.mh_reader_parser.specs.declared.parser_states.Parser.{Parser}
 use Rattle.mh_reader_parser.specs.Costs.{cost_of}
-use Rattle.mh_reader_parser.specs.TokenKinds.{FileToken, file_tokens, file_token_by, token_kind_by, text_by, cost_along, cost_after}
+use Rattle.mh_reader_parser.specs.TokenKinds.{FileToken, file_tokens, file_token_by, token_kind_by, text_by, cost_at_front, cost_after}
 use Rattle.mh_rules.specs.Modules.{applied, no_module}
 use Rattle.mh_reader_parser.specs.Spelling.{File, Spells, BeginsFile}
 use Rattle.mh_reader_parser.specs.code.DepthLimit.{IsStateShallow}
@@ -223,7 +223,7 @@ record Joins (c a b : Option ℕ) (rs zs qs : List FileToken) : Type 0 where
   others : (x : FileToken) (xs : List FileToken) → rs ≡ x ∷ xs → b ≡ a
   reads : qs ≡ amended c rs ++ zs
 
-joins_more : (o : Option TokenKind) (t text : List ℕ) (c a b : Option ℕ) (rs zs qs : List FileToken) → Joins c a b rs zs qs → Joins c (cost_along o t a) (cost_along o t b) (file_token_by o text a ++ rs) zs (file_token_by o text b ++ qs)
+joins_more : (o : Option TokenKind) (t text : List ℕ) (c a b : Option ℕ) (rs zs qs : List FileToken) → Joins c a b rs zs qs → Joins c (cost_at_front o t a) (cost_at_front o t b) (file_token_by o text a ++ rs) zs (file_token_by o text b ++ qs)
 joins_more None t text c a b rs zs qs h = record {
   alone = λ e. ap (λ k. option_or (cost_of t) k) (h.alone e) ∙ sym (option_or-assoc (cost_of t) a c);
   others = λ x xs e. ap (λ k. option_or (cost_of t) k) (h.others x xs e);
@@ -257,7 +257,7 @@ abbrev pub one_more : List FileToken → Option TokenKind → List ℕ → Optio
 one_more before None text c = amended c before
 one_more before (Some g) text c = before ++ record { sign = g; text = text; cost = None } ∷ []
 
-last_reads : (before : List FileToken) (o : Option TokenKind) (t text : List ℕ) → amended (cost_along o t None) before ++ (file_token_by o text None ++ []) ≡ one_more before o text (cost_of t)
+last_reads : (before : List FileToken) (o : Option TokenKind) (t text : List ℕ) → amended (cost_at_front o t None) before ++ (file_token_by o text None ++ []) ≡ one_more before o text (cost_of t)
 last_reads before None t text = append-nil (amended (option_or (cost_of t) None) before) ∙ ap (λ c. amended c before) (option_or-none (cost_of t))
 last_reads before (Some g) t text = ap (λ l. l ++ record { sign = g; text = text; cost = None } ∷ []) (amended_none before)
 

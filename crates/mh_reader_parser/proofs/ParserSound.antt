@@ -60,9 +60,11 @@ AtItem m (lists.Actuals b done) ls out = (mid : List FileToken) × (a : Actual) 
 abbrev pub Typed : List FileToken → (List FileToken → Type 0) → Type 0
 Typed ls P = (y : FileToken) × (xs : List FileToken) × (ls ≡ y ∷ xs) × (y.sign ≡ signs.TypeText) × P xs
 
-abbrev pub Opened : Module → OpenList → List FileToken → Module → Type 0
-Opened m l ls out = (mid : List FileToken) × OptionalType ls mid × InList m l mid out
+-- The lexemes follow the keyword of a list: an optional type, the items of the list, and the rest of the file.
+abbrev pub AfterKeyword : Module → OpenList → List FileToken → Module → Type 0
+AfterKeyword m l ls out = (mid : List FileToken) × OptionalType ls mid × InList m l mid out
 
+-- The lexemes follow the name of a token: an optional alias, and the rest of the list of tokens.
 abbrev pub AtAlias : Module → List ℕ → Option ℕ → List FileToken → Module → Type 0
 AtAlias m name c ls out = (mid : List FileToken) × (o : Option (List ℕ)) × (d : Option ℕ) × IsAlias ls mid o d × InList (with_token m (token_of name o (option_or c d))) lists.Tokens mid out
 
@@ -70,6 +72,7 @@ AtAlias m name c ls out = (mid : List FileToken) × (o : Option (List ℕ)) × (
 abbrev pub AfterRule : Module → Rule → List FileToken → Module → Type 0
 AfterRule m r ls out = (rest : List FileToken) × Semicolons ls rest × Rules (with_rule m r) rest out
 
+-- The lexemes are groups of a rule, and what follows the rule.
 abbrev pub InGroups : Module → Rule → List FileToken → Module → Type 0
 InGroups m r ls out = (mid : List FileToken) × (ks : List Alternative) × Groups r.alternatives ls mid ks × AfterRule m (with_alternatives r ks) mid out
 
@@ -77,6 +80,7 @@ InGroups m r ls out = (mid : List FileToken) × (ks : List Alternative) × Group
 abbrev pub MoreGroups : Module → Rule → List FileToken → Module → Type 0
 MoreGroups m r ls out = (y : FileToken) × (xs : List FileToken) × (ls ≡ y ∷ xs) × (y.sign ≡ signs.Bar) × InGroups m r xs out
 
+-- The lexemes follow a group: the rest of the rules, or a bar and more groups.
 abbrev pub AfterGroup : Module → Rule → List FileToken → Module → Type 0
 AfterGroup m r ls out = AfterRule m r ls out ⊎ MoreGroups m r ls out
 
@@ -102,24 +106,31 @@ InProduction m d ls out = (mid : List FileToken) × (ps : List Actual) × Produc
 abbrev pub Spaced : Module → RuleDraft → List FileToken → Module → Type 0
 Spaced m d ls out = (next : List FileToken) × Semicolons ls next × InProduction m d next out
 
-abbrev pub Begun : Module → Rule → List FileToken → Module → Type 0
-Begun m r ls out = (begun : List FileToken) × OptionalBar ls begun × InGroups m r begun out
+-- The lexemes follow the colon of a rule: an optional bar, the groups, and what follows the rule.
+abbrev pub AfterColon : Module → Rule → List FileToken → Module → Type 0
+AfterColon m r ls out = (begun : List FileToken) × OptionalBar ls begun × InGroups m r begun out
 
-abbrev pub Coloned : Module → Rule → List FileToken → Module → Type 0
-Coloned m r ls out = (y : FileToken) × (xs : List FileToken) × (ls ≡ y ∷ xs) × (y.sign ≡ signs.Colon) × Begun m r xs out
+-- The lexemes are a colon and what follows the colon.
+abbrev pub AtColon : Module → Rule → List FileToken → Module → Type 0
+AtColon m r ls out = (y : FileToken) × (xs : List FileToken) × (ls ≡ y ∷ xs) × (y.sign ≡ signs.Colon) × AfterColon m r xs out
 
+-- The lexemes follow the name of a rule: optional formals, a colon, and what follows the colon.
 abbrev pub AtName : Module → Rule → List FileToken → Module → Type 0
-AtName m r ls out = (mid : List FileToken) × (fs : List (List ℕ)) × OptionalFormals r.formals ls mid fs × Coloned m (with_formals r fs) mid out
+AtName m r ls out = (mid : List FileToken) × (fs : List (List ℕ)) × OptionalFormals r.formals ls mid fs × AtColon m (with_formals r fs) mid out
 
+-- The lexemes are formals with their closing bracket, a colon, and what follows the colon.
 abbrev pub InFormals : Module → Rule → List FileToken → Module → Type 0
-InFormals m r ls out = (mid : List FileToken) × (fs : List (List ℕ)) × Formals r.formals ls mid fs × Coloned m (with_formals r fs) mid out
+InFormals m r ls out = (mid : List FileToken) × (fs : List (List ℕ)) × Formals r.formals ls mid fs × AtColon m (with_formals r fs) mid out
 
-abbrev pub Closing : Module → Rule → List FileToken → Module → Type 0
-Closing m r ls out = (y : FileToken) × (xs : List FileToken) × (ls ≡ y ∷ xs) × (y.sign ≡ signs.Close) × Coloned m r xs out
+-- The lexemes are the closing bracket of the formals, a colon, and what follows the colon.
+abbrev pub AtClose : Module → Rule → List FileToken → Module → Type 0
+AtClose m r ls out = (y : FileToken) × (xs : List FileToken) × (ls ≡ y ∷ xs) × (y.sign ≡ signs.Close) × AtColon m r xs out
 
-abbrev pub Separating : Module → Rule → List FileToken → Module → Type 0
-Separating m r ls out = (y : FileToken) × (xs : List FileToken) × (ls ≡ y ∷ xs) × (y.sign ≡ signs.Comma) × InFormals m r xs out
+-- The lexemes are a comma, more formals, a colon, and what follows the colon.
+abbrev pub AtComma : Module → Rule → List FileToken → Module → Type 0
+AtComma m r ls out = (y : FileToken) × (xs : List FileToken) × (ls ≡ y ∷ xs) × (y.sign ≡ signs.Comma) × InFormals m r xs out
 
+-- The lexemes are modifiers, the name of a rule, and what follows the name.
 abbrev pub InModifiers : Module → Bool → Bool → List FileToken → Module → Type 0
 InModifiers m p i ls out = (x : FileToken) × (xs : List FileToken) × (q : Bool) × (j : Bool) × Modifiers p i ls (x ∷ xs) q j × (x.sign ≡ signs.Word) × AtName m (named q j x.text) xs out
 
@@ -137,35 +148,42 @@ AfterActual m k (p ∷ ps) b e (y ∷ xs) out =
     ⊎ ((y.sign ≡ signs.Comma) × (next : List FileToken) × (ks : List Actual) × (n : ℕ) × Args (p.args ++ b ∷ []) (max p.depth e) xs next ks n
     × (mid : List FileToken) × (c : Actual) × (f : ℕ) × Suffixed (applied p.head ks) (suc n) next mid c f × AfterActual m k ps c f mid out)
 
-abbrev pub After : Module → ActualPurpose → List OpenActual → Actual → ℕ → List FileToken → Module → Type 0
-After m k ps a d ls out = (mid : List FileToken) × (b : Actual) × (e : ℕ) × Suffixed a d ls mid b e × AfterActual m k ps b e mid out
+-- The lexemes follow an actual with its arguments: optional suffixes, and what follows the whole actual.
+abbrev pub AtSuffixes : Module → ActualPurpose → List OpenActual → Actual → ℕ → List FileToken → Module → Type 0
+AtSuffixes m k ps a d ls out = (mid : List FileToken) × (b : Actual) × (e : ℕ) × Suffixed a d ls mid b e × AfterActual m k ps b e mid out
 
+-- The lexemes are an actual and what follows this actual inside the open brackets.
 abbrev pub Argument : Module → ActualPurpose → List OpenActual → List FileToken → Module → Type 0
 Argument m k ps ls out = (mid : List FileToken) × (a : Actual) × (d : ℕ) × IsActual ls mid a d × AfterActual m k ps a d mid out
 
-abbrev pub WithArgs : Module → ActualPurpose → List OpenActual → Ref → List FileToken → Module → Type 0
-WithArgs m k ps r ls out = (y : FileToken) × (xs : List FileToken) × (ls ≡ y ∷ xs) × (y.sign ≡ signs.Open) × (mid : List FileToken) × (ks : List Actual) × (n : ℕ) × Args [] 0 xs mid ks n × After m k ps (applied r ks) (suc n) mid out
+-- The lexemes are an opening bracket, arguments, the closing bracket, and what follows.
+abbrev pub AtArgs : Module → ActualPurpose → List OpenActual → Ref → List FileToken → Module → Type 0
+AtArgs m k ps r ls out = (y : FileToken) × (xs : List FileToken) × (ls ≡ y ∷ xs) × (y.sign ≡ signs.Open) × (mid : List FileToken) × (ks : List Actual) × (n : ℕ) × Args [] 0 xs mid ks n × AtSuffixes m k ps (applied r ks) (suc n) mid out
 
+-- The lexemes follow the name of an actual: arguments or none, and what follows.
 abbrev pub AtHead : Module → ActualPurpose → List OpenActual → Ref → List FileToken → Module → Type 0
-AtHead m k ps r ls out = After m k ps (applied r []) 1 ls out ⊎ WithArgs m k ps r ls out
+AtHead m k ps r ls out = AtSuffixes m k ps (applied r []) 1 ls out ⊎ AtArgs m k ps r ls out
 
-abbrev pub Equated : Module → RuleDraft → List FileToken → Module → Type 0
-Equated m d ls out = (y : FileToken) × (xs : List FileToken) × (ls ≡ y ∷ xs) × (y.sign ≡ signs.Equals) × Argument m (purposes.Producer d) [] xs out
+-- The lexemes are an equals sign, an actual, and what follows the producer.
+abbrev pub AtEquals : Module → RuleDraft → List FileToken → Module → Type 0
+AtEquals m d ls out = (y : FileToken) × (xs : List FileToken) × (ls ≡ y ∷ xs) × (y.sign ≡ signs.Equals) × Argument m (purposes.Producer d) [] xs out
 
+-- The lexemes follow a word that is the head of a producer, or the name of a producer before an equals sign.
 abbrev pub AtNamed : Module → RuleDraft → List ℕ → List FileToken → Module → Type 0
-AtNamed m d name ls out = AtHead m (purposes.Producer d) [] (Plain name) ls out ⊎ Equated m d ls out
+AtNamed m d name ls out = AtHead m (purposes.Producer d) [] (Plain name) ls out ⊎ AtEquals m d ls out
 
 -- The lexemes are a word or a string, and then lexemes with the property P of its reference.
 abbrev pub Referring : List FileToken → (Ref → List FileToken → Type 0) → Type 0
 Referring ls P = (y : FileToken) × (xs : List FileToken) × (ls ≡ y ∷ xs) × (r : Ref) × (ref_of y ≡ Some r) × P r xs
 
-abbrev pub Over : Module → List FileToken → Module → Type 0
-Over m ls out = (ls ≡ []) × (out ≡ m)
+-- No lexeme is left, and the module is finished.
+abbrev pub AtEnd : Module → List FileToken → Module → Type 0
+AtEnd m ls out = (ls ≡ []) × (out ≡ m)
 
 -- What the lexemes that are left have to spell, for each state of the parser.
 abbrev pub StateSpells : ParserState → Module → List FileToken → Module → Type 0
 StateSpells places.Declarations m ls out = File m ls out
-StateSpells (places.Opening l) m ls out = Opened m l ls out
+StateSpells (places.Opening l) m ls out = AfterKeyword m l ls out
 StateSpells places.TypeOf m ls out = Typed ls (λ xs. InList m (lists.Actuals false []) xs out)
 StateSpells (places.Items l) m ls out = InList m l ls out
 StateSpells (places.Comma l) m ls out = AtItem m l ls out
@@ -175,24 +193,24 @@ StateSpells places.ParameterType m ls out = Typed ls (λ xs. File m xs out)
 StateSpells places.Rules m ls out = Rules m ls out
 StateSpells (places.Modified p i) m ls out = InModifiers m p i ls out
 StateSpells (places.RuleNamed r) m ls out = AtName m r ls out
-StateSpells (places.FormalsOpen r) m ls out = Closing m r ls out ⊎ InFormals m r ls out
-StateSpells (places.FormalRead r) m ls out = Closing m r ls out ⊎ Separating m r ls out
+StateSpells (places.FormalsOpen r) m ls out = AtClose m r ls out ⊎ InFormals m r ls out
+StateSpells (places.FormalRead r) m ls out = AtClose m r ls out ⊎ AtComma m r ls out
 StateSpells (places.FormalComma r) m ls out = InFormals m r ls out
-StateSpells (places.FormalsClosed r) m ls out = Coloned m r ls out
-StateSpells (places.Begin r) m ls out = Begun m r ls out
+StateSpells (places.FormalsClosed r) m ls out = AtColon m r ls out
+StateSpells (places.Begin r) m ls out = AfterColon m r ls out
 StateSpells (places.Production d) m ls out = InProduction m d ls out
 StateSpells (places.Spaced d) m ls out = Spaced m d ls out
 StateSpells (places.Named d name) m ls out = AtNamed m d name ls out
 StateSpells (places.Argument k ps) m ls out = Argument m k ps ls out
 StateSpells (places.Head k ps r) m ls out = AtHead m k ps r ls out
-StateSpells (places.After k ps a d) m ls out = After m k ps a d ls out
+StateSpells (places.After k ps a d) m ls out = AtSuffixes m k ps a d ls out
 StateSpells (places.Prec d) m ls out = Referring ls (λ r xs. AfterProduction m (with_production d (Some r)) xs out)
 StateSpells (places.Closed d) m ls out = AfterProduction m d ls out
 StateSpells (places.Group d) m ls out = AtGroup m d ls out
 StateSpells (places.GroupPrec d) m ls out = Referring ls (λ r xs. AfterGroup m (with_productions_of_prec d r) xs out)
 StateSpells (places.GroupClosed r) m ls out = AfterGroup m r ls out
 StateSpells places.RuleEnd m ls out = (rest : List FileToken) × Semicolons ls rest × Rules m rest out
-StateSpells places.Ended m ls out = Over m ls out
+StateSpells places.Ended m ls out = AtEnd m ls out
 
 abbrev pub ParserSpells : Parser → List FileToken → Module → Type 0
 ParserSpells s ls out = StateSpells s.place s.made ls out
@@ -231,7 +249,7 @@ named_first : (m : Module) (d : RuleDraft) (x y : FileToken) (ls : List FileToke
 named_first m d x y ls out f g (mid, a, e, act, (l, (next, s, (to, ps, t, nx, p, c, b)))) =
     (to, ps, spelling.Producers.more (spelling.IsProducer.named f g (spelling.LimitedActual.limited act l)) s t, nx, p, c, b)
 
-named_producer : (m : Module) (d : RuleDraft) (x : FileToken) (ls : List FileToken) (out : Module) → x.sign ≡ signs.Word → Equated m d ls out → InProduction m d (x ∷ ls) out
+named_producer : (m : Module) (d : RuleDraft) (x : FileToken) (ls : List FileToken) (out : Module) → x.sign ≡ signs.Word → AtEquals m d ls out → InProduction m d (x ∷ ls) out
 named_producer m d x ls out f (y, ys, is, g, h) = subst (λ l. InProduction m d (x ∷ l) out) (sym is) (named_first m d x y ys out f g h)
 
 no_producer : (m : Module) (d : RuleDraft) (ls next : List FileToken) (p : Option Ref) (out : Module) → IsPrec ls next p → AfterProduction m (with_production d p) next out → InProduction m d ls out
@@ -261,7 +279,7 @@ listed_argument : (m : Module) (b : Bool) (done : List Actual) (ls : List FileTo
 listed_argument m b done ls out (mid, a, d, act, (l, h)) = (mid, a, spelling.LimitedActual.limited act l, h)
 
 after_arguments : (m : Module) (k : ActualPurpose) (p : OpenActual) (ps : List OpenActual) (ls : List FileToken) (out : Module) → Argument m k (p ∷ ps) ls out →
-    (mid : List FileToken) × (ks : List Actual) × (n : ℕ) × Args p.args p.depth ls mid ks n × After m k ps (applied p.head ks) (suc n) mid out
+    (mid : List FileToken) × (ks : List Actual) × (n : ℕ) × Args p.args p.depth ls mid ks n × AtSuffixes m k ps (applied p.head ks) (suc n) mid out
 after_arguments m k p ps ls out ([], a, d, act, h) = absurd h
 after_arguments m k p ps ls out (y ∷ ys, a, d, act, inl (e, mid, c, f, t, u)) = (ys, p.args ++ a ∷ [], max p.depth d, spelling.Args.last act e, (mid, c, f, t, u))
 after_arguments m k p ps ls out (y ∷ ys, a, d, act, inr (e, nx, ks, n, args, mid, c, f, t, u)) = (nx, ks, n, spelling.Args.more act e args, (mid, c, f, t, u))
@@ -273,11 +291,11 @@ whole_rule m x ls xs p i out a e (mid, fs, f, (y, ys, is, c, (begun, b, (to, ks,
     spelling.Rules.more (spelling.IsRule.rule a e (subst (λ l. OptionalFormals [] xs l fs) is f) c b g s) h
 
 first_formal : (m : Module) (r : Rule) (x : FileToken) (xs : List FileToken) (out : Module) → x.sign ≡ signs.Word →
-    (Closing m (with_formal r x.text) xs out) ⊎ (Separating m (with_formal r x.text) xs out) → InFormals m r (x ∷ xs) out
+    (AtClose m (with_formal r x.text) xs out) ⊎ (AtComma m (with_formal r x.text) xs out) → InFormals m r (x ∷ xs) out
 first_formal m r x xs out e (inl (y, ys, is, c, h)) = subst (λ l. InFormals m r (x ∷ l) out) (sym is) (ys, r.formals ++ x.text ∷ [], spelling.Formals.last e c, h)
 first_formal m r x xs out e (inr (y, ys, is, c, (mid, fs, t, h))) = subst (λ l. InFormals m r (x ∷ l) out) (sym is) (mid, fs, spelling.Formals.more e c t, h)
 
-open_formals : (m : Module) (r : Rule) (x : FileToken) (xs : List FileToken) (out : Module) → x.sign ≡ signs.Open → (Closing m r xs out) ⊎ (InFormals m r xs out) → AtName m r (x ∷ xs) out
+open_formals : (m : Module) (r : Rule) (x : FileToken) (xs : List FileToken) (out : Module) → x.sign ≡ signs.Open → (AtClose m r xs out) ⊎ (InFormals m r xs out) → AtName m r (x ∷ xs) out
 open_formals m r x xs out e (inl (y, ys, is, c, h)) = subst (λ l. AtName m r (x ∷ l) out) (sym is) (ys, r.formals, spelling.OptionalFormals.empty e c, h)
 open_formals m r x xs out e (inr (mid, fs, t, h)) = (mid, fs, spelling.OptionalFormals.given e t, h)
 
@@ -296,7 +314,7 @@ given_group m d x ls out e (y, ys, is, r, f, h) = subst (λ l. AtGroup m d (x �
 absent_group : (m : Module) (d : RuleDraft) (ls : List FileToken) (out : Module) → AfterGroup m (with_productions d) ls out → AtGroup m d ls out
 absent_group m d ls out h = (ls, None, spelling.IsPrec.absent, subst (λ l. AfterGroup m (with_alternatives d.rule (d.rule.alternatives ++ l)) ls out) (sym (map-without_prec d.productions)) h)
 
-last_percents : (m : Module) (x : FileToken) (ls : List FileToken) (out : Module) → x.sign ≡ signs.Percents → Over m ls out → Rules m (x ∷ ls) out
+last_percents : (m : Module) (x : FileToken) (ls : List FileToken) (out : Module) → x.sign ≡ signs.Percents → AtEnd m ls out → Rules m (x ∷ ls) out
 last_percents m x ls out e (f, g) = subst (λ k. Rules m (x ∷ ls) k) (sym g) (subst (λ l. Rules m (x ∷ l) m) (sym f) (spelling.Rules.trailer e))
 
 module _ (x : FileToken) (xs : List FileToken) (out : Module) where
@@ -344,7 +362,7 @@ module _ (x : FileToken) (xs : List FileToken) (out : Module) where
   back_comma m l signs.Quoted e h = back_quoted m l e h
   back_comma m l _ e h = absurd h
 
-  back_opening : (m : Module) (l : OpenList) (g : TokenKind) → x.sign ≡ g → Stepped (machine.at_list_start m l g x.text) Rest → Opened m l (x ∷ xs) out
+  back_opening : (m : Module) (l : OpenList) (g : TokenKind) → x.sign ≡ g → Stepped (machine.at_list_start m l g x.text) Rest → AfterKeyword m l (x ∷ xs) out
   back_opening m l signs.TypeText e h = (xs, spelling.OptionalType.given e, h)
   back_opening m l g e h = (x ∷ xs, spelling.OptionalType.absent, back_items m l g e h)
 
@@ -384,12 +402,12 @@ module _ (x : FileToken) (xs : List FileToken) (out : Module) where
   back_rule_named m r signs.Colon e h = (x ∷ xs, r.formals, spelling.OptionalFormals.absent, (x, xs, refl, e, h))
   back_rule_named m r _ e h = absurd h
 
-  back_formals_open : (m : Module) (r : Rule) (g : TokenKind) → x.sign ≡ g → Stepped (machine.at_formals_open m r g x.text) Rest → (Closing m r (x ∷ xs) out) ⊎ (InFormals m r (x ∷ xs) out)
+  back_formals_open : (m : Module) (r : Rule) (g : TokenKind) → x.sign ≡ g → Stepped (machine.at_formals_open m r g x.text) Rest → (AtClose m r (x ∷ xs) out) ⊎ (InFormals m r (x ∷ xs) out)
   back_formals_open m r signs.Word e h = inr (first_formal m r x xs out e h)
   back_formals_open m r signs.Close e h = inl (x, xs, refl, e, h)
   back_formals_open m r _ e h = absurd h
 
-  back_formal_read : (m : Module) (r : Rule) (g : TokenKind) → x.sign ≡ g → Stepped (machine.at_formal_read m r g) Rest → (Closing m r (x ∷ xs) out) ⊎ (Separating m r (x ∷ xs) out)
+  back_formal_read : (m : Module) (r : Rule) (g : TokenKind) → x.sign ≡ g → Stepped (machine.at_formal_read m r g) Rest → (AtClose m r (x ∷ xs) out) ⊎ (AtComma m r (x ∷ xs) out)
   back_formal_read m r signs.Comma e h = inr (x, xs, refl, e, h)
   back_formal_read m r signs.Close e h = inl (x, xs, refl, e, h)
   back_formal_read m r _ e h = absurd h
@@ -398,7 +416,7 @@ module _ (x : FileToken) (xs : List FileToken) (out : Module) where
   back_formal_comma m r signs.Word e h = first_formal m r x xs out e h
   back_formal_comma m r _ e h = absurd h
 
-  back_formals_closed : (m : Module) (r : Rule) (g : TokenKind) → x.sign ≡ g → Stepped (machine.at_formals_closed m r g) Rest → Coloned m r (x ∷ xs) out
+  back_formals_closed : (m : Module) (r : Rule) (g : TokenKind) → x.sign ≡ g → Stepped (machine.at_formals_closed m r g) Rest → AtColon m r (x ∷ xs) out
   back_formals_closed m r signs.Colon e h = (x, xs, refl, e, h)
   back_formals_closed m r _ e h = absurd h
 
@@ -417,7 +435,7 @@ module _ (x : FileToken) (xs : List FileToken) (out : Module) where
   begin_cases m r signs.Bar h = inl (refl, h)
   begin_cases m r _ h = inr (refl, h)
 
-  back_begin : (m : Module) (r : Rule) → Stepped (machine.at_begin m r x.sign x.text) Rest → Begun m r (x ∷ xs) out
+  back_begin : (m : Module) (r : Rule) → Stepped (machine.at_begin m r x.sign x.text) Rest → AfterColon m r (x ∷ xs) out
   back_begin m r h = elim (begin_cases m r x.sign h) [
     | inl w ↦ (xs, spelling.OptionalBar.given w.0, fold m r xs out w.1)
     | inr w ↦ (x ∷ xs, spelling.OptionalBar.absent w.0, fold m r (x ∷ xs) out (back_production m (new_draft r) x.sign refl w.1))
@@ -466,16 +484,16 @@ module _ (x : FileToken) (xs : List FileToken) (out : Module) where
   back_above m k [] a d l h = (omega arith, back_whole m k a x.sign refl h)
   back_above m k (p ∷ ps) a d l h = back_within m k p ps a d x.sign refl h
 
-  back_deeper : (m : Module) (k : ActualPurpose) (ps : List OpenActual) (a : Actual) (d : ℕ) (b : Bool) (n : List ℕ) → suffix_of x.sign ≡ Some n → Stepped (machine.with_suffix_if_fits m k ps a d b n) Rest → After m k ps a d (x ∷ xs) out
+  back_deeper : (m : Module) (k : ActualPurpose) (ps : List OpenActual) (a : Actual) (d : ℕ) (b : Bool) (n : List ℕ) → suffix_of x.sign ≡ Some n → Stepped (machine.with_suffix_if_fits m k ps a d b n) Rest → AtSuffixes m k ps a d (x ∷ xs) out
   back_deeper m k ps a d true n e (mid, c, f, t, u) = (mid, c, f, spelling.Suffixed.suffix e t, u)
   back_deeper m k ps a d false n e h = absurd h
 
   back_suffixed : (m : Module) (k : ActualPurpose) (ps : List OpenActual) (a : Actual) (d : ℕ) (o : Option (List ℕ)) → d + length ps ≤ 1000 → suffix_of x.sign ≡ o →
-      Stepped (machine.at_optional_suffix m k ps a d o x.sign x.text) Rest → After m k ps a d (x ∷ xs) out
+      Stepped (machine.at_optional_suffix m k ps a d o x.sign x.text) Rest → AtSuffixes m k ps a d (x ∷ xs) out
   back_suffixed m k ps a d None l e h = (x ∷ xs, a, d, spelling.Suffixed.bare, back_above m k ps a d l h)
   back_suffixed m k ps a d (Some n) l e h = back_deeper m k ps a d (fits_in_depth (suc d) ps) n e h
 
-  back_after : (m : Module) (k : ActualPurpose) (ps : List OpenActual) (a : Actual) (d : ℕ) → d + length ps ≤ 1000 → Stepped (machine.after_actual m k ps a d x.sign x.text) Rest → After m k ps a d (x ∷ xs) out
+  back_after : (m : Module) (k : ActualPurpose) (ps : List OpenActual) (a : Actual) (d : ℕ) → d + length ps ≤ 1000 → Stepped (machine.after_actual m k ps a d x.sign x.text) Rest → AtSuffixes m k ps a d (x ∷ xs) out
   back_after m k ps a d l h = back_suffixed m k ps a d (suffix_of x.sign) l refl h
 
   back_opened : (m : Module) (k : ActualPurpose) (ps : List OpenActual) (r : Ref) (b : Bool) → Stepped (machine.with_bracket_if_fits m k ps r b) Rest → Argument m k (record { head = r; args = []; depth = 0 } ∷ ps) xs out

@@ -74,16 +74,16 @@ abbrev pub text_by : Kind → List ℕ → List ℕ
 text_by kinds.Quoted t = take (length t - 2) (drop 1 t)
 text_by _ t = t
 
--- The cost at the beginning of lexemes: that of an attribute, or else that of the lexemes after it. Any other lexeme
--- has none.
-abbrev pub cost_along : Option TokenKind → List ℕ → Option ℕ → Option ℕ
-cost_along None t later = option_or (cost_of t) later
-cost_along (Some g) t later = None
+-- The cost at the beginning of lexemes, of which the first has this token kind and this text: for an attribute its own
+-- cost or, if it has none, the cost at the beginning of the lexemes after it; none for any other lexeme.
+abbrev pub cost_at_front : Option TokenKind → List ℕ → Option ℕ → Option ℕ
+cost_at_front None t later = option_or (cost_of t) later
+cost_at_front (Some g) t later = None
 
 -- The cost of the first cost attribute among the attributes with which the lexemes begin.
 abbrev pub cost_after : List ℕ → List Lexeme → Option ℕ
 cost_after bytes [] = None
-cost_after bytes (l ∷ ls) = cost_along (token_kind_by l.kind (bytes_of bytes l)) (bytes_of bytes l) (cost_after bytes ls)
+cost_after bytes (l ∷ ls) = cost_at_front (token_kind_by l.kind (bytes_of bytes l)) (bytes_of bytes l) (cost_after bytes ls)
 
 abbrev pub file_token_by : Option TokenKind → List ℕ → Option ℕ → List FileToken
 file_token_by None t c = []

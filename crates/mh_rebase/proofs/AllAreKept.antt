@@ -40,7 +40,7 @@ rising_before xs z zs rising y c = before xs rising y c
     before [] rising y c = absurd (contains_none y c)
     before (x ∷ xs) rising y c = elim (contains_cases x xs y c) [ inl is ↦ subst (λ (p : FailingSentence). OtherState p z) is (last xs x rising.0) | inr more ↦ before xs rising.1 y more ]
 
-module _ (g : Grammar) (a : Automaton) (t : TableData) where
+module _ (g : Grammar) (t : TableData) where
   pub state_once : (start : ℕ) (w : List ℕ) (s r : ℕ) → Fails t start w s → Fails t start w r → s ≡ r
   state_once start w s r p q = let same : Rejected (length w - 1) s ≡ Rejected (length w - 1) r = ending_unique t (initial start w) _ _ p.verdict q.verdict in cc
 
@@ -67,21 +67,22 @@ module _ (g : Grammar) (a : Automaton) (t : TableData) where
       let state : r ≡ s = state_once x.start x.tokens r s (subst (λ (u : Sentence). Fails t u.start u.tokens r) same failing) fails in
       let no : Some line ≡ None = sym kept ∙ ap (kept_line before) state ∙ none in cc
 
+module _ (expected : Bool) (g : Grammar) (a : Automaton) (t : TableData) where
   -- ---- All lines are kept.
 
   free_line : (before : List DecidedLine) (s : ℕ) (o : Option ℕ) → kept_line before s ≡ o → ((y : FailingSentence) → Contains (failing_of_lines before) y → y.1 ≡ s → ⊥) → kept_line before s ≡ None
   free_line before s None is free = is
   free_line before s (Some n) is free = let found = line_has before s n is in absurd (free found.0 found.1 found.2)
 
-  keep_by : (before : List DecidedLine) (text : Text) (d : Decision) (x : Sentence) (z : FailingSentence) → IsDecision g a t before text d → sentence_in (vocabulary_of g) text ≡ IsSentence x → (x.start, x.tokens) ≡ content z → FailsThere g a t z → kept_line before z.1 ≡ None
+  keep_by : (before : List DecidedLine) (text : Text) (d : Decision) (x : Sentence) (z : FailingSentence) → IsDecision expected g a t before text d → sentence_in (vocabulary_of g) text ≡ IsSentence x → (x.start, x.tokens) ≡ content z → FailsThere expected g a t z → kept_line before z.1 ≡ None
       → (is_keep d ≡ true) × (failing_of_decision d ≡ z ∷ [])
-  keep_by before text (Drop reason) x z is read same fails none = absurd (reason_never before text x z.1 reason is read (subst (λ (c : ℕ × List ℕ). Fails t c.0 c.1 z.1) (sym same) fails) none)
+  keep_by before text (Drop reason) x z is read same fails none = absurd (reason_never g t before text x z.1 reason is read (subst (λ (c : ℕ × List ℕ). Fails t c.0 c.1 z.1) (sym same) fails) none)
   keep_by before text (Keep y s lines) x z is read same fails none =
       let both : IsSentence y ≡ IsSentence x = sym is.read ∙ read in
       let one : y ≡ x = cc in
       let here : (y.start, y.tokens) ≡ content z = ap (λ (u : Sentence). (u.start, u.tokens)) one ∙ same in
       let failing : Fails t z.0.0 z.0.1 s = subst (λ (c : ℕ × List ℕ). Fails t c.0 c.1 s) here is.fails in
-      let state : s ≡ z.1 = state_once z.0.0 z.0.1 s z.1 failing fails in (refl, λ i. (here i, state i) ∷ [])
+      let state : s ≡ z.1 = state_once g t z.0.0 z.0.1 s z.1 failing fails in (refl, λ i. (here i, state i) ∷ [])
 
   good_sentence : (found : LineResult) → IsGood g found → (x : Sentence) × (found ≡ IsSentence x)
   good_sentence (IsSentence x) good = (x, refl)
@@ -91,17 +92,17 @@ module _ (g : Grammar) (a : Automaton) (t : TableData) where
   good_sentence (NamesUnknown name) good = absurd good
 
   abbrev AllKeep : List DecidedLine → List DecidedLine → Type 0
-  AllKeep before js = (zs : List FailingSentence) → AreGood g (texts_in js) → contents_of g (texts_in js) ≡ map content zs → AllByRecursion (FailsThere g a t) zs → IsRising OtherState (failing_of_lines before ++ zs)
+  AllKeep before js = (zs : List FailingSentence) → AreGood g (texts_in js) → contents_of g (texts_in js) ≡ map content zs → AllByRecursion (FailsThere expected g a t) zs → IsRising OtherState (failing_of_lines before ++ zs)
       → AllByRecursion IsKeep js × (failing_of_lines js ≡ zs)
 
-  keep_next : (before js : List DecidedLine) (j : DecidedLine) (x : Sentence) → sentence_in (vocabulary_of g) j.line.text ≡ IsSentence x → IsDecision g a t before j.line.text j.decision → AllKeep (before ++ j ∷ []) js → AreGood g (texts_in js)
-      → (zs : List FailingSentence) → contents_of g (texts_in (j ∷ js)) ≡ map content zs → AllByRecursion (FailsThere g a t) zs → IsRising OtherState (failing_of_lines before ++ zs) → AllByRecursion IsKeep (j ∷ js) × (failing_of_lines (j ∷ js) ≡ zs)
+  keep_next : (before js : List DecidedLine) (j : DecidedLine) (x : Sentence) → sentence_in (vocabulary_of g) j.line.text ≡ IsSentence x → IsDecision expected g a t before j.line.text j.decision → AllKeep (before ++ j ∷ []) js → AreGood g (texts_in js)
+      → (zs : List FailingSentence) → contents_of g (texts_in (j ∷ js)) ≡ map content zs → AllByRecursion (FailsThere expected g a t) zs → IsRising OtherState (failing_of_lines before ++ zs) → AllByRecursion IsKeep (j ∷ js) × (failing_of_lines (j ∷ js) ≡ zs)
   keep_next before js j x read decided on good zs same fail rising = by zs same fail rising
     where
       contents : contents_of g (texts_in (j ∷ js)) ≡ (x.start, x.tokens) ∷ contents_of g (texts_in js)
       contents = ap (λ (f : LineResult). content_at g f ++ contents_of g (texts_in js)) read
 
-      by : (zs : List FailingSentence) → contents_of g (texts_in (j ∷ js)) ≡ map content zs → AllByRecursion (FailsThere g a t) zs → IsRising OtherState (failing_of_lines before ++ zs) → AllByRecursion IsKeep (j ∷ js) × (failing_of_lines (j ∷ js) ≡ zs)
+      by : (zs : List FailingSentence) → contents_of g (texts_in (j ∷ js)) ≡ map content zs → AllByRecursion (FailsThere expected g a t) zs → IsRising OtherState (failing_of_lines before ++ zs) → AllByRecursion IsKeep (j ∷ js) × (failing_of_lines (j ∷ js) ≡ zs)
       by [] same fail rising = absurd (let no : (x.start, x.tokens) ∷ contents_of g (texts_in js) ≡ [] = sym contents ∙ same in cc)
       by (z ∷ zs) same fail rising =
           let split : (x.start, x.tokens) ∷ contents_of g (texts_in js) ≡ content z ∷ map content zs = sym contents ∙ same in
@@ -114,7 +115,7 @@ module _ (g : Grammar) (a : Automaton) (t : TableData) where
           let more = on zs good later fail.1 next in
           ((one.0, more.0), ap (λ (l : List FailingSentence). l ++ failing_of_lines js) one.1 ∙ ap (λ (l : List FailingSentence). z ∷ l) more.1)
 
-  pub all_keep : (before js : List DecidedLine) → AreDecided g a t before js → AllKeep before js
+  pub all_keep : (before js : List DecidedLine) → AreDecided expected g a t before js → AllKeep before js
   all_keep before [] decided [] good same fail rising = (tt, refl)
   all_keep before [] decided (z ∷ zs) good same fail rising = absurd (cc)
   all_keep before (j ∷ js) decided zs good same fail rising =
@@ -130,11 +131,11 @@ module _ (g : Grammar) (a : Automaton) (t : TableData) where
       no_drop line (Keep x s lines) is = refl
       no_drop line (Drop reason) is = cc
 
-  keep_content : (before : List DecidedLine) (text : Text) (d : Decision) → IsDecision g a t before text d → is_keep d ≡ true → kept_content d ≡ content_at g (found_in g text)
+  keep_content : (before : List DecidedLine) (text : Text) (d : Decision) → IsDecision expected g a t before text d → is_keep d ≡ true → kept_content d ≡ content_at g (found_in g text)
   keep_content before text (Keep x s lines) is keep = sym (ap (content_at g) is.read)
   keep_content before text (Drop reason) is keep = cc
 
-  pub keep_contents : (before js : List DecidedLine) → AreDecided g a t before js → AllByRecursion IsKeep js → kept_contents js ≡ contents_of g (texts_in js)
+  pub keep_contents : (before js : List DecidedLine) → AreDecided expected g a t before js → AllByRecursion IsKeep js → kept_contents js ≡ contents_of g (texts_in js)
   keep_contents before [] decided all = refl
   keep_contents before (j ∷ js) decided all =
       ap (λ (l : List (ℕ × List ℕ)). l ++ kept_contents js) (keep_content before j.line.text j.decision decided.0 all.0) ∙ ap (λ (l : List (ℕ × List ℕ)). content_at g (found_in g j.line.text) ++ l) (keep_contents (before ++ j ∷ []) js decided.1 all.1)

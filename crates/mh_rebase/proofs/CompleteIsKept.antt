@@ -1,5 +1,5 @@
 -- Proves that a messages file that is sound and complete is kept whole.
-use Rattle.std.proofs.Common.{◌≡◌, ℕ, zero, suc, true, false, List, [], ◌∷◌, map, drop, filter, Some, refl, sym, ◌∙◌, ap, subst, inl, inr, arith}
+use Rattle.std.proofs.Common.{◌≡◌, Bool, ℕ, zero, suc, true, false, List, [], ◌∷◌, map, drop, filter, Some, refl, sym, ◌∙◌, ap, subst, inl, inr, arith}
 use Rattle.std.specs.Prelude.{slice_get}
 use Rattle.std.specs.List.{AllByRecursion, AllZip, Contains}
 use Rattle.mh_grammar.proofs.Lists.{contains_here, contains_there, contains_cases, contains_none, first_same}
@@ -26,28 +26,28 @@ use Rattle.mh_check.proofs.FailsOnce.{fails_once}
 use Rattle.mh_rebase_form.specs.RebasedText.{DecidedEntry, without_decisions, IsRebased}
 use Rattle.mh_rebase.specs.EntryTexts.{AreCommented}
 use Rattle.mh_rebase.proofs.AllAreKept.{texts_in}
-use Rattle.mh_rebase.proofs.IsReadAgain.{sentences_first}
+use Rattle.mh_rebase.proofs.IsReadAgain.{content_sentences-entries}
 use Rattle.mh_rebase.proofs.RebasedAgain.{ReadsAs, all_stay, texts_are, items_of}
 use Rattle.mh_rebase.proofs.StatesOfSentences.{FailingSentence, OtherState, content, HasSentenceIn}
 
 -- ---- Sentences with the states in which they fail.
 
 module _ (t : TableData) where
-  abbrev Fail : List MsgSentence → Type 0
+  abbrev pub Fail : List MsgSentence → Type 0
   Fail xs = (x : MsgSentence) → Contains xs x → (s : ℕ) × FailsIn t x s
 
-  abbrev rest_fail : (x : MsgSentence) (xs : List MsgSentence) → Fail (x ∷ xs) → Fail xs
+  abbrev pub rest_fail : (x : MsgSentence) (xs : List MsgSentence) → Fail (x ∷ xs) → Fail xs
   rest_fail x xs each = λ y c. each y (contains_there x xs y c)
 
-  abbrev with_states : (xs : List MsgSentence) → Fail xs → List FailingSentence
+  abbrev pub with_states : (xs : List MsgSentence) → Fail xs → List FailingSentence
   with_states [] each = []
   with_states (x ∷ xs) each = (content_of x, (each x (contains_here x xs)).0) ∷ with_states xs (rest_fail x xs each)
 
-  with_states_same : (xs : List MsgSentence) (each : Fail xs) → map content_of xs ≡ map content (with_states xs each)
+  pub with_states_same : (xs : List MsgSentence) (each : Fail xs) → map content_of xs ≡ map content (with_states xs each)
   with_states_same [] each = refl
   with_states_same (x ∷ xs) each = ap (λ (l : List (ℕ × List ℕ)). content_of x ∷ l) (with_states_same xs (rest_fail x xs each))
 
-  with_states_fail : (xs : List MsgSentence) (each : Fail xs) → AllByRecursion (λ (z : FailingSentence). Fails t z.0.0 z.0.1 z.1) (with_states xs each)
+  pub with_states_fail : (xs : List MsgSentence) (each : Fail xs) → AllByRecursion (λ (z : FailingSentence). Fails t z.0.0 z.0.1 z.1) (with_states xs each)
   with_states_fail [] each = tt
   with_states_fail (x ∷ xs) each = ((each x (contains_here x xs)).1, with_states_fail xs (rest_fail x xs each))
 
@@ -58,7 +58,7 @@ module _ (t : TableData) where
     all_other xs (rest_fail x xs each) s (λ j y at. never (suc j) y at),
   )
 
-  with_states_apart : (xs : List MsgSentence) (each : Fail xs) → ((i j s : ℕ) (x y : MsgSentence) → slice_get xs i ≡ Some x → slice_get xs j ≡ Some y → FailsIn t x s → FailsIn t y s → i ≡ j) → IsRising OtherState (with_states xs each)
+  pub with_states_apart : (xs : List MsgSentence) (each : Fail xs) → ((i j s : ℕ) (x y : MsgSentence) → slice_get xs i ≡ Some x → slice_get xs j ≡ Some y → FailsIn t x s → FailsIn t y s → i ≡ j) → IsRising OtherState (with_states xs each)
   with_states_apart [] each apart = tt
   with_states_apart (x ∷ xs) each apart = (
     all_other xs (rest_fail x xs each) (each x (contains_here x xs)).0
@@ -66,7 +66,7 @@ module _ (t : TableData) where
     with_states_apart xs (rest_fail x xs each) (λ i j s y z at_i at_j in_y in_z. let same : suc i ≡ suc j = apart (suc i) (suc j) s y z at_i at_j in_y in_z in omega (arith, same)),
   )
 
-  with_states_has : (xs : List MsgSentence) (each : Fail xs) (x : MsgSentence) (s : ℕ) → Contains xs x → FailsIn t x s → HasSentenceIn (with_states xs each) s
+  pub with_states_has : (xs : List MsgSentence) (each : Fail xs) (x : MsgSentence) (s : ℕ) → Contains xs x → FailsIn t x s → HasSentenceIn (with_states xs each) s
   with_states_has [] each x s c fails = absurd (contains_none x c)
   with_states_has (y ∷ xs) each x s c fails = elim (contains_cases y xs x c) [
     | inl same ↦ (
@@ -81,8 +81,8 @@ module _ (t : TableData) where
 
 -- ---- The entries of a file.
 
-module _ (g : Grammar) (a : Automaton) (t : TableData) (has : HasReadableNames g) where
-  blocks_read : (es : List DecidedEntry) (bs : List (List Text)) → map loose_content (map without_decisions es) ≡ pairs g has bs → Right g bs → AllByRecursion (λ (run : List Text). has_items run ≡ true) bs → AllZip (ReadsAs g a t) es (contents g bs)
+module _ (expected : Bool) (g : Grammar) (a : Automaton) (t : TableData) (has : HasReadableNames g) where
+  blocks_read : (es : List DecidedEntry) (bs : List (List Text)) → map loose_content (map without_decisions es) ≡ pairs g has bs → Right g bs → AllByRecursion (λ (run : List Text). has_items run ≡ true) bs → AllZip (ReadsAs expected g a t) es (contents g bs)
   blocks_read [] [] is right some = tt
   blocks_read [] (block ∷ []) is right some = absurd right
   blocks_read [] (block ∷ message ∷ rest) is right some = absurd (cc)
@@ -105,7 +105,7 @@ module _ (g : Grammar) (a : Automaton) (t : TableData) (has : HasReadableNames g
   runs_some (b ∷ bs) all = (all.0.1, runs_some bs all.1)
 
   pub complete_stays : (bytes : Text) (file : MsgFile) (loose : LooseFile) (text : Text) → MsgSpells g bytes file → LooseSpells bytes loose → Sound t (sentences_of file) → ((s : ℕ) → Failing t s → (x : MsgSentence) × Contains (sentences_of file) x × FailsIn t x s)
-      → IsRebased g a t loose text → AreCommented g a t (map entry_content file.entries) text
+      → IsRebased expected g a t loose text → AreCommented expected g a t (map entry_content file.entries) text
   complete_stays bytes file loose text spells spelled sound complete is =
       let lines = file.lines in
       let bs = map (texts_of lines) (blocks lines) in
@@ -116,7 +116,7 @@ module _ (g : Grammar) (a : Automaton) (t : TableData) (has : HasReadableNames g
       let kept = all_filter HasNoLineFeed is_kept_text lines (lines_end bytes lines spells.lines) in
       let are = all_runs blank_text (λ line. HasNoLineFeed line × (is_kept_text line ≡ true)) (filter is_kept_text lines) kept in
       let some = subst (AllByRecursion (λ (run : List Text). has_items run ≡ true)) (sym (texts_of_blocks lines)) (runs_some _ are) in
-      let zip = subst (λ (l : List (List (ℕ × List ℕ) × Text)). AllZip (ReadsAs g a t) is.entries l) (sym content_is) (blocks_read is.entries bs entries (right_from g lines (blocks lines) spells.no_faults) some) in
+      let zip = subst (λ (l : List (List (ℕ × List ℕ) × Text)). AllZip (ReadsAs expected g a t) is.entries l) (sym content_is) (blocks_read is.entries bs entries (right_from g lines (blocks lines) spells.no_faults) some) in
       let xs = sentences_of file in
-      all_stay g a t loose text is (map entry_content file.entries) zip (with_states t xs sound.each) (sym (sentences_first file.entries) ∙ with_states_same t xs sound.each) (with_states_fail t xs sound.each) (with_states_apart t xs sound.each sound.distinct)
+      all_stay expected g a t loose text is (map entry_content file.entries) zip (with_states t xs sound.each) (sym (content_sentences-entries file.entries) ∙ with_states_same t xs sound.each) (with_states_fail t xs sound.each) (with_states_apart t xs sound.each sound.distinct)
       (λ s failing. let x = complete s failing in with_states_has t xs sound.each x.0 s x.1 x.2)

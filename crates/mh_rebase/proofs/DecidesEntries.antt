@@ -34,14 +34,14 @@ some_push (k ∷ ks) j = ap (λ (b : Bool). is_keep k.decision || b) (some_push 
 text_more : (old middle new first second : Text) → middle ≡ old ++ first → new ≡ middle ++ second → new ≡ old ++ (first ++ second)
 text_more old middle new first second p q = q ∙ ap (λ (l : Text). l ++ second) p ∙ append_assoc old first second
 
-module _ (g : Grammar) (a : Automaton) (t : TableData) where
-  pub decided_append : (before js ks : List DecidedLine) → AreDecided g a t before js → AreDecided g a t (before ++ js) ks → AreDecided g a t before (js ++ ks)
-  decided_append before [] ks p q = subst (λ (l : List DecidedLine). AreDecided g a t l ks) (append-nil before) q
-  decided_append before (j ∷ js) ks p q = (p.0, decided_append (before ++ j ∷ []) js ks p.1 (subst (λ (l : List DecidedLine). AreDecided g a t l ks) (sym (append_assoc before (j ∷ []) js)) q))
+module _ (expected : Bool) (g : Grammar) (a : Automaton) (t : TableData) where
+  pub decided_append : (before js ks : List DecidedLine) → AreDecided expected g a t before js → AreDecided expected g a t (before ++ js) ks → AreDecided expected g a t before (js ++ ks)
+  decided_append before [] ks p q = subst (λ (l : List DecidedLine). AreDecided expected g a t l ks) (append-nil before) q
+  decided_append before (j ∷ js) ks p q = (p.0, decided_append (before ++ j ∷ []) js ks p.1 (subst (λ (l : List DecidedLine). AreDecided expected g a t l ks) (sym (append_assoc before (j ∷ []) js)) q))
 
   -- ---- Lines.
 
-  pub lines_none : (p : Parts) → DecidesLines g a t [] false p p
+  pub lines_none : (p : Parts) → DecidesLines expected g a t [] false p p
   lines_none p = record {
     done = [];
     of_lines = refl;
@@ -51,8 +51,8 @@ module _ (g : Grammar) (a : Automaton) (t : TableData) where
     drops = sym (append-nil p.dropped.items);
   }
 
-  pub lines_more : (lines : List LooseLine) (i : ℕ) (line : LooseLine) (kept more : Bool) (old middle new : Parts) → i < length lines → line ≡ get_or lines i line → DecidesLines g a t (take i lines) kept old middle
-      → DecidesLine g a t line.line (sentence_in (vocabulary_of g) line.text) more middle new → DecidesLines g a t (take (i + 1) lines) (kept || more) old new
+  pub lines_more : (lines : List LooseLine) (i : ℕ) (line : LooseLine) (kept more : Bool) (old middle new : Parts) → i < length lines → line ≡ get_or lines i line → DecidesLines expected g a t (take i lines) kept old middle
+      → DecidesLine expected g a t line.line (sentence_in (vocabulary_of g) line.text) more middle new → DecidesLines expected g a t (take (i + 1) lines) (kept || more) old new
   lines_more lines i line kept more old middle new lt here first next =
       let one : DecidedLine = record { line = line; decision = next.decision } in record {
         done = first.done ++ one ∷ [];
@@ -73,14 +73,14 @@ module _ (g : Grammar) (a : Automaton) (t : TableData) where
   -- ---- Entries.
 
   -- The decision on an entry: its lines, and then its message.
-  pub entry_added : (entry : LooseEntry) (kept : Bool) (old middle new : Parts) → DecidesLines g a t entry.sentences kept old middle → new.kept_lines.items ≡ middle.kept_lines.items → new.kept.items ≡ middle.kept.items ++ message_if_kept kept entry.message
-      → new.dropped.items ≡ middle.dropped.items ++ message_if_lost kept entry.message → DecidesEntries g a t (entry ∷ []) old new
+  pub entry_added : (entry : LooseEntry) (kept : Bool) (old middle new : Parts) → DecidesLines expected g a t entry.sentences kept old middle → new.kept_lines.items ≡ middle.kept_lines.items → new.kept.items ≡ middle.kept.items ++ message_if_kept kept entry.message
+      → new.dropped.items ≡ middle.dropped.items ++ message_if_lost kept entry.message → DecidesEntries expected g a t (entry ∷ []) old new
   entry_added entry kept old middle new added kept_lines keeps drops =
       let one : DecidedEntry = record { sentences = added.done; message = entry.message } in record {
         done = one ∷ [];
         of_entries = (let same = added.of_lines in λ i. record { sentences = same i; message = entry.message } ∷ []);
         decided = λ before are. (
-          subst (λ (l : List DecidedLine). AreDecided g a t before l) (sym (append-nil added.done)) (added.decided before are).0,
+          subst (λ (l : List DecidedLine). AreDecided expected g a t before l) (sym (append-nil added.done)) (added.decided before are).0,
           subst (λ (l : List DecidedLine). AreKeptLines (before ++ l) new.kept_lines.items) (sym (append-nil added.done)) (subst (λ (ps : List (Option ℕ)). AreKeptLines (before ++ added.done) ps) (sym kept_lines) (added.decided before are).1),
         );
         keeps = text_more old.kept.items middle.kept.items new.kept.items (kept_sentence_texts g added.done) (message_if_kept (has_kept added.done) entry.message) added.keeps
@@ -90,18 +90,18 @@ module _ (g : Grammar) (a : Automaton) (t : TableData) where
       }
 
   -- The decision on an entry with a kept sentence, and on one without.
-  module _ (entry : LooseEntry) (lines : List LooseLine) (message : Text) (same : lines ≡ entry.sentences) (text : message ≡ entry.message) (kept : Bool) (old middle new : Parts) (added : DecidesLines g a t lines kept old middle) (kept_lines : new.kept_lines.items ≡ middle.kept_lines.items) where
-    pub entry_with : kept ≡ true → new.dropped.items ≡ middle.dropped.items → new.kept.items ≡ middle.kept.items ++ message_if_kept true message → DecidesEntries g a t (entry ∷ []) old new
+  module _ (entry : LooseEntry) (lines : List LooseLine) (message : Text) (same : lines ≡ entry.sentences) (text : message ≡ entry.message) (kept : Bool) (old middle new : Parts) (added : DecidesLines expected g a t lines kept old middle) (kept_lines : new.kept_lines.items ≡ middle.kept_lines.items) where
+    pub entry_with : kept ≡ true → new.dropped.items ≡ middle.dropped.items → new.kept.items ≡ middle.kept.items ++ message_if_kept true message → DecidesEntries expected g a t (entry ∷ []) old new
     entry_with is drops keeps =
-        entry_added entry true old middle new (subst (λ (b : Bool). DecidesLines g a t entry.sentences b old middle) is (subst (λ (l : List LooseLine). DecidesLines g a t l kept old middle) same added)) kept_lines
+        entry_added entry true old middle new (subst (λ (b : Bool). DecidesLines expected g a t entry.sentences b old middle) is (subst (λ (l : List LooseLine). DecidesLines expected g a t l kept old middle) same added)) kept_lines
         (keeps ∙ ap (λ (m : Text). middle.kept.items ++ message_if_kept true m) text) (drops ∙ sym (append-nil middle.dropped.items))
 
-    pub entry_without : kept ≡ false → new.kept.items ≡ middle.kept.items → new.dropped.items ≡ middle.dropped.items ++ message_if_lost false message → DecidesEntries g a t (entry ∷ []) old new
+    pub entry_without : kept ≡ false → new.kept.items ≡ middle.kept.items → new.dropped.items ≡ middle.dropped.items ++ message_if_lost false message → DecidesEntries expected g a t (entry ∷ []) old new
     entry_without is keeps drops =
-        entry_added entry false old middle new (subst (λ (b : Bool). DecidesLines g a t entry.sentences b old middle) is (subst (λ (l : List LooseLine). DecidesLines g a t l kept old middle) same added)) kept_lines
+        entry_added entry false old middle new (subst (λ (b : Bool). DecidesLines expected g a t entry.sentences b old middle) is (subst (λ (l : List LooseLine). DecidesLines expected g a t l kept old middle) same added)) kept_lines
         (keeps ∙ sym (append-nil middle.kept.items)) (drops ∙ ap (λ (m : Text). middle.dropped.items ++ message_if_lost false m) text)
 
-  pub entries_none : (p : Parts) → DecidesEntries g a t [] p p
+  pub entries_none : (p : Parts) → DecidesEntries expected g a t [] p p
   entries_none p = record {
     done = [];
     of_entries = refl;
@@ -110,8 +110,8 @@ module _ (g : Grammar) (a : Automaton) (t : TableData) where
     drops = sym (append-nil p.dropped.items);
   }
 
-  pub entries_more : (entries : List LooseEntry) (i : ℕ) (entry : LooseEntry) (old middle new : Parts) → i < length entries → entry ≡ get_or entries i entry → DecidesEntries g a t (take i entries) old middle
-      → DecidesEntries g a t (entry ∷ []) middle new → DecidesEntries g a t (take (i + 1) entries) old new
+  pub entries_more : (entries : List LooseEntry) (i : ℕ) (entry : LooseEntry) (old middle new : Parts) → i < length entries → entry ≡ get_or entries i entry → DecidesEntries expected g a t (take i entries) old middle
+      → DecidesEntries expected g a t (entry ∷ []) middle new → DecidesEntries expected g a t (take (i + 1) entries) old new
   entries_more entries i entry old middle new lt here first next = record {
     done = first.done ++ next.done;
     of_entries = map-append without_decisions first.done next.done ∙ ap (λ (l : List LooseEntry). l ++ map without_decisions next.done) first.of_entries ∙ ap (λ (l : List LooseEntry). take i entries ++ l) next.of_entries
@@ -119,7 +119,7 @@ module _ (g : Grammar) (a : Automaton) (t : TableData) where
     decided = λ before are.
         let both : lines_in first.done ++ lines_in next.done ≡ lines_in (first.done ++ next.done) = sym (flat_map-append (λ (e : DecidedEntry). e.sentences) first.done next.done) in
         let more = next.decided (before ++ lines_in first.done) (first.decided before are).1 in (
-          subst (λ (l : List DecidedLine). AreDecided g a t before l) both (decided_append before (lines_in first.done) (lines_in next.done) (first.decided before are).0 more.0),
+          subst (λ (l : List DecidedLine). AreDecided expected g a t before l) both (decided_append before (lines_in first.done) (lines_in next.done) (first.decided before are).0 more.0),
           subst (λ (l : List DecidedLine). AreKeptLines l new.kept_lines.items) (append_assoc before (lines_in first.done) (lines_in next.done) ∙ ap (λ (l : List DecidedLine). before ++ l) both) more.1,
         );
     keeps = text_more old.kept.items middle.kept.items new.kept.items (kept_entries_text g first.done) (kept_entries_text g next.done) first.keeps next.keeps

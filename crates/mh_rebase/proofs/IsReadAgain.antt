@@ -30,34 +30,35 @@ use Rattle.mh_rebase.specs.ReadAgain.{HasNoCr, HasMessage, IsReadAgain}
 use Rattle.mh_rebase.proofs.StatesOfSentences.{content, failing_of_lines, failing_of_row, failing_contents, all_filtered, all_failing, all_fail, all_apart, all_found, sound_by, complete_by}
 use Rattle.mh_rebase.proofs.IsWritten.{Content, kept_content, kept_contents, entry_content_if, entry_kept, entries_kept, row_content, no_contents, HasFreeText, IsWritten, all_written, dropped_piece, with_dropped}
 
-abbrev pub first : Content → List (ℕ × List ℕ)
-first c = c.0
+-- The start and the tokens of each sentence of an entry.
+abbrev pub content_sentences : Content → List (ℕ × List ℕ)
+content_sentences c = c.0
 
 -- ---- The sentences of entries.
 
-pub sentences_first : (es : List Entry) → map content_of (flat_map (λ (e : Entry). e.sentences) es) ≡ flat_map first (map entry_content es)
-sentences_first [] = refl
-sentences_first (e ∷ es) =
-    map-append content_of e.sentences (flat_map (λ (f : Entry). f.sentences) es) ∙ ap (λ (l : List (ℕ × List ℕ)). map content_of e.sentences ++ l) (sentences_first es)
+pub content_sentences-entries : (es : List Entry) → map content_of (flat_map (λ (e : Entry). e.sentences) es) ≡ flat_map content_sentences (map entry_content es)
+content_sentences-entries [] = refl
+content_sentences-entries (e ∷ es) =
+    map-append content_of e.sentences (flat_map (λ (f : Entry). f.sentences) es) ∙ ap (λ (l : List (ℕ × List ℕ)). map content_of e.sentences ++ l) (content_sentences-entries es)
 
-entry_on : (js : List DecidedLine) (message : Text) (b : Bool) → has_kept js ≡ b → flat_map first (entry_content_if b js message) ≡ kept_contents js
+entry_on : (js : List DecidedLine) (message : Text) (b : Bool) → has_kept js ≡ b → flat_map content_sentences (entry_content_if b js message) ≡ kept_contents js
 entry_on js message true some = append-nil (kept_contents js)
 entry_on js message false none = sym (no_contents js none)
 
-entries_first : (es : List DecidedEntry) → flat_map first (entries_kept es) ≡ kept_contents (lines_in es)
-entries_first [] = refl
-entries_first (e ∷ es) =
-    flat_map-append first (entry_kept e) (entries_kept es) ∙ ap (λ (l : List (ℕ × List ℕ)). l ++ flat_map first (entries_kept es)) (entry_on e.sentences e.message (has_kept e.sentences) refl)
-    ∙ ap (λ (l : List (ℕ × List ℕ)). kept_contents e.sentences ++ l) (entries_first es) ∙ sym (flat_map-append (λ (j : DecidedLine). kept_content j.decision) e.sentences (lines_in es))
+content_sentences-kept : (es : List DecidedEntry) → flat_map content_sentences (entries_kept es) ≡ kept_contents (lines_in es)
+content_sentences-kept [] = refl
+content_sentences-kept (e ∷ es) =
+    flat_map-append content_sentences (entry_kept e) (entries_kept es) ∙ ap (λ (l : List (ℕ × List ℕ)). l ++ flat_map content_sentences (entries_kept es)) (entry_on e.sentences e.message (has_kept e.sentences) refl)
+    ∙ ap (λ (l : List (ℕ × List ℕ)). kept_contents e.sentences ++ l) (content_sentences-kept es) ∙ sym (flat_map-append (λ (j : DecidedLine). kept_content j.decision) e.sentences (lines_in es))
 
-rows_first : (rows : List CatalogueRow) → flat_map first (map row_content rows) ≡ map content (map failing_of_row rows)
-rows_first [] = refl
-rows_first (row ∷ rows) = ap (λ (l : List (ℕ × List ℕ)). (row.start, row.sentence) ∷ l) (rows_first rows)
+content_sentences-rows : (rows : List CatalogueRow) → flat_map content_sentences (map row_content rows) ≡ map content (map failing_of_row rows)
+content_sentences-rows [] = refl
+content_sentences-rows (row ∷ rows) = ap (λ (l : List (ℕ × List ℕ)). (row.start, row.sentence) ∷ l) (content_sentences-rows rows)
 
-pub contents_failing : (es : List DecidedEntry) (rows : List CatalogueRow) → flat_map first (entries_kept es ++ map row_content rows) ≡ map content (failing_of_lines (lines_in es) ++ map failing_of_row rows)
+pub contents_failing : (es : List DecidedEntry) (rows : List CatalogueRow) → flat_map content_sentences (entries_kept es ++ map row_content rows) ≡ map content (failing_of_lines (lines_in es) ++ map failing_of_row rows)
 contents_failing es rows =
-    flat_map-append first (entries_kept es) (map row_content rows) ∙ ap (λ (l : List (ℕ × List ℕ)). l ++ flat_map first (map row_content rows)) (entries_first es ∙ sym (failing_contents (lines_in es)))
-    ∙ ap (λ (l : List (ℕ × List ℕ)). map content (failing_of_lines (lines_in es)) ++ l) (rows_first rows) ∙ sym (map-append content (failing_of_lines (lines_in es)) (map failing_of_row rows))
+    flat_map-append content_sentences (entries_kept es) (map row_content rows) ∙ ap (λ (l : List (ℕ × List ℕ)). l ++ flat_map content_sentences (map row_content rows)) (content_sentences-kept es ∙ sym (failing_contents (lines_in es)))
+    ∙ ap (λ (l : List (ℕ × List ℕ)). map content (failing_of_lines (lines_in es)) ++ l) (content_sentences-rows rows) ∙ sym (map-append content (failing_of_lines (lines_in es)) (map failing_of_row rows))
 
 -- ---- Entries with a kept sentence.
 
@@ -101,9 +102,9 @@ message_in again cs x message same (c, among, has, is) =
       message_is = ap (λ (d : Content). d.1) of_entry.2 ∙ is;
     }
 
-module _ (g : Grammar) (a : Automaton) (t : TableData) (facts : Facts t) (same : t.grammar ≡ plain_of g) (has : HasReadableNames g) (names : HasNamesWithoutLineEnds g) where
+module _ (expected : Bool) (g : Grammar) (a : Automaton) (t : TableData) (facts : Facts t) (same : t.grammar ≡ plain_of g) (has : HasReadableNames g) (names : HasNamesWithoutLineEnds g) where
   -- The messages of the old file can be read again.
-  texts_free : (es : List DecidedEntry) (fs : List LooseEntry) → map without_decisions es ≡ fs → AllByRecursion (IsLooseBlock g has) fs → ((e : LooseEntry) → Contains fs e → IsFree g has e.message) → AllByRecursion (HasFreeText g a t facts same has names) es
+  texts_free : (es : List DecidedEntry) (fs : List LooseEntry) → map without_decisions es ≡ fs → AllByRecursion (IsLooseBlock g has) fs → ((e : LooseEntry) → Contains fs e → IsFree g has e.message) → AllByRecursion (HasFreeText expected g a t facts same has names) es
   texts_free [] fs is all free = tt
   texts_free (e ∷ es) [] is all free = absurd (cc)
   texts_free (e ∷ es) (f ∷ fs) is all free =
@@ -113,39 +114,39 @@ module _ (g : Grammar) (a : Automaton) (t : TableData) (facts : Facts t) (same :
         texts_free es fs (cc) all.1 (λ k c. free k (contains_there f fs k c)),
       )
 
-  module _ (bytes : Text) (file : LooseFile) (spells : LooseSpells bytes file) (free : HasNoCr file) (text : Text) (is : IsRebased g a t file text) where
+  module _ (bytes : Text) (file : LooseFile) (spells : LooseSpells bytes file) (free : HasNoCr file) (text : Text) (is : IsRebased expected g a t file text) where
     abbrev new_rows : List CatalogueRow
     new_rows = filter (is_new_row (lines_in is.entries)) is.rows
 
-    pub texts : AllByRecursion (HasFreeText g a t facts same has names) is.entries
+    pub texts : AllByRecursion (HasFreeText expected g a t facts same has names) is.entries
     texts = texts_free is.entries file.entries is.of_file (loose_blocks g has bytes file spells) free
 
     -- The kept and the new entries are written.
-    pub front_written : IsWritten g a t facts same has names (kept_entries_text g is.entries ++ is.new) (entries_kept is.entries ++ map row_content new_rows)
+    pub front_written : IsWritten expected g a t facts same has names (kept_entries_text g is.entries ++ is.new) (entries_kept is.entries ++ map row_content new_rows)
     front_written =
-        all_written g a t facts same has names is.entries new_rows is.new is.decided texts
+        all_written expected g a t facts same has names is.entries new_rows is.new is.decided texts
         (all_filtered (is_new_row (lines_in is.entries)) (λ (row : CatalogueRow). FailsFirst t row.start row.sentence row.state) is.rows is.catalogue.each) is.are_new
 
-    pub text_written : IsWritten g a t facts same has names text (entries_kept is.entries ++ map row_content new_rows)
+    pub text_written : IsWritten expected g a t facts same has names text (entries_kept is.entries ++ map row_content new_rows)
     text_written =
-        subst (λ (l : Text). IsWritten g a t facts same has names l (entries_kept is.entries ++ map row_content new_rows)) (sym is.is)
-        (with_dropped g a t facts same has names (kept_entries_text g is.entries ++ is.new) (dropped_entries_text is.entries) (entries_kept is.entries ++ map row_content new_rows) front_written
-        (dropped_piece g a t facts same has names [] is.entries is.decided texts))
+        subst (λ (l : Text). IsWritten expected g a t facts same has names l (entries_kept is.entries ++ map row_content new_rows)) (sym is.is)
+        (with_dropped expected g a t facts same has names (kept_entries_text g is.entries ++ is.new) (dropped_entries_text is.entries) (entries_kept is.entries ++ map row_content new_rows) front_written
+        (dropped_piece expected g a t facts same has names [] is.entries is.decided texts))
 
-    pub reread : IsReadAgain g a t file text
+    pub reread : IsReadAgain expected g a t file text
     reread =
         let w = text_written in
         let read = entries_spelled g has w.piece.lines w.entries w.good w.piece.whole w.piece.kept in
         let again = read.0 in
         let contents : map entry_content again.entries ≡ entries_kept is.entries ++ map row_content new_rows = read.2 ∙ w.content in
         let js = lines_in is.entries in
-        let zs : map content_of (sentences_of again) ≡ map content (all_failing g a t js is.rows is.decided is.catalogue) = sentences_first again.entries ∙ ap (flat_map first) contents ∙ contents_failing is.entries new_rows in
-        let fail = all_fail g a t js is.rows is.decided is.catalogue in record {
+        let zs : map content_of (sentences_of again) ≡ map content (all_failing expected g a t js is.rows is.decided is.catalogue) = content_sentences-entries again.entries ∙ ap (flat_map content_sentences) contents ∙ contents_failing is.entries new_rows in
+        let fail = all_fail expected g a t js is.rows is.decided is.catalogue in record {
           rebased = is;
           again = again;
           spells = subst (λ (b : Text). MsgSpells g b again) (sym w.piece.is) read.1;
-          sound = sound_by t (sentences_of again) (all_failing g a t js is.rows is.decided is.catalogue) zs fail (all_apart g a t js is.rows is.decided is.catalogue);
-          complete = λ s failing. complete_by t (sentences_of again) (all_failing g a t js is.rows is.decided is.catalogue) zs fail s (all_found g a t js is.rows is.decided is.catalogue s failing);
+          sound = sound_by t (sentences_of again) (all_failing expected g a t js is.rows is.decided is.catalogue) zs fail (all_apart expected g a t js is.rows is.decided is.catalogue);
+          complete = λ s failing. complete_by t (sentences_of again) (all_failing expected g a t js is.rows is.decided is.catalogue) zs fail s (all_found expected g a t js is.rows is.decided is.catalogue s failing);
           keeps = λ e j x s lines of_file of_entry keep.
               let found = kept_in is.entries e j x s lines of_file of_entry keep in
               message_in again (entries_kept is.entries ++ map row_content new_rows) x e.message contents (found.0, Contains-append_left (entries_kept is.entries) (map row_content new_rows) found.0 found.1, found.2, found.3);

@@ -24,12 +24,12 @@ use Rattle.mh_msgfile.proofs.LineEnds.{with_ends, IsReadUnchanged}
 use Rattle.mh_check.specs.Checks.{IsNoRefusal}
 use Rattle.mh_check.proofs.CheckedOnce.{no_refusal_not_rejected}
 use Rattle.mh_tables_core.specs.Run.{Rejected}
-use Rattle.mh_check.specs.Texts.{early_text, shared_text}
+use Rattle.mh_check.specs.Texts.{early_text, shared_state_text}
 use Rattle.mh_report_comments.specs.Comments.{message_placeholder}
 use Rattle.mh_report_comments.specs.Comments.{IsEntryText}
 use Rattle.mh_report_comments.specs.CatalogueTexts.{AreEntries}
 use Rattle.mh_update.specs.NoLineEnds.{HasNoLineEnd, HasNamesWithoutLineEnds}
-use Rattle.mh_update.proofs.GeneratedText.{IsGeneratedText-comment, in_both, whole}
+use Rattle.mh_update.proofs.GeneratedText.{IsGeneratedText-block, HasNoLineEnd-append, IsReadUnchanged-no_line_end}
 use Rattle.mh_rebase_form.specs.declared.reason.DropReason.{DropReason}
 use Rattle.mh_rebase_form.specs.declared.reason.DropReason.TheVariants as reasons
 use Rattle.mh_rebase_form.specs.Decisions.{Decision, Keep, Drop, DecidedLine, is_keep, IsReason, LineIsUnreadable, StartIsUnknown, StartIsMissing, TokenIsUnknown, SentenceIsNotRefused, SentenceIsRefusedEarly, StateIsShared, IsDecision, AreDecided}
@@ -94,15 +94,15 @@ pub record HasWords (reason : DropReason) : Type 0 where
 
 early_words : (at : ℕ) → HasWords (reasons.RefusedEarly at)
 unfolding early_text
-early_words at = record { words = codes "refused early at index " ++ decimal at; is = refl; inner = in_both (codes "refused early at index ") (decimal at) refl (number_in at) }
+early_words at = record { words = codes "refused early at index " ++ decimal at; is = refl; inner = HasNoLineEnd-append (codes "refused early at index ") (decimal at) refl (number_in at) }
 
 shared_words : (s line : ℕ) → HasWords (reasons.SharedState s line)
-unfolding shared_text
+unfolding shared_state_text
 shared_words s line =
     let front = (codes "state " ++ decimal s) ++ codes " is shared with line " in record {
       words = front ++ decimal line;
       is = refl;
-      inner = in_both front (decimal line) (in_both (codes "state " ++ decimal s) (codes " is shared with line ") (in_both (codes "state ") (decimal s) refl (number_in s)) refl) (number_in line);
+      inner = HasNoLineEnd-append front (decimal line) (HasNoLineEnd-append (codes "state " ++ decimal s) (codes " is shared with line ") (HasNoLineEnd-append (codes "state ") (decimal s) refl (number_in s)) refl) (number_in line);
     }
 
 refusal_words : (verdict : Verdict) → IsNoRefusal (ending_for verdict) → HasWords (reasons.NotRefused verdict)
@@ -112,9 +112,9 @@ refusal_words (verdicts.Reject at state) is = absurd (no_refusal_not_rejected (R
 
 pub reason_words : (v : Vocabulary) (t : TableData) (before : List DecidedLine) (text : Text) (reason : DropReason) → IsReason v t before text reason → HasWords reason
 reason_words v t before text reason (LineIsUnreadable read) = record { words = codes "unreadable"; is = refl; inner = refl }
-reason_words v t before text reason (StartIsUnknown name read) = record { words = codes "unknown start " ++ name; is = refl; inner = in_both (codes "unknown start ") name refl (word_in name (start_is_word v text name read)) }
+reason_words v t before text reason (StartIsUnknown name read) = record { words = codes "unknown start " ++ name; is = refl; inner = HasNoLineEnd-append (codes "unknown start ") name refl (word_in name (start_is_word v text name read)) }
 reason_words v t before text reason (StartIsMissing read) = record { words = codes "missing start"; is = refl; inner = refl }
-reason_words v t before text reason (TokenIsUnknown name read) = record { words = codes "unknown token " ++ name; is = refl; inner = in_both (codes "unknown token ") name refl (word_in name (token_is_word v text name read)) }
+reason_words v t before text reason (TokenIsUnknown name read) = record { words = codes "unknown token " ++ name; is = refl; inner = HasNoLineEnd-append (codes "unknown token ") name refl (word_in name (token_is_word v text name read)) }
 reason_words v t before text reason (SentenceIsNotRefused x verdict read is ends) = refusal_words verdict is
 reason_words v t before text reason (SentenceIsRefusedEarly x at s read early ends) = early_words at
 reason_words v t before text reason (StateIsShared x s line read fails kept) = shared_words s line
@@ -123,30 +123,30 @@ dropped_piece_of : (line : ℕ) (reason : DropReason) → HasWords reason → Pi
 unfolding dropped_title
 dropped_piece_of line reason has =
     let front = (codes "# dropped " ++ decimal line) ++ codes ": " in
-    let inner : HasNoLineEnd (front ++ has.words) = in_both front has.words (in_both (codes "# dropped " ++ decimal line) (codes ": ") (in_both (codes "# dropped ") (decimal line) refl (number_in line)) refl) has.inner in
-    piece_as ((front ++ has.words) ++ 10 ∷ []) (front ++ reason_text reason) [] [] (append_assoc front has.words (10 ∷ []) ∙ ap (λ (l : Text). front ++ l) (sym has.is)) refl (piece_gone (front ++ has.words) (whole (front ++ has.words) inner) refl)
+    let inner : HasNoLineEnd (front ++ has.words) = HasNoLineEnd-append front has.words (HasNoLineEnd-append (codes "# dropped " ++ decimal line) (codes ": ") (HasNoLineEnd-append (codes "# dropped ") (decimal line) refl (number_in line)) refl) has.inner in
+    piece_as ((front ++ has.words) ++ 10 ∷ []) (front ++ reason_text reason) [] [] (append_assoc front has.words (10 ∷ []) ∙ ap (λ (l : Text). front ++ l) (sym has.is)) refl (piece_gone (front ++ has.words) (IsReadUnchanged-no_line_end (front ++ has.words) inner) refl)
 
 piece_empty : Piece (10 ∷ []) ([] ∷ [])
 piece_empty = piece_line [] ((λ k d lt. absurd (omega arith)), refl) refl
 
-module _ (g : Grammar) (a : Automaton) (t : TableData) where
-  pub decided_split : (before js ks : List DecidedLine) → AreDecided g a t before (js ++ ks) → AreDecided g a t before js × AreDecided g a t (before ++ js) ks
-  decided_split before [] ks all = (tt, subst (λ (l : List DecidedLine). AreDecided g a t l ks) (sym (append-nil before)) all)
+module _ (expected : Bool) (g : Grammar) (a : Automaton) (t : TableData) where
+  pub decided_split : (before js ks : List DecidedLine) → AreDecided expected g a t before (js ++ ks) → AreDecided expected g a t before js × AreDecided expected g a t (before ++ js) ks
+  decided_split before [] ks all = (tt, subst (λ (l : List DecidedLine). AreDecided expected g a t l ks) (sym (append-nil before)) all)
   decided_split before (j ∷ js) ks all =
-      let later = decided_split (before ++ j ∷ []) js ks all.1 in ((all.0, later.0), subst (λ (l : List DecidedLine). AreDecided g a t l ks) (append_assoc before (j ∷ []) js) later.1)
+      let later = decided_split (before ++ j ∷ []) js ks all.1 in ((all.0, later.0), subst (λ (l : List DecidedLine). AreDecided expected g a t l ks) (append_assoc before (j ∷ []) js) later.1)
 
-module _ (g : Grammar) (a : Automaton) (t : TableData) (facts : Facts t) (same : t.grammar ≡ plain_of g) (has : HasReadableNames g) (names : HasNamesWithoutLineEnds g) where
+module _ (expected : Bool) (g : Grammar) (a : Automaton) (t : TableData) (facts : Facts t) (same : t.grammar ≡ plain_of g) (has : HasReadableNames g) (names : HasNamesWithoutLineEnds g) where
   -- ---- Kept entries.
 
-  decision_piece : (before : List DecidedLine) (text : Text) (d : Decision) → IsDecision g a t before text d → Piece (kept_sentence_text g d) (map (canonical g) (kept_content d))
+  decision_piece : (before : List DecidedLine) (text : Text) (d : Decision) → IsDecision expected g a t before text d → Piece (kept_sentence_text g d) (map (canonical g) (kept_content d))
   decision_piece before text (Drop reason) is = piece_none
   decision_piece before text (Keep x s lines) is =
       let line = sentence_text g x.start x.tokens in
       let begins = line_begins g has x.start x.tokens (sentence_start g text x is.read) (sentence_tokens g text x is.read) in
       piece_as ((line ++ 10 ∷ []) ++ lines) (line ++ 10 ∷ lines) (line ∷ []) (line ∷ []) (append_assoc line (10 ∷ []) lines) refl
-      (piece_both (line ++ 10 ∷ []) lines (line ∷ []) [] (piece_line line (begins.no_end, begins.whole) begins.kept) (piece_generated lines (IsGeneratedText-comment g names a t facts x.start x.tokens lines is.commented)))
+      (piece_both (line ++ 10 ∷ []) lines (line ∷ []) [] (piece_line line (begins.no_end, begins.whole) begins.kept) (piece_generated lines (IsGeneratedText-block g names a t facts expected x.start x.tokens lines is.commented)))
 
-  lines_piece : (before js : List DecidedLine) → AreDecided g a t before js → Piece (kept_sentence_texts g js) (map (canonical g) (kept_contents js))
+  lines_piece : (before js : List DecidedLine) → AreDecided expected g a t before js → Piece (kept_sentence_texts g js) (map (canonical g) (kept_contents js))
   lines_piece before [] all = piece_none
   lines_piece before (j ∷ js) all =
       let here = kept_content j.decision in
@@ -154,11 +154,11 @@ module _ (g : Grammar) (a : Automaton) (t : TableData) (facts : Facts t) (same :
       (sym (map-append (canonical g) here (kept_contents js)))
       (piece_both (kept_sentence_text g j.decision) (kept_sentence_texts g js) (map (canonical g) here) (map (canonical g) (kept_contents js)) (decision_piece before j.line.text j.decision all.0) (lines_piece (before ++ j ∷ []) js all.1))
 
-  decision_known : (before : List DecidedLine) (text : Text) (d : Decision) → IsDecision g a t before text d → AllByRecursion (IsKnown g) (kept_content d)
+  decision_known : (before : List DecidedLine) (text : Text) (d : Decision) → IsDecision expected g a t before text d → AllByRecursion (IsKnown g) (kept_content d)
   decision_known before text (Drop reason) is = tt
   decision_known before text (Keep x s lines) is = ((sentence_start g text x is.read, sentence_tokens g text x is.read), tt)
 
-  lines_known : (before js : List DecidedLine) → AreDecided g a t before js → AllByRecursion (IsKnown g) (kept_contents js)
+  lines_known : (before js : List DecidedLine) → AreDecided expected g a t before js → AllByRecursion (IsKnown g) (kept_contents js)
   lines_known before [] all = tt
   lines_known before (j ∷ js) all = recursion-append (IsKnown g) (kept_content j.decision) (kept_contents js) (decision_known before j.line.text j.decision all.0) (lines_known (before ++ j ∷ []) js all.1)
 
@@ -205,7 +205,7 @@ module _ (g : Grammar) (a : Automaton) (t : TableData) (facts : Facts t) (same :
   abbrev pub IsFreeText : Text → Type 0
   IsFreeText message = IsMessageText g has message × IsFree g has message
 
-  entry_on : (before js : List DecidedLine) (message : Text) → AreDecided g a t before js → IsFreeText message → (b : Bool) → has_kept js ≡ b → IsWritten (kept_sentence_texts g js ++ message_if_kept b message) (entry_content_if b js message)
+  entry_on : (before js : List DecidedLine) (message : Text) → AreDecided expected g a t before js → IsFreeText message → (b : Bool) → has_kept js ≡ b → IsWritten (kept_sentence_texts g js ++ message_if_kept b message) (entry_content_if b js message)
   entry_on before js message all text false none =
       written_none (kept_sentence_texts g js ++ [])
       (piece_as (kept_sentence_texts g js) (kept_sentence_texts g js ++ []) (map (canonical g) (kept_contents js)) [] (sym (append-nil (kept_sentence_texts g js))) (ap (map (canonical g)) (no_contents js none)) (lines_piece before js all))
@@ -217,41 +217,41 @@ module _ (g : Grammar) (a : Automaton) (t : TableData) (facts : Facts t) (same :
   abbrev pub HasFreeText : DecidedEntry → Type 0
   HasFreeText e = IsFreeText e.message
 
-  entries_written : (before : List DecidedLine) (es : List DecidedEntry) → AreDecided g a t before (lines_in es) → AllByRecursion HasFreeText es → IsWritten (kept_entries_text g es) (entries_kept es)
+  entries_written : (before : List DecidedLine) (es : List DecidedEntry) → AreDecided expected g a t before (lines_in es) → AllByRecursion HasFreeText es → IsWritten (kept_entries_text g es) (entries_kept es)
   entries_written before [] all texts = written_none [] piece_none
   entries_written before (e ∷ es) all texts =
-      let parts = decided_split g a t before e.sentences (lines_in es) all in
+      let parts = decided_split expected g a t before e.sentences (lines_in es) all in
       written_both (kept_entry_text g e) (kept_entries_text g es) (entry_kept e) (entries_kept es) (entry_on before e.sentences e.message parts.0 texts.0 (has_kept e.sentences) refl) (entries_written (before ++ e.sentences) es parts.1 texts.1)
 
   -- ---- New entries.
 
   place_good : AllByRecursion (IsLine g) (place_line ∷ [])
-  place_good = ((whole place_line refl, refl), tt)
+  place_good = ((IsReadUnchanged-no_line_end place_line refl, refl), tt)
 
-  row_written : (row : CatalogueRow) (text : Text) → FailsFirst t row.start row.sentence row.state → IsEntryText g a t row.start row.sentence text → IsWritten text (row_content row ∷ [])
+  row_written : (row : CatalogueRow) (text : Text) → FailsFirst t row.start row.sentence row.state → IsEntryText expected g a t row.start row.sentence text → IsWritten text (row_content row ∷ [])
   row_written row text fails is =
       let line = sentence_text g row.start row.sentence in
       let start : row.start < length g.starts = subst (λ (h : PlainGrammar). row.start < length h.starts) same fails.fails.sentence.known in
       let tokens : AllByRecursion (λ z. z < length g.tokens) row.sentence = subst (λ (h : PlainGrammar). AllByRecursion (λ z. z < h.tokens) row.sentence) same fails.fails.sentence.tokens in
       let begins = line_begins g has row.start row.sentence start tokens in
       let front : Piece ((line ++ 10 ∷ []) ++ is.comments) (line ∷ []) =
-      piece_both (line ++ 10 ∷ []) is.comments (line ∷ []) [] (piece_line line (begins.no_end, begins.whole) begins.kept) (piece_generated is.comments (IsGeneratedText-comment g names a t facts row.start row.sentence is.comments is.are_comments)) in
+      piece_both (line ++ 10 ∷ []) is.comments (line ∷ []) [] (piece_line line (begins.no_end, begins.whole) begins.kept) (piece_generated is.comments (IsGeneratedText-block g names a t facts expected row.start row.sentence is.comments is.are_comments)) in
       let there : text ≡ ((line ++ 10 ∷ []) ++ is.comments) ++ 10 ∷ (with_ends (place_line ∷ []) ++ 10 ∷ []) = is.is ∙ ap (λ (l : Text). ((line ++ 10 ∷ []) ++ is.comments) ++ l) place_is in
       subst (λ (l : Text). IsWritten l (row_content row ∷ [])) (sym there)
       (one_written ((line ++ 10 ∷ []) ++ is.comments) ((row.start, row.sentence) ∷ []) (place_line ∷ []) front refl ((start, tokens), tt) refl place_good (refl, tt))
 
-  rows_written : (rows : List CatalogueRow) (text : Text) → AllByRecursion (λ (row : CatalogueRow). FailsFirst t row.start row.sentence row.state) rows → AreEntries g a t rows text → IsWritten text (map row_content rows)
+  rows_written : (rows : List CatalogueRow) (text : Text) → AllByRecursion (λ (row : CatalogueRow). FailsFirst t row.start row.sentence row.state) rows → AreEntries expected g a t rows text → IsWritten text (map row_content rows)
   rows_written [] text all none = subst (λ (l : Text). IsWritten l []) (sym none) (written_none [] piece_none)
   rows_written (row ∷ rows) text all (first, rest, is, are, split) =
       subst (λ (l : Text). IsWritten l (row_content row ∷ map row_content rows)) (sym split) (written_both first rest (row_content row ∷ []) (map row_content rows) (row_written row first all.0 is) (rows_written rows rest all.1 are))
 
   -- ---- The report of what was dropped.
 
-  drop_piece : (before : List DecidedLine) (line : ℕ) (text : Text) (d : Decision) → IsDecision g a t before text d → Piece (dropped_line_text line d) []
+  drop_piece : (before : List DecidedLine) (line : ℕ) (text : Text) (d : Decision) → IsDecision expected g a t before text d → Piece (dropped_line_text line d) []
   drop_piece before line text (Keep x s lines) is = piece_none
   drop_piece before line text (Drop reason) is = dropped_piece_of line reason (reason_words (vocabulary_of g) t before text reason is)
 
-  drops_piece : (before js : List DecidedLine) → AreDecided g a t before js → Piece (dropped_lines_text js) []
+  drops_piece : (before js : List DecidedLine) → AreDecided expected g a t before js → Piece (dropped_lines_text js) []
   drops_piece before [] all = piece_none
   drops_piece before (j ∷ js) all = piece_both (dropped_line_text j.line.line j.decision) (dropped_lines_text js) [] [] (drop_piece before j.line.line j.line.text j.decision all.0) (drops_piece (before ++ j ∷ []) js all.1)
 
@@ -264,17 +264,17 @@ module _ (g : Grammar) (a : Automaton) (t : TableData) (facts : Facts t) (same :
   lost_piece message text false =
       let reads = message_reads g has message text.0 text.1 in subst (λ (m : Text). Piece (commented_message m) []) (sym text.0.is) (piece_commented text.0.lines (whole_lines text.0.lines reads.0))
 
-  pub dropped_piece : (before : List DecidedLine) (es : List DecidedEntry) → AreDecided g a t before (lines_in es) → AllByRecursion HasFreeText es → Piece (dropped_entries_text es) []
+  pub dropped_piece : (before : List DecidedLine) (es : List DecidedEntry) → AreDecided expected g a t before (lines_in es) → AllByRecursion HasFreeText es → Piece (dropped_entries_text es) []
   dropped_piece before [] all texts = piece_none
   dropped_piece before (e ∷ es) all texts =
-      let parts = decided_split g a t before e.sentences (lines_in es) all in
+      let parts = decided_split expected g a t before e.sentences (lines_in es) all in
       piece_both (dropped_entry_text e) (dropped_entries_text es) [] []
       (piece_both (dropped_lines_text e.sentences) (message_if_lost (has_kept e.sentences) e.message) [] [] (drops_piece before e.sentences parts.0) (lost_piece e.message texts.0 (has_kept e.sentences)))
       (dropped_piece (before ++ e.sentences) es parts.1 texts.1)
 
   -- ---- The whole text.
 
-  pub all_written : (es : List DecidedEntry) (rows : List CatalogueRow) (new : Text) → AreDecided g a t [] (lines_in es) → AllByRecursion HasFreeText es → AllByRecursion (λ (row : CatalogueRow). FailsFirst t row.start row.sentence row.state) rows → AreEntries g a t rows new
+  pub all_written : (es : List DecidedEntry) (rows : List CatalogueRow) (new : Text) → AreDecided expected g a t [] (lines_in es) → AllByRecursion HasFreeText es → AllByRecursion (λ (row : CatalogueRow). FailsFirst t row.start row.sentence row.state) rows → AreEntries expected g a t rows new
       → IsWritten (kept_entries_text g es ++ new) (entries_kept es ++ map row_content rows)
   all_written es rows new all texts each are = written_both (kept_entries_text g es) new (entries_kept es) (map row_content rows) (entries_written [] es all texts) (rows_written rows new each are)
 

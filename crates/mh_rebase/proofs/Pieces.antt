@@ -19,7 +19,7 @@ use Rattle.mh_msgfile.specs.Lines.{HasNoLineFeed, is_ignored_line}
 use Rattle.mh_msgfile.specs.FileTexts.{HasReadableNames}
 use Rattle.mh_msgfile.proofs.PrintedAgain.{is_kept_text, IsLine, all_unchanged, all_kept, filter_on}
 use Rattle.mh_msgfile.proofs.CanonicalLine.{word_bytes, not_byte}
-use Rattle.mh_msgfile.proofs.LineEnds.{with_ends, IsReadUnchanged, ends_in_cr}
+use Rattle.mh_msgfile.proofs.LineEnds.{with_ends, IsReadUnchanged, no_cr-unchanged}
 use Rattle.mh_msgfile.proofs.AreLines.{ended_more}
 use Rattle.mh_update.specs.NoLineEnds.{is_no_line_end, HasNoLineEnd}
 use Rattle.mh_update.proofs.GeneratedText.{IsGeneratedText}
@@ -132,7 +132,7 @@ no_end_more b line other none (suc k) d lt = none k d (omega arith)
 
 -- A line that is read unchanged still is after one more byte in front.
 pub whole_after : (b : ℕ) (line : Text) → b ≢ 10 → b ≢ 13 → IsReadUnchanged line → IsReadUnchanged (b ∷ line)
-whole_after b line no_lf no_end whole = (no_end_more b line no_lf whole.0, ends_in_cr (b ∷ line) _ refl (free line whole.1))
+whole_after b line no_lf no_end whole = (no_end_more b line no_lf whole.0, no_cr-unchanged (b ∷ line) _ refl (free line whole.1))
   where
     free : (line : Text) → no_cr line ≡ line → (front : Text) → b ∷ line ≡ front ++ 13 ∷ [] → ⊥
     free line unchanged [] is = no_end (cc)

@@ -27,7 +27,7 @@ use Rattle.mh_rebase.specs.ReadAgain.{HasNoCr}
 use Rattle.mh_rebase.specs.EntryTexts.{AreCommented}
 use Rattle.mh_rebase.proofs.AllAreKept.{IsKeep, texts_in, all_keep, no_drops, keep_contents, some_keep}
 use Rattle.mh_rebase.proofs.AreCommented.{commented_once, commented_append, entries_are, rows_are}
-use Rattle.mh_rebase.proofs.IsReadAgain.{first, contents_failing, text_written}
+use Rattle.mh_rebase.proofs.IsReadAgain.{content_sentences, contents_failing, text_written}
 use Rattle.mh_rebase.proofs.StatesOfSentences.{FailingSentence, OtherState, content, FailsThere, failing_of_lines, has_line, HasSentenceIn, all_failing, all_fail, all_apart, all_found}
 use Rattle.mh_rebase.proofs.IsWritten.{Content, kept_contents, entry_content_if, entry_kept, entries_kept, row_content, decided_split}
 
@@ -53,15 +53,15 @@ pub filter_none : (q : CatalogueRow → Bool) (rows : List CatalogueRow) → All
 filter_none q [] all = refl
 filter_none q (row ∷ rows) all = rw (all.0) (filter_none q rows all.1)
 
-module _ (g : Grammar) (a : Automaton) (t : TableData) where
-  pub empty_is_list : (file : LooseFile) (text : Text) → file.entries ≡ [] → IsRebased g a t file text → IsCatalogueText g a t text
+module _ (expected : Bool) (g : Grammar) (a : Automaton) (t : TableData) where
+  pub empty_is_list : (file : LooseFile) (text : Text) → file.entries ≡ [] → IsRebased expected g a t file text → IsCatalogueText expected g a t text
   empty_is_list file text empty is =
       let none : is.entries ≡ [] = no_entries is.entries (is.of_file ∙ empty) in
       let rows : filter (is_new_row (lines_in is.entries)) is.rows ≡ is.rows = ap (λ (es : List DecidedEntry). filter (is_new_row (lines_in es)) is.rows) none ∙ filter_all (is_new_row []) (λ row. refl) is.rows in
       let new : text ≡ is.new = is.is ∙ ap (λ (es : List DecidedEntry). (kept_entries_text g es ++ is.new) ++ dropped_entries_text es) none ∙ append-nil is.new in record {
         rows = is.rows;
         catalogue = is.catalogue;
-        entries = subst (λ (l : Text). AreEntries g a t is.rows l) (sym new) (subst (λ (l : List CatalogueRow). AreEntries g a t l is.new) rows is.are_new);
+        entries = subst (λ (l : Text). AreEntries expected g a t is.rows l) (sym new) (subst (λ (l : List CatalogueRow). AreEntries expected g a t l is.new) rows is.are_new);
       }
 
   -- ---- A file whose sentences are all kept.
@@ -73,19 +73,19 @@ module _ (g : Grammar) (a : Automaton) (t : TableData) where
     pub contents : contents_of g (texts_in e.sentences) ≡ c.0
     pub message : e.message ≡ c.1
 
-  pub entries_same : (before : List DecidedLine) (es : List DecidedEntry) (cs : List Content) → AllZip ReadsAs es cs → AreDecided g a t before (lines_in es) → AllByRecursion IsKeep (lines_in es) → (entries_kept es ≡ cs) × (dropped_entries_text es ≡ [])
+  pub entries_same : (before : List DecidedLine) (es : List DecidedEntry) (cs : List Content) → AllZip ReadsAs es cs → AreDecided expected g a t before (lines_in es) → AllByRecursion IsKeep (lines_in es) → (entries_kept es ≡ cs) × (dropped_entries_text es ≡ [])
   entries_same before [] [] zip decided keep = (refl, refl)
   entries_same before [] (c ∷ cs) zip decided keep = absurd zip
   entries_same before (e ∷ es) [] zip decided keep = absurd zip
   entries_same before (e ∷ es) (c ∷ cs) zip decided keep =
-      let parts = decided_split g a t before e.sentences (lines_in es) decided in
+      let parts = decided_split expected g a t before e.sentences (lines_in es) decided in
       let keeps = keep_split e.sentences (lines_in es) keep in
-      let some = some_keep g a t e.sentences keeps.0 zip.0.some in
-      let contents : kept_contents e.sentences ≡ c.0 = keep_contents g a t before e.sentences parts.0 keeps.0 ∙ zip.0.contents in
+      let some = some_keep expected g a t e.sentences keeps.0 zip.0.some in
+      let contents : kept_contents e.sentences ≡ c.0 = keep_contents expected g a t before e.sentences parts.0 keeps.0 ∙ zip.0.contents in
       let later = entries_same (before ++ e.sentences) es cs zip.1 parts.1 keeps.1 in
       let message = zip.0.message in
       let one : entry_kept e ≡ c ∷ [] = ap (λ (b : Bool). entry_content_if b e.sentences e.message) some ∙ (λ i. (contents i, message i) ∷ []) in
-      let none : dropped_entry_text e ≡ [] = ap (λ (l : Text). l ++ message_if_lost (has_kept e.sentences) e.message) (no_drops g a t e.sentences keeps.0) ∙ ap (λ (b : Bool). message_if_lost b e.message) some in (
+      let none : dropped_entry_text e ≡ [] = ap (λ (l : Text). l ++ message_if_lost (has_kept e.sentences) e.message) (no_drops expected g a t e.sentences keeps.0) ∙ ap (λ (b : Bool). message_if_lost b e.message) some in (
         ap (λ (l : List Content). l ++ entries_kept es) one ∙ ap (λ (l : List Content). c ∷ l) later.0,
         ap (λ (l : Text). l ++ dropped_entries_text es) none ∙ later.1,
       )
@@ -100,7 +100,7 @@ module _ (g : Grammar) (a : Automaton) (t : TableData) where
   contents_append : (xs ys : List Text) → contents_of g (xs ++ ys) ≡ contents_of g xs ++ contents_of g ys
   contents_append xs ys = flat_map-append (λ (line : Text). content_at g (found_in g line)) xs ys
 
-  entries_good : (es : List DecidedEntry) (cs : List Content) → AllZip ReadsAs es cs → AreGood g (texts_in (lines_in es)) × (contents_of g (texts_in (lines_in es)) ≡ flat_map first cs)
+  entries_good : (es : List DecidedEntry) (cs : List Content) → AllZip ReadsAs es cs → AreGood g (texts_in (lines_in es)) × (contents_of g (texts_in (lines_in es)) ≡ flat_map content_sentences cs)
   entries_good [] [] zip = (tt, refl)
   entries_good [] (c ∷ cs) zip = absurd zip
   entries_good (e ∷ es) [] zip = absurd zip
@@ -120,18 +120,18 @@ module _ (g : Grammar) (a : Automaton) (t : TableData) where
       (ap is_none (ap (kept_line js) (sym z.2) ∙ line.1), none_new js zs placed found rows each.1)
 
   -- A file is kept whole if it reads as sentences that all fail, no two in one state and one in each failing state.
-  pub all_stay : (file : LooseFile) (text : Text) (is : IsRebased g a t file text) (cs : List Content) → AllZip ReadsAs is.entries cs → (zs : List FailingSentence) → flat_map first cs ≡ map content zs → AllByRecursion (FailsThere g a t) zs → IsRising OtherState zs
-      → ((s : ℕ) → Failing t s → HasSentenceIn zs s) → AreCommented g a t cs text
+  pub all_stay : (file : LooseFile) (text : Text) (is : IsRebased expected g a t file text) (cs : List Content) → AllZip ReadsAs is.entries cs → (zs : List FailingSentence) → flat_map content_sentences cs ≡ map content zs → AllByRecursion (FailsThere expected g a t) zs → IsRising OtherState zs
+      → ((s : ℕ) → Failing t s → HasSentenceIn zs s) → AreCommented expected g a t cs text
   all_stay file text is cs zip zs same fail rising found =
       let js = lines_in is.entries in
       let good = entries_good is.entries cs zip in
-      let keep = all_keep g a t [] js is.decided zs good.0 (good.1 ∙ same) fail rising in
+      let keep = all_keep expected g a t [] js is.decided zs good.0 (good.1 ∙ same) fail rising in
       let kept = entries_same [] is.entries cs zip is.decided keep.0 in
       let rows : filter (is_new_row js) is.rows ≡ [] = filter_none (is_new_row js) is.rows (none_new js zs keep.1 found is.rows is.catalogue.each) in
-      let new : is.new ≡ [] = subst (λ (l : List CatalogueRow). AreEntries g a t l is.new) rows is.are_new in
+      let new : is.new ≡ [] = subst (λ (l : List CatalogueRow). AreEntries expected g a t l is.new) rows is.are_new in
       let there : text ≡ kept_entries_text g is.entries = is.is ∙ ap (λ (l : Text). (kept_entries_text g is.entries ++ l) ++ dropped_entries_text is.entries) new ∙ ap (λ (l : Text). (kept_entries_text g is.entries ++ []) ++ l) kept.1
       ∙ append-nil (kept_entries_text g is.entries ++ []) ∙ append-nil (kept_entries_text g is.entries) in
-      subst (λ (l : Text). AreCommented g a t cs l) (sym there) (subst (λ (l : List Content). AreCommented g a t l (kept_entries_text g is.entries)) kept.0 (entries_are g a t [] is.entries is.decided))
+      subst (λ (l : Text). AreCommented expected g a t cs l) (sym there) (subst (λ (l : List Content). AreCommented expected g a t l (kept_entries_text g is.entries)) kept.0 (entries_are expected g a t [] is.entries is.decided))
 
   -- ---- A rebased text.
 
@@ -152,10 +152,10 @@ module _ (g : Grammar) (a : Automaton) (t : TableData) where
           canonical_reads es ws (ap (drop 1) is) good.1,
         )
 
-    pub repeated : (bytes : Text) (file : LooseFile) (text : Text) → LooseSpells bytes file → HasNoCr file → (is : IsRebased g a t file text)
-        → (loose : LooseFile) × LooseSpells text loose × ((next : Text) → IsRebased g a t loose next → next ≡ kept_entries_text g is.entries ++ is.new)
+    pub repeated : (bytes : Text) (file : LooseFile) (text : Text) → LooseSpells bytes file → HasNoCr file → (is : IsRebased expected g a t file text)
+        → (loose : LooseFile) × LooseSpells text loose × ((next : Text) → IsRebased expected g a t loose next → next ≡ kept_entries_text g is.entries ++ is.new)
     repeated bytes file text spells free is =
-        let w = text_written g a t facts same has names bytes file spells free text is in
+        let w = text_written expected g a t facts same has names bytes file spells free text is in
         let read = entries_loose g has w.piece.lines w.entries w.good w.piece.whole w.piece.kept in
         let rows = filter (is_new_row (lines_in is.entries)) is.rows in
         let cs = entries_kept is.entries ++ map row_content rows in (
@@ -163,9 +163,9 @@ module _ (g : Grammar) (a : Automaton) (t : TableData) where
           subst (λ (b : Text). LooseSpells b read.0) (sym w.piece.is) read.1,
           λ next rebased.
               let zip = subst (λ (l : List Content). AllZip ReadsAs rebased.entries l) w.content (canonical_reads rebased.entries w.entries (ap (map loose_content) rebased.of_file ∙ read.2) w.good) in
-              let stays = all_stay read.0 next rebased cs zip (all_failing g a t (lines_in is.entries) is.rows is.decided is.catalogue) (contents_failing is.entries rows) (all_fail g a t (lines_in is.entries) is.rows is.decided is.catalogue)
-              (all_apart g a t (lines_in is.entries) is.rows is.decided is.catalogue) (all_found g a t (lines_in is.entries) is.rows is.decided is.catalogue) in
-              let were : AreCommented g a t cs (kept_entries_text g is.entries ++ is.new) =
-              commented_append g a t (entries_kept is.entries) (map row_content rows) (kept_entries_text g is.entries) is.new (entries_are g a t [] is.entries is.decided) (rows_are g a t rows is.new is.are_new) in
-              commented_once g a t cs next (kept_entries_text g is.entries ++ is.new) stays were,
+              let stays = all_stay read.0 next rebased cs zip (all_failing expected g a t (lines_in is.entries) is.rows is.decided is.catalogue) (contents_failing is.entries rows) (all_fail expected g a t (lines_in is.entries) is.rows is.decided is.catalogue)
+              (all_apart expected g a t (lines_in is.entries) is.rows is.decided is.catalogue) (all_found expected g a t (lines_in is.entries) is.rows is.decided is.catalogue) in
+              let were : AreCommented expected g a t cs (kept_entries_text g is.entries ++ is.new) =
+              commented_append expected g a t (entries_kept is.entries) (map row_content rows) (kept_entries_text g is.entries) is.new (entries_are expected g a t [] is.entries is.decided) (rows_are expected g a t rows is.new is.are_new) in
+              commented_once expected g a t cs next (kept_entries_text g is.entries ++ is.new) stays were,
         )

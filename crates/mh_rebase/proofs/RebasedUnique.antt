@@ -1,5 +1,5 @@
 -- Proves that the decisions on the lines of a file and its rebased text are unique.
-use Rattle.std.proofs.Common.{◌≡◌, ◌<◌, ◌-◌, ◌+◌, ℕ, List, [], ◌∷◌, ◌++◌, length, map, drop, filter, Option, None, Some, refl, sym, ◌∙◌, ap, ap₂, subst, arith}
+use Rattle.std.proofs.Common.{◌≡◌, Bool, ◌<◌, ◌-◌, ◌+◌, ℕ, List, [], ◌∷◌, ◌++◌, length, map, drop, filter, Option, None, Some, refl, sym, ◌∙◌, ap, ap₂, subst, arith, false}
 use Rattle.mh_grammar.proofs.Lists.{first_same}
 use Rattle.mh_grammar.specs.declared.types.Grammar.{Grammar}
 use Rattle.mh_grammar.specs.declared.types.Sentence.{Sentence}
@@ -19,10 +19,10 @@ use Rattle.mh_msgfile.specs.declared.loose.LooseEntry.{LooseEntry}
 use Rattle.mh_msgfile.specs.declared.loose.LooseFile.{LooseFile}
 use Rattle.mh_check.specs.Checks.{IsNoRefusal}
 use Rattle.mh_check.proofs.CheckedOnce.{no_refusal_not_rejected}
-use Rattle.mh_report_comments.specs.Comments.{IsCommentText}
+use Rattle.mh_report_comments.specs.Comments.{IsCommentBlock}
 use Rattle.mh_report_comments.specs.CatalogueTexts.{AreEntries}
 use Rattle.mh_report_comments.proofs.AreEntries.{entries_once}
-use Rattle.mh_report_comments.proofs.OneCommentText.{comments_once}
+use Rattle.mh_report_comments.proofs.OneCommentText.{block_once}
 use Rattle.mh_rebase_form.specs.declared.reason.DropReason.{DropReason}
 use Rattle.mh_rebase_form.specs.declared.reason.DropReason.TheVariants as reasons
 use Rattle.mh_rebase_form.specs.Decisions.{Decision, Keep, Drop, DecidedLine, kept_line, IsReason, LineIsUnreadable, StartIsUnknown, StartIsMissing, TokenIsUnknown, SentenceIsNotRefused, SentenceIsRefusedEarly, StateIsShared, IsDecision, AreDecided}
@@ -105,48 +105,48 @@ module _ (t : TableData) (before : List DecidedLine) where
 
 -- ---- Decisions.
 
-module _ (g : Grammar) (a : Automaton) (t : TableData) where
-  decision_once : (before : List DecidedLine) (text : Text) (d e : Decision) → IsDecision g a t before text d → IsDecision g a t before text e → d ≡ e
+module _ (expected : Bool) (g : Grammar) (a : Automaton) (t : TableData) where
+  decision_once : (before : List DecidedLine) (text : Text) (d e : Decision) → IsDecision expected g a t before text d → IsDecision expected g a t before text e → d ≡ e
   decision_once before text (Drop r) (Drop q) is is' = ap Drop (reason_once t before (vocabulary_of g) text r q is is')
-  decision_once before text (Drop r) (Keep x s lines) is is' = absurd (reason_never g a t before text x s r is is'.read is'.fails is'.first)
-  decision_once before text (Keep x s lines) (Drop r) is is' = absurd (reason_never g a t before text x s r is' is.read is.fails is.first)
+  decision_once before text (Drop r) (Keep x s lines) is is' = absurd (reason_never g t before text x s r is is'.read is'.fails is'.first)
+  decision_once before text (Keep x s lines) (Drop r) is is' = absurd (reason_never g t before text x s r is' is.read is.fails is.first)
   decision_once before text (Keep x s lines) (Keep y r lines') is is' =
       let both : IsSentence x ≡ IsSentence y = sym is.read ∙ is'.read in
       let same : x ≡ y = cc in
       let failing : Fails t y.start y.tokens s = subst (λ (z : Sentence). Fails t z.start z.tokens s) same is.fails in
-      let state : s ≡ r = state_once g a t y.start y.tokens s r failing is'.fails in
-      let text_is : lines ≡ lines' = comments_once g a t y.start y.tokens lines lines' (subst (λ (z : Sentence). IsCommentText g a t z.start z.tokens lines) same is.commented) is'.commented in λ i. Keep (same i) (state i) (text_is i)
+      let state : s ≡ r = state_once g t y.start y.tokens s r failing is'.fails in
+      let text_is : lines ≡ lines' = block_once g a t expected y.start y.tokens lines lines' (subst (λ (z : Sentence). IsCommentBlock expected g a t z.start z.tokens lines) same is.commented) is'.commented in λ i. Keep (same i) (state i) (text_is i)
 
-  one_decided : (before : List DecidedLine) (j k : DecidedLine) → j.line ≡ k.line → IsDecision g a t before j.line.text j.decision → IsDecision g a t before k.line.text k.decision → j ≡ k
+  one_decided : (before : List DecidedLine) (j k : DecidedLine) → j.line ≡ k.line → IsDecision expected g a t before j.line.text j.decision → IsDecision expected g a t before k.line.text k.decision → j ≡ k
   one_decided before j k line is is' =
-      let decision = decision_once before k.line.text j.decision k.decision (subst (λ (l : LooseLine). IsDecision g a t before l.text j.decision) line is) is' in λ i. record { line = line i; decision = decision i }
+      let decision = decision_once before k.line.text j.decision k.decision (subst (λ (l : LooseLine). IsDecision expected g a t before l.text j.decision) line is) is' in λ i. record { line = line i; decision = decision i }
 
-  decided_once : (before js ks : List DecidedLine) → map (λ (j : DecidedLine). j.line) js ≡ map (λ (j : DecidedLine). j.line) ks → AreDecided g a t before js → AreDecided g a t before ks → js ≡ ks
+  decided_once : (before js ks : List DecidedLine) → map (λ (j : DecidedLine). j.line) js ≡ map (λ (j : DecidedLine). j.line) ks → AreDecided expected g a t before js → AreDecided expected g a t before ks → js ≡ ks
   decided_once before [] [] same p q = refl
   decided_once before [] (k ∷ ks) same p q = absurd (cc)
   decided_once before (j ∷ js) [] same p q = absurd (cc)
   decided_once before (j ∷ js) (k ∷ ks) same p q =
       let line : j.line ≡ k.line = first_same _ _ _ _ same in
       let one = one_decided before j k line p.0 q.0 in
-      let later = decided_once (before ++ k ∷ []) js ks (ap (drop 1) same) (subst (λ (i : DecidedLine). AreDecided g a t (before ++ i ∷ []) js) one p.1) q.1 in λ i. one i ∷ later i
+      let later = decided_once (before ++ k ∷ []) js ks (ap (drop 1) same) (subst (λ (i : DecidedLine). AreDecided expected g a t (before ++ i ∷ []) js) one p.1) q.1 in λ i. one i ∷ later i
 
-  decided_entries_once : (before : List DecidedLine) (es fs : List DecidedEntry) → map without_decisions es ≡ map without_decisions fs → AreDecided g a t before (lines_in es) → AreDecided g a t before (lines_in fs) → es ≡ fs
+  decided_entries_once : (before : List DecidedLine) (es fs : List DecidedEntry) → map without_decisions es ≡ map without_decisions fs → AreDecided expected g a t before (lines_in es) → AreDecided expected g a t before (lines_in fs) → es ≡ fs
   decided_entries_once before [] [] same p q = refl
   decided_entries_once before [] (f ∷ fs) same p q = absurd (cc)
   decided_entries_once before (e ∷ es) [] same p q = absurd (cc)
   decided_entries_once before (e ∷ es) (f ∷ fs) same p q =
       let one : without_decisions e ≡ without_decisions f = first_same _ _ _ _ same in
-      let first = decided_split g a t before e.sentences (lines_in es) p in
-      let second = decided_split g a t before f.sentences (lines_in fs) q in
+      let first = decided_split expected g a t before e.sentences (lines_in es) p in
+      let second = decided_split expected g a t before f.sentences (lines_in fs) q in
       let sentences = decided_once before e.sentences f.sentences (ap (λ (x : LooseEntry). x.sentences) one) first.0 second.0 in
       let message : e.message ≡ f.message = ap (λ (x : LooseEntry). x.message) one in
-      let later = decided_entries_once (before ++ f.sentences) es fs (ap (drop 1) same) (subst (λ (js : List DecidedLine). AreDecided g a t (before ++ js) (lines_in es)) sentences first.1) second.1 in
+      let later = decided_entries_once (before ++ f.sentences) es fs (ap (drop 1) same) (subst (λ (js : List DecidedLine). AreDecided expected g a t (before ++ js) (lines_in es)) sentences first.1) second.1 in
       λ i. record { sentences = sentences i; message = message i } ∷ later i
 
-  pub rebased_once : (file : LooseFile) (x y : Text) → IsRebased g a t file x → IsRebased g a t file y → x ≡ y
+  pub rebased_once : (file : LooseFile) (x y : Text) → IsRebased expected g a t file x → IsRebased expected g a t file y → x ≡ y
   rebased_once file x y p q =
       let entries : p.entries ≡ q.entries = decided_entries_once [] p.entries q.entries (p.of_file ∙ sym q.of_file) p.decided q.decided in
       let rows : p.rows ≡ q.rows = catalogue_once t p.rows q.rows p.catalogue q.catalogue in
       let new_rows : filter (is_new_row (lines_in p.entries)) p.rows ≡ filter (is_new_row (lines_in q.entries)) q.rows = ap₂ (λ (es : List DecidedEntry) (rs : List CatalogueRow). filter (is_new_row (lines_in es)) rs) entries rows in
-      let new : p.new ≡ q.new = entries_once g a t (filter (is_new_row (lines_in q.entries)) q.rows) p.new q.new (subst (λ (rs : List CatalogueRow). AreEntries g a t rs p.new) new_rows p.are_new) q.are_new in
+      let new : p.new ≡ q.new = entries_once expected g a t (filter (is_new_row (lines_in q.entries)) q.rows) p.new q.new (subst (λ (rs : List CatalogueRow). AreEntries expected g a t rs p.new) new_rows p.are_new) q.are_new in
       p.is ∙ ap₂ (λ (es : List DecidedEntry) (l : Text). (kept_entries_text g es ++ l) ++ dropped_entries_text es) entries new ∙ sym q.is

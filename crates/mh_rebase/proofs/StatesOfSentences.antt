@@ -147,24 +147,24 @@ module _ (q : CatalogueRow → Bool) where
       subst (λ (l : List CatalogueRow). IsRising OtherState (map failing_of_row l)) (sym (filter_on q x xs (q x) refl))
       (rows_by x xs (q x) (all_filtered (IsRowBefore x) xs rising.0) (rows_apart xs rising.1))
 
-module _ (g : Grammar) (a : Automaton) (t : TableData) where
+module _ (expected : Bool) (g : Grammar) (a : Automaton) (t : TableData) where
   abbrev pub FailsThere : FailingSentence → Type 0
   FailsThere z = Fails t z.0.0 z.0.1 z.1
 
-  decision_fails : (before : List DecidedLine) (text : Text) (d : Decision) → IsDecision g a t before text d → AllByRecursion FailsThere (failing_of_decision d)
+  decision_fails : (before : List DecidedLine) (text : Text) (d : Decision) → IsDecision expected g a t before text d → AllByRecursion FailsThere (failing_of_decision d)
   decision_fails before text (Keep x s lines) is = (is.fails, tt)
   decision_fails before text (Drop reason) is = tt
 
-  pub lines_fail : (before js : List DecidedLine) → AreDecided g a t before js → AllByRecursion FailsThere (failing_of_lines js)
+  pub lines_fail : (before js : List DecidedLine) → AreDecided expected g a t before js → AllByRecursion FailsThere (failing_of_lines js)
   lines_fail before [] all = tt
   lines_fail before (j ∷ js) all = recursion-append FailsThere (failing_of_decision j.decision) (failing_of_lines js) (decision_fails before j.line.text j.decision all.0) (lines_fail (before ++ j ∷ []) js all.1)
 
-  decision_apart : (before : List DecidedLine) (text : Text) (d : Decision) → IsDecision g a t before text d → IsRising OtherState (failing_of_lines before) → IsRising OtherState (failing_of_lines before ++ (failing_of_decision d ++ []))
+  decision_apart : (before : List DecidedLine) (text : Text) (d : Decision) → IsDecision expected g a t before text d → IsRising OtherState (failing_of_lines before) → IsRising OtherState (failing_of_lines before ++ (failing_of_decision d ++ []))
   decision_apart before text (Drop reason) is rising = subst (IsRising OtherState) (sym (append-nil (failing_of_lines before))) rising
   decision_apart before text (Keep x s lines) is rising =
       rising-push OtherState (failing_of_lines before) ((x.start, x.tokens), s) rising (λ y c same. let line = has_line before y c in let at : kept_line before s ≡ Some line.0 = ap (kept_line before) (sym same) ∙ line.1 in let no : None ≡ Some line.0 = sym is.first ∙ at in cc)
 
-  pub lines_apart : (before js : List DecidedLine) → AreDecided g a t before js → IsRising OtherState (failing_of_lines before) → IsRising OtherState (failing_of_lines (before ++ js))
+  pub lines_apart : (before js : List DecidedLine) → AreDecided expected g a t before js → IsRising OtherState (failing_of_lines before) → IsRising OtherState (failing_of_lines (before ++ js))
   lines_apart before [] all rising = subst (λ (l : List DecidedLine). IsRising OtherState (failing_of_lines l)) (sym (append-nil before)) rising
   lines_apart before (j ∷ js) all rising =
       let next = subst (IsRising OtherState) (sym (flat_map-append (λ (k : DecidedLine). failing_of_decision k.decision) before (j ∷ []))) (decision_apart before j.line.text j.decision all.0 rising) in
@@ -175,7 +175,7 @@ module _ (g : Grammar) (a : Automaton) (t : TableData) where
   rows_fail (row ∷ rows) all = (all.0.fails, rows_fail rows all.1)
 
   -- The kept sentences, and the sentences of the rows in whose states no kept sentence fails.
-  module _ (js : List DecidedLine) (rows : List CatalogueRow) (decided : AreDecided g a t [] js) (catalogue : Catalogue t rows) where
+  module _ (js : List DecidedLine) (rows : List CatalogueRow) (decided : AreDecided expected g a t [] js) (catalogue : Catalogue t rows) where
     abbrev pub all_failing : List FailingSentence
     all_failing = failing_of_lines js ++ map failing_of_row (filter (is_new_row js) rows)
 

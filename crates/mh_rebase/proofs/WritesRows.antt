@@ -19,7 +19,7 @@ use Rattle.mh_report_comments.specs.CatalogueTexts.{AreEntries}
 use Rattle.mh_report_comments.proofs.AreEntries.{entries_append}
 use Rattle.mh_rebase_form.specs.RebasedText.{lines_in, is_new_row, kept_entries_text, dropped_entries_text, IsRebased}
 use Rattle.mh_rebase.specs.code.Parts.{AreKeptLines, DecidesEntries}
-use Rattle.mh_rebase.specs.code.Rows.{IsFitRow, is_left_out, WritesRows}
+use Rattle.mh_rebase.specs.code.Rows.{IsFitRow, has_no_kept_line, WritesRows}
 use Rattle.mh_rebase.specs.declared.entries.Parts.{Parts}
 use Rattle.mh_rebase.proofs.AreKeptLines.{inner}
 
@@ -36,36 +36,36 @@ filter_same q r same [] = refl
 filter_same q r same (x ∷ xs) =
     filter_on q x xs (q x) refl ∙ ap (λ l. if q x then x ∷ l else l) (filter_same q r same xs) ∙ sym (filter_on r x xs (q x) (sym (same x)))
 
-module _ (g : Grammar) (a : Automaton) (t : TableData) where
+module _ (expected : Bool) (g : Grammar) (a : Automaton) (t : TableData) where
   -- ---- Rows.
 
-  pub rows_none : (kept : List (Option ℕ)) (text : Text) → WritesRows g a t kept [] text text
+  pub rows_none : (kept : List (Option ℕ)) (text : Text) → WritesRows expected g a t kept [] text text
   rows_none kept text = ([], refl, sym (append-nil text))
 
-  pub rows_more : (kept : List (Option ℕ)) (rows : List Row) (i : ℕ) (row : Row) (old middle new : Text) → i < length rows → row ≡ get_or rows i row → WritesRows g a t kept (take i rows) old middle → WritesRows g a t kept (row ∷ []) middle new
-      → WritesRows g a t kept (take (i + 1) rows) old new
+  pub rows_more : (kept : List (Option ℕ)) (rows : List Row) (i : ℕ) (row : Row) (old middle new : Text) → i < length rows → row ≡ get_or rows i row → WritesRows expected g a t kept (take i rows) old middle → WritesRows expected g a t kept (row ∷ []) middle new
+      → WritesRows expected g a t kept (take (i + 1) rows) old new
   rows_more kept rows i row old middle new lt here (x, are, first) (y, are', next) =
-      let q = is_left_out kept in
+      let q = has_no_kept_line kept in
       let split : filter q (rows_of (take i rows)) ++ filter q (rows_of (row ∷ [])) ≡ filter q (rows_of (take (i + 1) rows)) =
       sym (filter_append q (rows_of (take i rows)) (rows_of (row ∷ []))) ∙ ap (filter q) (sym (map-append row_of (take i rows) (row ∷ [])) ∙ ap rows_of (sym (take_step rows i row lt here))) in (
         x ++ y,
-        subst (λ (l : List TableRow). AreEntries g a t l (x ++ y)) split (entries_append g a t (filter q (rows_of (take i rows))) (filter q (rows_of (row ∷ []))) x y are are'),
+        subst (λ (l : List TableRow). AreEntries expected g a t l (x ++ y)) split (entries_append expected g a t (filter q (rows_of (take i rows))) (filter q (rows_of (row ∷ []))) x y are are'),
         next ∙ ap (λ (l : Text). l ++ y) first ∙ append_assoc old x y,
       )
 
   -- A row that is written, and one that is not.
-  pub row_written : (kept : List (Option ℕ)) (row : Row) (none : Bool) → none ≡ is_none (kept_line_in kept row.state) → none ≡ true → (old entry new : Text) → IsEntryText g a t row.start row.sentence entry → new ≡ old ++ entry → WritesRows g a t kept (row ∷ []) old new
+  pub row_written : (kept : List (Option ℕ)) (row : Row) (none : Bool) → none ≡ is_none (kept_line_in kept row.state) → none ≡ true → (old entry new : Text) → IsEntryText expected g a t row.start row.sentence entry → new ≡ old ++ entry → WritesRows expected g a t kept (row ∷ []) old new
   row_written kept row none is out old entry new of_row written =
       let here : is_none (kept_line_in kept row.state) ≡ true = sym is ∙ out in (
         entry,
-        subst (λ (l : List TableRow). AreEntries g a t l entry) (sym (filter_on (is_left_out kept) (row_of row) [] true here)) (entry, [], of_row, refl, sym (append-nil entry)),
+        subst (λ (l : List TableRow). AreEntries expected g a t l entry) (sym (filter_on (has_no_kept_line kept) (row_of row) [] true here)) (entry, [], of_row, refl, sym (append-nil entry)),
         written,
       )
 
-  pub row_kept : (kept : List (Option ℕ)) (row : Row) (none : Bool) → none ≡ is_none (kept_line_in kept row.state) → none ≡ false → (text : Text) → WritesRows g a t kept (row ∷ []) text text
+  pub row_kept : (kept : List (Option ℕ)) (row : Row) (none : Bool) → none ≡ is_none (kept_line_in kept row.state) → none ≡ false → (text : Text) → WritesRows expected g a t kept (row ∷ []) text text
   row_kept kept row none is out text =
       let here : is_none (kept_line_in kept row.state) ≡ false = sym is ∙ out in
-      ([], subst (λ (l : List TableRow). AreEntries g a t l []) (sym (filter_on (is_left_out kept) (row_of row) [] false here)) refl, sym (append-nil text))
+      ([], subst (λ (l : List TableRow). AreEntries expected g a t l []) (sym (filter_on (has_no_kept_line kept) (row_of row) [] false here)) refl, sym (append-nil text))
 
   -- The sentences of a catalogue fail.
   pub rows_fit : (rows : List Row) → AllByRecursion (λ (row : TableRow). FailsFirst t row.start row.sentence row.state) (rows_of rows) → AreShort (rows_of rows) → AllByRecursion (IsFitRow t) rows
@@ -89,8 +89,8 @@ module _ (g : Grammar) (a : Automaton) (t : TableData) where
   pub are_none : (n : ℕ) (kept_lines : List (Option ℕ)) → kept_lines ≡ replicate n None → AreKeptLines [] kept_lines
   are_none n kept_lines is = λ s. ap (λ (l : List (Option ℕ)). kept_line_in l s) is ∙ places_none n s
 
-  pub rebased : (file : LooseFile) (rows : List Row) (old new : Parts) (text : Text) → DecidesEntries g a t file.entries old new → Catalogue t (rows_of rows) → AreKeptLines [] old.kept_lines.items → old.kept.items ≡ [] → old.dropped.items ≡ []
-      → (written : Text) → WritesRows g a t new.kept_lines.items rows new.kept.items written → text ≡ written ++ new.dropped.items → IsRebased g a t file text
+  pub rebased : (file : LooseFile) (rows : List Row) (old new : Parts) (text : Text) → DecidesEntries expected g a t file.entries old new → Catalogue t (rows_of rows) → AreKeptLines [] old.kept_lines.items → old.kept.items ≡ [] → old.dropped.items ≡ []
+      → (written : Text) → WritesRows expected g a t new.kept_lines.items rows new.kept.items written → text ≡ written ++ new.dropped.items → IsRebased expected g a t file text
   rebased file rows old new text added catalogue none kept dropped written (entries, are, writes) is =
       let js = lines_in added.done in
       let kept_lines : AreKeptLines js new.kept_lines.items = (added.decided [] none).1 in
@@ -102,6 +102,6 @@ module _ (g : Grammar) (a : Automaton) (t : TableData) where
         rows = rows_of rows;
         catalogue = catalogue;
         new = entries;
-        are_new = subst (λ (l : List TableRow). AreEntries g a t l entries) (filter_same (is_left_out new.kept_lines.items) (is_new_row js) (λ (row : TableRow). ap is_none (kept_lines row.state)) (rows_of rows)) are;
+        are_new = subst (λ (l : List TableRow). AreEntries expected g a t l entries) (filter_same (has_no_kept_line new.kept_lines.items) (is_new_row js) (λ (row : TableRow). ap is_none (kept_lines row.state)) (rows_of rows)) are;
         is = is ∙ ap (λ (l : Text). l ++ new.dropped.items) (writes ∙ ap (λ (l : Text). l ++ entries) keeps) ∙ ap (λ (l : Text). (kept_entries_text g added.done ++ entries) ++ l) drops;
       }

@@ -1,7 +1,7 @@
 -- The definition of a rebased messages file that is read again: it is sound, since each sentence fails and no two fail in
 -- one state; it is complete, since it has a sentence for each state in which some sentence fails (Pottier 2016); and the
 -- kept sentences have their old messages.
-use Rattle.std.specs.Prelude.{◌≡◌, ℕ, ◌∷◌, ◌++◌}
+use Rattle.std.specs.Prelude.{◌≡◌, ℕ, Bool, ◌∷◌, ◌++◌}
 use Rattle.std.specs.List.{Contains}
 use Rattle.mh_grammar.specs.declared.types.Grammar.{Grammar}
 use Rattle.mh_grammar.specs.declared.types.Sentence.{Sentence}
@@ -35,8 +35,8 @@ pub record HasMessage (file : MsgFile) (x : Sentence) (message : Text) : Type 0 
 
 -- The text is the rebased file. It spells a messages file that is sound and complete, and in which each kept sentence has
 -- its old message.
-pub record IsReadAgain (g : Grammar) (a : Automaton) (t : TableData) (file : LooseFile) (text : Text) : Type 0 where
-  pub rebased : IsRebased g a t file text
+pub record IsReadAgain (expected : Bool) (g : Grammar) (a : Automaton) (t : TableData) (file : LooseFile) (text : Text) : Type 0 where
+  pub rebased : IsRebased expected g a t file text
   pub again : MsgFile
   pub spells : MsgSpells g text again
   pub sound : Sound t (sentences_of again)

@@ -20,7 +20,7 @@ fn write_named(text: &mut Vec<u8>, words: &[u8], name: &[u8]) -> Result<(), Memo
 }
 
 /// Appends a reason, followed by an LF.
-fn write_reason(alloc: Global, text: &mut Vec<u8>, reason: &DropReason) -> Result<(), Memory>
+pub fn write_reason(alloc: Global, text: &mut Vec<u8>, reason: &DropReason) -> Result<(), Memory>
     ensures { OnOk result (text.new.items ≡ text.old.items ++ reason_text reason.now) }
 {
     match reason {

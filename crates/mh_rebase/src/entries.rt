@@ -6,6 +6,7 @@ ghost use Rattle.mh_grammar.specs.Plain.{plain_of};
 ghost use Rattle.mh_report_comments.specs.Fitting.{FitsStates};
 ghost use Rattle.mh_msgfile.specs.Sentences.{vocabulary_in, vocabulary_of, IsSentence, sentence_in};
 ghost use Rattle.mh_rebase_form.specs.RebasedText.{message_if_kept};
+ghost use Rattle.mh_tables_core.specs.Failing.{Fails};
 ghost use Rattle.mh_rebase.specs.code.Parts.{DecidesEntries, DropsFault, DecidesLine, DecidesLines, WritesKeptSentence};
 
 use crate::dropping::{write_commented, write_dropped};
@@ -13,18 +14,21 @@ use crate::keeping::{reason_of_fault, state_to_keep};
 use mh_grammar::{Grammar, Memory, Sentence};
 use mh_items_kernels::Automaton;
 use mh_msgfile::{Lexicon, LooseEntry, LooseLine, SentenceFault, write_sentence};
-use mh_report_comments::write_comments;
+use mh_report_comments::{write_comments, write_expected};
 use mh_run::trace;
 use mh_tables_core::Halting;
 use std::alloc::Global;
 
-/// The grammar onto which a file is rebased, with its automaton, its table, and the numbers of its names.
+/// The grammar onto which a file is rebased, with its automaton, its table, and the numbers of its names; and the form of
+/// the comment lines.
 #[derive(Drop)]
 pub(crate) struct Target<'a, const W: usize> {
     pub(crate) grammar: &'a Grammar,
     pub(crate) automaton: &'a Automaton<W>,
     pub(crate) table: &'a Halting,
     pub(crate) lexicon: &'a Lexicon,
+    /// Whether the comment lines of kept and new sentences end with the expected tokens.
+    pub(crate) expected: bool,
     ghost same: { table.now.grammar ≡ plain_of grammar.now },
     ghost numbers: { vocabulary_in lexicon.now ≡ vocabulary_of grammar.now },
 }
@@ -40,7 +44,8 @@ pub(crate) struct Parts {
     pub(crate) kept_lines: Vec<Option<u32>>,
 }
 
-/// Appends the canonical line of a sentence that fails in this state, and its comment lines.
+/// Appends the canonical line of a sentence that fails in this state, and its comment lines, with the expected tokens if
+/// they are asked for.
 fn write_kept<const W: usize>(
     alloc: Global,
     text: &mut Vec<u8>,
@@ -51,12 +56,19 @@ fn write_kept<const W: usize>(
 ) -> Result<(), Memory>
     requires fits { FitsStates W to.now.grammar.now to.now.automaton.now to.now.table.now }
     requires state { state < length to.now.table.now.states }
-    ensures { OnOk result (WritesKeptSentence to.now.grammar.now to.now.automaton.now sentence.now state reduced.now text.old.items text.new.items) }
+    requires fails { Fails to.now.table.now sentence.now.start sentence.now.tokens state }
+    requires few { length sentence.now.tokens < 2 ^ 32 }
+    ensures { OnOk result (WritesKeptSentence to.now.expected to.now.grammar.now to.now.automaton.now to.now.table.now sentence.now state reduced.now text.old.items text.new.items) }
 {
-    write_sentence(text, to.grammar, sentence.start, sentence.tokens.as_slice())?;
+    let tokens = sentence.tokens.as_slice();
+    write_sentence(text, to.grammar, sentence.start, tokens)?;
     text.push(b'\n')?;
     let items = to.automaton.kernels[state as usize].items.as_slice();
-    write_comments(alloc, text, to.grammar, state, items, reduced)
+    write_comments(alloc, text, to.grammar, state, items, reduced)?;
+    if !to.expected {
+        return Ok(());
+    }
+    write_expected(alloc, text, to.grammar, to.table, sentence.start, tokens)
 }
 
 /// Keeps a sentence, or drops its line, by the verdict on the sentence. Returns true if the sentence is kept.
@@ -73,7 +85,7 @@ fn add_sentence<const W: usize>(
     requires few { length sentence.now.tokens < 2 ^ 32 }
     requires size { length parts.old.kept_lines.items ≡ length to.now.table.now.states }
     ensures size { length parts.new.kept_lines.items ≡ length parts.old.kept_lines.items }
-    ensures line { IfOk result (λ kept. DecidesLine to.now.grammar.now to.now.automaton.now to.now.table.now line (IsSentence sentence.now) kept parts.old parts.new) }
+    ensures line { IfOk result (λ kept. DecidesLine to.now.expected to.now.grammar.now to.now.automaton.now to.now.table.now line (IsSentence sentence.now) kept parts.old parts.new) }
 {
     let _facts = to.table.table();
     let (verdict, reduced) = trace(alloc, to.table, sentence.start, sentence.tokens.as_slice())?;
@@ -124,7 +136,7 @@ fn add_line<const W: usize>(
     requires short { length line.now.text < 2 ^ 32 }
     requires size { length parts.old.kept_lines.items ≡ length to.now.table.now.states }
     ensures size { length parts.new.kept_lines.items ≡ length parts.old.kept_lines.items }
-    ensures line { IfOk result (λ kept. DecidesLine to.now.grammar.now to.now.automaton.now to.now.table.now line.now.line (sentence_in (vocabulary_of to.now.grammar.now) line.now.text) kept parts.old parts.new) }
+    ensures line { IfOk result (λ kept. DecidesLine to.now.expected to.now.grammar.now to.now.automaton.now to.now.table.now line.now.line (sentence_in (vocabulary_of to.now.grammar.now) line.now.text) kept parts.old parts.new) }
 {
     match to.lexicon.read(alloc, line.text.as_slice()) {
         Ok(sentence) => add_sentence(alloc, to, parts, line.line, &sentence),
@@ -146,7 +158,7 @@ fn add_lines<const W: usize>(
     requires short { AllByRecursion (λ line. length line.text < 2 ^ 32) lines.now }
     requires size { length parts.old.kept_lines.items ≡ length to.now.table.now.states }
     ensures size { length parts.new.kept_lines.items ≡ length parts.old.kept_lines.items }
-    ensures lines { IfOk result (λ kept. DecidesLines to.now.grammar.now to.now.automaton.now to.now.table.now lines.now kept parts.old parts.new) }
+    ensures lines { IfOk result (λ kept. DecidesLines to.now.expected to.now.grammar.now to.now.automaton.now to.now.table.now lines.now kept parts.old parts.new) }
 {
     let mut kept = false;
     for line in lines {
@@ -177,7 +189,7 @@ fn add_entry<const W: usize>(
     requires short { AllByRecursion (λ line. length line.text < 2 ^ 32) entry.now.sentences }
     requires size { length parts.old.kept_lines.items ≡ length to.now.table.now.states }
     ensures size { length parts.new.kept_lines.items ≡ length parts.old.kept_lines.items }
-    ensures entry { OnOk result (DecidesEntries to.now.grammar.now to.now.automaton.now to.now.table.now (entry.now ∷ []) parts.old parts.new) }
+    ensures entry { OnOk result (DecidesEntries to.now.expected to.now.grammar.now to.now.automaton.now to.now.table.now (entry.now ∷ []) parts.old parts.new) }
 {
     let kept = add_lines(alloc, to, parts, entry.sentences.as_slice())?;
     if kept {
@@ -198,7 +210,7 @@ pub(crate) fn add_entries<const W: usize>(
     requires short { AllByRecursion (λ entry. AllByRecursion (λ line. length line.text < 2 ^ 32) entry.sentences) entries.now }
     requires size { length parts.old.kept_lines.items ≡ length to.now.table.now.states }
     ensures size { length parts.new.kept_lines.items ≡ length parts.old.kept_lines.items }
-    ensures entries { OnOk result (DecidesEntries to.now.grammar.now to.now.automaton.now to.now.table.now entries.now parts.old parts.new) }
+    ensures entries { OnOk result (DecidesEntries to.now.expected to.now.grammar.now to.now.automaton.now to.now.table.now entries.now parts.old parts.new) }
 {
     for entry in entries {
         add_entry(alloc, to, parts, entry)?;

@@ -8,7 +8,7 @@ use mh_rebase_form::DropReason;
 use mh_run::Verdict;
 
 /// The reason why a line with this fault is dropped.
-pub(crate) fn reason_of_fault(fault: SentenceFault) -> Result<DropReason, Memory>
+pub fn reason_of_fault(fault: SentenceFault) -> Result<DropReason, Memory>
     ensures { IfOk result (IsReasonOfFault fault) }
 {
     match fault {
@@ -21,7 +21,7 @@ pub(crate) fn reason_of_fault(fault: SentenceFault) -> Result<DropReason, Memory
 }
 
 /// The number of the kept line whose sentence fails in this state, if there is one. The index into `kept` is the state.
-pub(crate) fn line_kept_in(kept: &[Option<u32>], state: u32) -> Option<u32>
+pub fn line_kept_in(kept: &[Option<u32>], state: u32) -> Option<u32>
     ensures { result ≡ kept_line_in kept.now state }
 {
     match kept.get(state as usize) {
@@ -32,7 +32,7 @@ pub(crate) fn line_kept_in(kept: &[Option<u32>], state: u32) -> Option<u32>
 
 /// The state in which a sentence with this verdict and this number of tokens fails, if the sentence is to be kept; or the
 /// reason why its line is dropped. For each state, `kept` has the number of the kept line whose sentence fails there.
-pub(crate) fn state_to_keep(
+pub fn state_to_keep(
     verdict: Verdict,
     tokens: usize,
     kept: &[Option<u32>],

@@ -1,5 +1,5 @@
 //! Laws of rebased messages files: functions without effect whose contracts state theorems.
-ghost use Rattle.std.specs.Prelude.{◌≡◌, ◌++◌, [], List, ℕ, map};
+ghost use Rattle.std.specs.Prelude.{◌≡◌, ◌++◌, [], Bool, List, ℕ, map};
 ghost use Rattle.std.specs.List.{Contains};
 ghost use Rattle.mh_grammar.specs.Plain.{plain_of};
 ghost use Rattle.mh_msgfile.specs.LooseFiles.{LooseSpells};
@@ -22,7 +22,7 @@ use mh_tables_core::Halting;
 
 /// Law: the rebased text of a file is unique.
 pub fn rebased_once<const W: usize>(grammar: &Grammar, automaton: &Automaton<W>, table: &Halting)
-    ensures { (file : LooseFile) (x y : List ℕ) → IsRebased grammar.now automaton.now table.now file x → IsRebased grammar.now automaton.now table.now file y → x ≡ y }
+    ensures { (expected : Bool) (file : LooseFile) (x y : List ℕ) → IsRebased expected grammar.now automaton.now table.now file x → IsRebased expected grammar.now automaton.now table.now file y → x ≡ y }
 {
     let _grammar = grammar;
     let _automaton = automaton;
@@ -31,7 +31,7 @@ pub fn rebased_once<const W: usize>(grammar: &Grammar, automaton: &Automaton<W>,
 
 /// Law: the rebased text of a file without entries is the list of errors, byte for byte.
 pub fn empty_is_list<const W: usize>(grammar: &Grammar, automaton: &Automaton<W>, table: &Halting)
-    ensures { (file : LooseFile) (text : List ℕ) → file.entries ≡ [] → IsRebased grammar.now automaton.now table.now file text → IsCatalogueText grammar.now automaton.now table.now text }
+    ensures { (expected : Bool) (file : LooseFile) (text : List ℕ) → file.entries ≡ [] → IsRebased expected grammar.now automaton.now table.now file text → IsCatalogueText expected grammar.now automaton.now table.now text }
 {
     let _grammar = grammar;
     let _automaton = automaton;
@@ -42,7 +42,7 @@ pub fn empty_is_list<const W: usize>(grammar: &Grammar, automaton: &Automaton<W>
 /// nothing.
 pub fn rebased_again<const W: usize>(grammar: &Grammar, automaton: &Automaton<W>, table: &Halting)
     requires { table.now.grammar ≡ plain_of grammar.now }
-    ensures { HasReadableNames grammar.now → HasNamesWithoutLineEnds grammar.now → (bytes : List ℕ) (file : LooseFile) (text : List ℕ) → LooseSpells bytes file → HasNoCr file → (is : IsRebased grammar.now automaton.now table.now file text) → (loose : LooseFile) × LooseSpells text loose × ((next : List ℕ) → IsRebased grammar.now automaton.now table.now loose next → next ≡ kept_entries_text grammar.now is.entries ++ is.new) }
+    ensures { (expected : Bool) → HasReadableNames grammar.now → HasNamesWithoutLineEnds grammar.now → (bytes : List ℕ) (file : LooseFile) (text : List ℕ) → LooseSpells bytes file → HasNoCr file → (is : IsRebased expected grammar.now automaton.now table.now file text) → (loose : LooseFile) × LooseSpells text loose × ((next : List ℕ) → IsRebased expected grammar.now automaton.now table.now loose next → next ≡ kept_entries_text grammar.now is.entries ++ is.new) }
 {
     let _grammar = grammar;
     let _automaton = automaton;
@@ -56,7 +56,7 @@ pub fn complete_is_kept<const W: usize>(
     automaton: &Automaton<W>,
     table: &Halting,
 )
-    ensures { HasReadableNames grammar.now → (bytes : List ℕ) (file : MsgFile) (loose : LooseFile) (text : List ℕ) → MsgSpells grammar.now bytes file → LooseSpells bytes loose → Sound table.now (sentences_of file) → ((s : ℕ) → Failing table.now s → (x : MsgSentence) × Contains (sentences_of file) x × FailsIn table.now x s) → IsRebased grammar.now automaton.now table.now loose text → AreCommented grammar.now automaton.now table.now (map entry_content file.entries) text }
+    ensures { (expected : Bool) → HasReadableNames grammar.now → (bytes : List ℕ) (file : MsgFile) (loose : LooseFile) (text : List ℕ) → MsgSpells grammar.now bytes file → LooseSpells bytes loose → Sound table.now (sentences_of file) → ((s : ℕ) → Failing table.now s → (x : MsgSentence) × Contains (sentences_of file) x × FailsIn table.now x s) → IsRebased expected grammar.now automaton.now table.now loose text → AreCommented expected grammar.now automaton.now table.now (map entry_content file.entries) text }
 {
     let _grammar = grammar;
     let _automaton = automaton;

@@ -8,6 +8,8 @@ mod keeping;
 mod laws;
 mod rebasing;
 
+pub use dropping::write_reason;
+pub use keeping::{line_kept_in, reason_of_fault, state_to_keep};
 pub use laws::{complete_is_kept, empty_is_list, rebased_again, rebased_once};
 pub use mh_rebase_form::DropReason;
-pub use rebasing::{RebaseFault, rebase};
+pub use rebasing::{RebaseFault, no_lines, rebase};

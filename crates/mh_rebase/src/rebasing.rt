@@ -20,7 +20,7 @@ use mh_catalogue_rows::{CatalogueFault, Row};
 use mh_grammar::{Grammar, Memory};
 use mh_items_kernels::Automaton;
 use mh_msgfile::{Lexicon, LooseFile};
-use mh_report_comments::entry_text;
+use mh_report_comments::Commenter;
 use mh_tables_core::{Halting, Table};
 use std::alloc::Global;
 
@@ -43,17 +43,16 @@ fn write_row<const W: usize>(
 ) -> Result<(), Memory>
     requires fits { FitsStates W to.now.grammar.now to.now.automaton.now to.now.table.now }
     requires row { IsFitRow to.now.table.now row.now }
-    ensures { OnOk result (WritesRows to.now.grammar.now to.now.automaton.now to.now.table.now kept.now (row.now ∷ []) text.old.items text.new.items) }
+    ensures { OnOk result (WritesRows to.now.expected to.now.grammar.now to.now.automaton.now to.now.table.now kept.now (row.now ∷ []) text.old.items text.new.items) }
 {
     if line_kept_in(kept, row.state).is_none() {
-        let entry = entry_text(
-            alloc,
-            to.grammar,
-            to.automaton,
-            to.table,
-            row.start,
-            row.sentence.as_slice(),
-        )?;
+        let commenter = Commenter {
+            grammar: to.grammar,
+            automaton: to.automaton,
+            table: to.table,
+            expected: to.expected,
+        };
+        let entry = commenter.entry(alloc, row.start, row.sentence.as_slice())?;
         text.extend_from_slice(entry.as_slice())?;
     }
     Ok(())
@@ -69,7 +68,7 @@ fn write_rows<const W: usize>(
 ) -> Result<(), Memory>
     requires fits { FitsStates W to.now.grammar.now to.now.automaton.now to.now.table.now }
     requires rows { AllByRecursion (IsFitRow to.now.table.now) rows.now }
-    ensures { OnOk result (WritesRows to.now.grammar.now to.now.automaton.now to.now.table.now kept.now rows.now text.old.items text.new.items) }
+    ensures { OnOk result (WritesRows to.now.expected to.now.grammar.now to.now.automaton.now to.now.table.now kept.now rows.now text.old.items text.new.items) }
 {
     for row in rows {
         write_row(alloc, text, to, kept, row)?;
@@ -78,7 +77,7 @@ fn write_rows<const W: usize>(
 }
 
 /// The list in which no state has a kept line.
-fn no_lines(alloc: Global, table: &Table) -> Result<Vec<Option<u32>>, Memory>
+pub fn no_lines(alloc: Global, table: &Table) -> Result<Vec<Option<u32>>, Memory>
     ensures size { IfOk result (λ lines. length lines.items ≡ length table.now.states) }
     ensures none { IfOk result (λ lines. AreKeptLines [] lines.items) }
 {
@@ -99,7 +98,7 @@ fn write_parts<const W: usize>(
     requires rows { Catalogue to.now.table.now (rows_of rows.now) }
     requires few { AreShort (rows_of rows.now) }
     requires empty { HasNothing to.now.table.now parts.old }
-    ensures { OnOk result (IsRebased to.now.grammar.now to.now.automaton.now to.now.table.now file.now parts.new.kept.items) }
+    ensures { OnOk result (IsRebased to.now.expected to.now.grammar.now to.now.automaton.now to.now.table.now file.now parts.new.kept.items) }
 {
     add_entries(alloc, to, parts, file.entries.as_slice())?;
     let covered = parts.kept_lines.as_slice();
@@ -119,7 +118,7 @@ fn rebased_with<const W: usize>(
     requires short { HasShortLines file.now }
     requires rows { Catalogue to.now.table.now (rows_of rows.now) }
     requires few { AreShort (rows_of rows.now) }
-    ensures { IfOk result (λ text. IsRebased to.now.grammar.now to.now.automaton.now to.now.table.now file.now text.items) }
+    ensures { IfOk result (λ text. IsRebased to.now.expected to.now.grammar.now to.now.automaton.now to.now.table.now file.now text.items) }
 {
     let kept_lines = no_lines(alloc, to.table.table())?;
     let mut parts = Parts {
@@ -134,26 +133,25 @@ fn rebased_with<const W: usize>(
 /// The text of the rebased file, with the rows of the catalogue. Numbers the names of the grammar once for all lines.
 fn rebased_by<const W: usize>(
     alloc: Global,
-    grammar: &Grammar,
-    automaton: &Automaton<W>,
-    table: &Halting,
+    commenter: &Commenter<'_, W>,
     file: &LooseFile,
     rows: &[Row],
 ) -> Result<Vec<u8>, Memory>
-    requires fits { FitsStates W grammar.now automaton.now table.now }
-    requires same { table.now.grammar ≡ plain_of grammar.now }
-    requires range { IsInRange (plain_of grammar.now) }
+    requires fits { FitsStates W commenter.now.grammar.now commenter.now.automaton.now commenter.now.table.now }
+    requires same { commenter.now.table.now.grammar ≡ plain_of commenter.now.grammar.now }
+    requires range { IsInRange (plain_of commenter.now.grammar.now) }
     requires short { HasShortLines file.now }
-    requires rows { Catalogue table.now (rows_of rows.now) }
+    requires rows { Catalogue commenter.now.table.now (rows_of rows.now) }
     requires few_tokens { AreShort (rows_of rows.now) }
-    ensures { IfOk result (λ text. IsRebased grammar.now automaton.now table.now file.now text.items) }
+    ensures { IfOk result (λ text. IsRebased commenter.now.expected commenter.now.grammar.now commenter.now.automaton.now commenter.now.table.now file.now text.items) }
 {
-    let lexicon = Lexicon::new(alloc, grammar)?;
+    let lexicon = Lexicon::new(alloc, commenter.grammar)?;
     let to = Target {
-        grammar,
-        automaton,
-        table,
+        grammar: commenter.grammar,
+        automaton: commenter.automaton,
+        table: commenter.table,
         lexicon: &lexicon,
+        expected: commenter.expected,
     };
     rebased_with(alloc, &to, file, rows)
 }
@@ -163,20 +161,23 @@ fn rebased_by<const W: usize>(
 /// before its last token; an earlier kept sentence fails in the same state. All other sentences are kept. The text has
 /// three parts. The first has the entries with a kept sentence: the kept sentences, each with new comment lines, and the
 /// message. The second has an entry of the list of errors for each other state in which some sentence fails. The third
-/// reports each dropped line with its reason, and after the last line of an entry without a kept sentence its message.
-/// Fails with `TooLong` exactly if the table has no catalogue, and with `Memory` only if memory runs out.
+/// reports each dropped line with its reason, and after the last line of an entry without a kept sentence its message. If
+/// `expected` is true, all comment lines end with the tokens that are expected in place of the last token.
+/// Fails with `TooLong` exactly if sentences fail in some state, but each of them costs more than 1,000,000, and with
+/// `Memory` only if memory runs out.
 pub fn rebase<const W: usize>(
     alloc: Global,
     grammar: &Grammar,
     automaton: &Automaton<W>,
     table: &Halting,
     file: &LooseFile,
+    expected: bool,
 ) -> Result<Vec<u8>, RebaseFault>
     requires fits { FitsStates W grammar.now automaton.now table.now }
     requires same { table.now.grammar ≡ plain_of grammar.now }
     requires short { HasShortLines file.now }
-    ensures text { IfOk result (λ text. IsRebased grammar.now automaton.now table.now file.now text.items) }
-    ensures again { HasReadableNames grammar.now → HasNamesWithoutLineEnds grammar.now → (bytes : List ℕ) → LooseSpells bytes file.now → HasNoCr file.now → IfOk result (λ text. IsReadAgain grammar.now automaton.now table.now file.now text.items) }
+    ensures text { IfOk result (λ text. IsRebased expected grammar.now automaton.now table.now file.now text.items) }
+    ensures again { HasReadableNames grammar.now → HasNamesWithoutLineEnds grammar.now → (bytes : List ℕ) → LooseSpells bytes file.now → HasNoCr file.now → IfOk result (λ text. IsReadAgain expected grammar.now automaton.now table.now file.now text.items) }
     ensures none { IfOk result (λ _. (s : ℕ) → TooLongAt table.now s → ⊥) }
     ensures long { (s : ℕ) → result ≡ Err (RebaseFault.TooLong s) → TooLongAt table.now s }
 {
@@ -186,7 +187,13 @@ pub fn rebase<const W: usize>(
         Err(CatalogueFault::TooLong { state }) => return Err(RebaseFault::TooLong { state }),
         Err(CatalogueFault::Memory) => return Err(RebaseFault::Memory),
     };
-    match rebased_by(alloc, grammar, automaton, table, file, rows.as_slice()) {
+    let commenter = Commenter {
+        grammar,
+        automaton,
+        table,
+        expected,
+    };
+    match rebased_by(alloc, &commenter, file, rows.as_slice()) {
         Ok(text) => Ok(text),
         Err(Memory) => Err(RebaseFault::Memory),
     }

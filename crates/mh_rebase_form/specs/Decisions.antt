@@ -14,7 +14,7 @@ use Rattle.mh_run.specs.declared.outcome.Verdict.{Verdict}
 use Rattle.mh_msgfile.specs.Sentences.{Vocabulary, vocabulary_of, IsSentence, IsUnreadable, NamesNoStart, LacksStart, NamesUnknown, sentence_in}
 use Rattle.mh_msgfile.specs.declared.loose.LooseLine.{LooseLine}
 use Rattle.mh_check.specs.Checks.{IsNoRefusal}
-use Rattle.mh_report_comments.specs.Comments.{IsCommentText}
+use Rattle.mh_report_comments.specs.Comments.{IsCommentBlock}
 use Rattle.mh_rebase_form.specs.declared.reason.DropReason.{DropReason}
 use Rattle.mh_rebase_form.specs.declared.reason.DropReason.TheVariants as reasons
 
@@ -54,18 +54,19 @@ pub data IsReason (v : Vocabulary) (t : TableData) (before : List DecidedLine) (
   SentenceIsRefusedEarly : (x : Sentence) (at s : ℕ) → sentence_in v text ≡ IsSentence x → at + 1 < length x.tokens → VerdictOf t x.start x.tokens (Rejected at s) → IsReason v t before text (reasons.RefusedEarly at)
   StateIsShared : (x : Sentence) (s line : ℕ) → sentence_in v text ≡ IsSentence x → Fails t x.start x.tokens s → kept_line before s ≡ Some line → IsReason v t before text (reasons.SharedState s line)
 
--- The line is a sentence that fails at its last token, and no kept line before it fails in the same state.
-pub record IsKept (g : Grammar) (a : Automaton) (t : TableData) (before : List DecidedLine) (text : Text) (sentence : Sentence) (state : ℕ) (comments : Text) : Type 0 where
+-- The line is a sentence that fails at its last token, and no kept line before it fails in the same state. The comment
+-- lines end with the expected tokens, if `expected` is true.
+pub record IsKept (expected : Bool) (g : Grammar) (a : Automaton) (t : TableData) (before : List DecidedLine) (text : Text) (sentence : Sentence) (state : ℕ) (comments : Text) : Type 0 where
   pub read : sentence_in (vocabulary_of g) text ≡ IsSentence sentence
   pub fails : Fails t sentence.start sentence.tokens state
   pub first : kept_line before state ≡ None
-  pub commented : IsCommentText g a t sentence.start sentence.tokens comments
+  pub commented : IsCommentBlock expected g a t sentence.start sentence.tokens comments
 
-abbrev pub IsDecision : Grammar → Automaton → TableData → List DecidedLine → Text → Decision → Type 0
-IsDecision g a t before text (Keep sentence state comments) = IsKept g a t before text sentence state comments
-IsDecision g a t before text (Drop reason) = IsReason (vocabulary_of g) t before text reason
+abbrev pub IsDecision : (expected : Bool) → Grammar → Automaton → TableData → List DecidedLine → Text → Decision → Type 0
+IsDecision expected g a t before text (Keep sentence state comments) = IsKept expected g a t before text sentence state comments
+IsDecision expected g a t before text (Drop reason) = IsReason (vocabulary_of g) t before text reason
 
 -- The decision on each of these lines is right, given the decisions on the lines before it.
-abbrev pub AreDecided : Grammar → Automaton → TableData → List DecidedLine → List DecidedLine → Type 0
-AreDecided g a t before [] = ⊤
-AreDecided g a t before (j ∷ js) = IsDecision g a t before j.line.text j.decision × AreDecided g a t (before ++ j ∷ []) js
+abbrev pub AreDecided : (expected : Bool) → Grammar → Automaton → TableData → List DecidedLine → List DecidedLine → Type 0
+AreDecided expected g a t before [] = ⊤
+AreDecided expected g a t before (j ∷ js) = IsDecision expected g a t before j.line.text j.decision × AreDecided expected g a t (before ++ j ∷ []) js

@@ -12,7 +12,7 @@ use Rattle.mh_run.specs.Verdicts.{ending_for}
 use Rattle.mh_msgfile.specs.FileTexts.{sentence_text}
 use Rattle.mh_msgfile.specs.declared.loose.LooseEntry.{LooseEntry}
 use Rattle.mh_msgfile.specs.declared.loose.LooseFile.{LooseFile}
-use Rattle.mh_check.specs.Texts.{ending_text, early_text, shared_text}
+use Rattle.mh_check.specs.Texts.{ending_text, early_text, shared_state_text}
 use Rattle.mh_report_comments.specs.CatalogueTexts.{AreEntries}
 use Rattle.mh_rebase_form.specs.declared.reason.DropReason.{DropReason}
 use Rattle.mh_rebase_form.specs.declared.reason.DropReason.TheVariants as reasons
@@ -69,7 +69,7 @@ reason_text reasons.MissingStart = codes "missing start\n"
 reason_text (reasons.UnknownToken name) = codes "unknown token " ++ name ++ codes "\n"
 reason_text (reasons.NotRefused verdict) = ending_text (ending_for verdict)
 reason_text (reasons.RefusedEarly at) = early_text at
-reason_text (reasons.SharedState state line) = shared_text state line
+reason_text (reasons.SharedState state line) = shared_state_text state line
 
 -- The line that reports a dropped line; empty for a kept one.
 abbrev pub dropped_line_text : ℕ → Decision → Text
@@ -102,13 +102,14 @@ is_new_row js row = is_none (kept_line js row.state)
 
 -- The text is the file rebased onto the grammar of the table. It has three parts: each entry with a kept sentence, in
 -- order; an entry for each row of the catalogue in whose state no kept sentence fails; and the report of what was
--- dropped. The comment lines of the old file are not copied.
-pub record IsRebased (g : Grammar) (a : Automaton) (t : TableData) (file : LooseFile) (text : Text) : Type 0 where
+-- dropped. The comment lines of the old file are not copied; the new ones end with the expected tokens, if `expected` is
+-- true.
+pub record IsRebased (expected : Bool) (g : Grammar) (a : Automaton) (t : TableData) (file : LooseFile) (text : Text) : Type 0 where
   pub entries : List DecidedEntry
   pub of_file : map without_decisions entries ≡ file.entries
-  pub decided : AreDecided g a t [] (lines_in entries)
+  pub decided : AreDecided expected g a t [] (lines_in entries)
   pub rows : List CatalogueRow
   pub catalogue : Catalogue t rows
   pub new : Text
-  pub are_new : AreEntries g a t (filter (is_new_row (lines_in entries)) rows) new
+  pub are_new : AreEntries expected g a t (filter (is_new_row (lines_in entries)) rows) new
   pub is : text ≡ kept_entries_text g entries ++ new ++ dropped_entries_text entries

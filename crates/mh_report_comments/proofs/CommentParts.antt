@@ -1,5 +1,5 @@
 -- Lemmas on the parts of comment lines and entries.
-use Rattle.std.proofs.Common.{◌≡◌, ℕ, ◌-◌, ◌<◌, List, [], ◌∷◌, ◌++◌, length, get_or, sym, ◌∙◌, ap, subst, append_assoc}
+use Rattle.std.proofs.Common.{◌≡◌, Bool, true, false, refl, take, zero, suc, ℕ, ◌-◌, ◌<◌, List, [], ◌∷◌, ◌++◌, length, get_or, sym, ◌∙◌, ap, subst, append_assoc}
 use Rattle.mh_grammar.specs.declared.types.Grammar.{Grammar}
 use Rattle.mh_grammar.specs.Plain.{plain_of}
 use Rattle.mh_items_kernels.specs.KernelTypes.{Automaton, Kernel, KernelItem}
@@ -10,13 +10,19 @@ use Rattle.mh_tables_core.specs.Facts.{Facts}
 use Rattle.mh_tables_core.specs.Run.{Rejected, initial}
 use Rattle.mh_tables_core.specs.Failing.{Fails}
 use Rattle.mh_tables_core.proofs.RunEnds.{ending_unique}
+use Rattle.mh_report_comments.proofs.SomeExpected.{some_expected}
+use Rattle.mh_tables_core.specs.Halting.{HaltingFacts}
+use Rattle.std.specs.List.{All, AllByRecursion}
+use Rattle.std.proofs.lemmas.List.Elements.{All-take, All-from_recursion, recursion_from_All}
+use Rattle.mh_expected.specs.Expected.{Overshoots}
+use Rattle.mh_expected.proofs.Overshoots.{refused_overshoots}
 use Rattle.mh_run.specs.Trace.{TraceOf}
 use Rattle.mh_run.specs.Verdicts.{ending_for}
 use Rattle.mh_run.specs.declared.outcome.Verdict.{Verdict}
 use Rattle.mh_run.specs.declared.outcome.Verdict.TheVariants as verdicts
 use Rattle.mh_grammar.specs.Text.{Text}
 use Rattle.std.specs.Prelude.{codes}
-use Rattle.mh_report_comments.specs.Comments.{IsCommentText, AppendsComments, comments, message_placeholder}
+use Rattle.mh_report_comments.specs.Comments.{IsCommentBlock, IsCommentText, AppendsComments, comments, expected_comment, message_placeholder}
 use Rattle.mh_tables_core.proofs.RefusingState.{state_refused}
 
 -- Four parts appended one after another are appended as a whole.
@@ -66,3 +72,34 @@ module _ (t : TableData) (f : Facts t) (start : ℕ) (w : List ℕ) (fails : (s 
         trace = rw here traced;
         is = written ∙ ap (λ (front : Text). front ++ comments g items s item ps) none ∙ ap (λ (xs : List KernelItem). comments g xs s item ps) same;
       }
+
+-- A sentence with comment lines fails in some state.
+pub block_fails : (expected : Bool) (g : Grammar) (a : Automaton) (t : TableData) (start : ℕ) (w : List ℕ) (text : Text) → IsCommentBlock expected g a t start w text → (s : ℕ) × Fails t start w s
+block_fails false g a t start w text is = (is.state, is.fails)
+block_fails true g a t start w text is = (is.1.state, is.1.fails)
+
+-- A sentence that fails has comment lines with the expected tokens, if it has comment lines.
+pub some_block : (expected : Bool) (g : Grammar) (a : Automaton) (t : TableData) → HaltingFacts t → (start : ℕ) (w : List ℕ) (lines : Text) → IsCommentText g a t start w lines → (text : Text) × IsCommentBlock expected g a t start w text
+some_block false g a t h start w lines is = (lines, is)
+some_block true g a t h start w lines is =
+    let tokens = recursion_take (λ (z : ℕ). z < t.grammar.tokens) (length w - 1) w is.fails.sentence.tokens in
+    let list = some_expected t h start is.fails.sentence.known (take (length w - 1) w) tokens in
+    (lines ++ expected_comment g list.0, (lines, is, list.0, list.1, refl))
+  where
+    recursion_take : (P : ℕ → Type 0) (n : ℕ) (xs : List ℕ) → AllByRecursion P xs → AllByRecursion P (take n xs)
+    recursion_take P zero xs all = tt
+    recursion_take P (suc n) [] all = tt
+    recursion_take P (suc n) (x ∷ xs) all = (all.0, recursion_take P n xs all.1)
+
+-- ---- The tokens before the last one of a sentence that fails.
+
+module _ (t : TableData) (start : ℕ) (w : List ℕ) (fails : (s : ℕ) × Fails t start w s) where
+  abbrev IsToken : ℕ → Type 0
+  IsToken z = z < t.grammar.tokens
+
+  pub before_known : All IsToken (take (length w - 1) w)
+  before_known = All-take IsToken (length w - 1) w (All-from_recursion IsToken w fails.1.sentence.tokens)
+
+  -- The run on these tokens asks for one more.
+  pub before_overshoots : HaltingFacts t → Overshoots t start (take (length w - 1) w)
+  before_overshoots h = refused_overshoots t start w (length w - 1) fails.0 fails.1.verdict h fails.1.sentence.known (recursion_from_All IsToken (take (length w - 1) w) before_known)

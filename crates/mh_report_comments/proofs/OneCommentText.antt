@@ -1,5 +1,5 @@
 -- Proves that two comment texts, and two entries, of the same sentence are equal.
-use Rattle.std.proofs.Common.{◌≡◌, ℕ, zero, suc, ◌+◌, ◌-◌, List, [], ◌++◌, length, refl, sym, ◌∙◌, ap, ap₂, subst, arith}
+use Rattle.std.proofs.Common.{◌≡◌, ℕ, Bool, true, false, take, zero, suc, ◌+◌, ◌-◌, List, [], ◌++◌, length, refl, sym, ◌∙◌, ap, ap₂, subst, arith}
 use Rattle.std.specs.Prelude.{codes}
 use Rattle.mh_grammar.specs.declared.types.Grammar.{Grammar}
 use Rattle.mh_items_kernels.specs.KernelTypes.{Automaton}
@@ -10,9 +10,10 @@ use Rattle.mh_tables_core.specs.Failing.{Fails}
 use Rattle.mh_tables_core.proofs.MoveCases.{goes_to_no_end}
 use Rattle.mh_tables_core.proofs.RunEnds.{ending_unique, step_moves}
 use Rattle.mh_run.specs.Trace.{TraceOf, since_move, reduced_since}
+use Rattle.mh_expected.proofs.ExpectedTokens.{one_list}
 use Rattle.mh_msgfile.specs.FileTexts.{sentence_text}
 use Rattle.mh_grammar.specs.Text.{Text}
-use Rattle.mh_report_comments.specs.Comments.{HasFarthestDot, IsCommentText, IsEntryText, comments, message_placeholder}
+use Rattle.mh_report_comments.specs.Comments.{HasFarthestDot, IsCommentBlock, IsCommentText, IsEntryText, comments, expected_comment, message_placeholder}
 use Rattle.mh_report_comments.proofs.HasFarthestDot.{farthest_once}
 
 -- ---- The productions reduced since the last shift.
@@ -62,6 +63,13 @@ module _ (g : Grammar) (a : Automaton) (t : TableData) where
       p.is ∙ ap (λ i. comments g (kernel_at a p.state).items p.state i p.reduced) item
       ∙ ap (λ (ps : List ℕ). comments g (kernel_at a p.state).items p.state q.item ps) reduced ∙ ap (λ (s : ℕ). comments g (kernel_at a s).items s q.item q.reduced) (sym same) ∙ sym q.is
 
-  pub entry_once : (start : ℕ) (w : List ℕ) (x y : Text) → IsEntryText g a t start w x → IsEntryText g a t start w y → x ≡ y
-  entry_once start w x y p q =
-      p.is ∙ ap (λ (lines : Text). sentence_text g start w ++ codes "\n" ++ lines ++ message_placeholder) (comments_once start w p.comments q.comments p.are_comments q.are_comments) ∙ sym q.is
+  pub block_once : (expected : Bool) (start : ℕ) (w : List ℕ) (x y : Text) → IsCommentBlock expected g a t start w x → IsCommentBlock expected g a t start w y → x ≡ y
+  block_once false start w x y p q = comments_once start w x y p q
+  block_once true start w x y p q =
+      let lines : p.0 ≡ q.0 = comments_once start w p.0 q.0 p.1 q.1 in
+      let tokens : p.2 ≡ q.2 = one_list t start (take (length w - 1) w) p.2 q.2 p.3 q.3 in
+      p.4 ∙ ap₂ (λ (l : Text) (zs : List ℕ). l ++ expected_comment g zs) lines tokens ∙ sym q.4
+
+  pub entry_once : (expected : Bool) (start : ℕ) (w : List ℕ) (x y : Text) → IsEntryText expected g a t start w x → IsEntryText expected g a t start w y → x ≡ y
+  entry_once expected start w x y p q =
+      p.is ∙ ap (λ (lines : Text). sentence_text g start w ++ codes "\n" ++ lines ++ message_placeholder) (block_once expected start w p.comments q.comments p.are_comments q.are_comments) ∙ sym q.is

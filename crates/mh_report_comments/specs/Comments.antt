@@ -1,6 +1,6 @@
 -- The definitions of the comment lines of a sentence that fails, and of its entry in the list of errors (Menhir manual,
 -- `--list-errors`). The layout is this project's own.
-use Rattle.std.specs.Prelude.{◌≡◌, ◌-◌, ◌<◌, ◌≤◌, ℕ, List, [], ◌∷◌, ◌++◌, length, slice_index_or, take, codes, decimal}
+use Rattle.std.specs.Prelude.{◌≡◌, ◌-◌, ◌<◌, ◌≤◌, ℕ, Bool, true, false, List, [], ◌∷◌, ◌++◌, length, slice_index_or, take, codes, decimal}
 use Rattle.mh_grammar.specs.declared.types.Symbol.{Symbol}
 use Rattle.mh_grammar.specs.declared.types.Grammar.{Grammar}
 use Rattle.mh_grammar.specs.Plain.{plain_of, rhs_of}
@@ -10,7 +10,8 @@ use Rattle.mh_tables_core.specs.Table.{TableData}
 use Rattle.mh_tables_core.specs.Run.{Rejected}
 use Rattle.mh_tables_core.specs.Failing.{Fails}
 use Rattle.mh_run.specs.Trace.{TraceOf}
-use Rattle.mh_msgfile.specs.FileTexts.{sentence_text}
+use Rattle.mh_expected.specs.Expected.{ExpectedTokens}
+use Rattle.mh_msgfile.specs.FileTexts.{names_after, sentence_text}
 use Rattle.mh_grammar.specs.Text.{Text}
 use Rattle.mh_report_notation.specs.ItemTexts.{item_lines}
 use Rattle.mh_grammar_texts.specs.Productions.{spaced_symbols, production_text}
@@ -74,13 +75,32 @@ pub record IsCommentText (g : Grammar) (a : Automaton) (t : TableData) (start : 
   pub trace : TraceOf t start w (Rejected (length w - 1) state) reduced
   pub is : text ≡ comments g (kernel_at a state).items state item reduced
 
+-- The beginning of the line of the expected tokens.
+unfoldable pub expected_title : Text
+expected_title = codes "## Expected:"
+
+-- The line of the expected tokens: their names, each after one space.
+abbrev pub expected_comment : Grammar → List ℕ → Text
+expected_comment g tokens = expected_title ++ names_after g tokens ++ codes "\n"
+
+-- The text is the comment lines of a sentence that fails; if `expected` is true, one more line has the tokens that are
+-- expected in place of its last token.
+abbrev pub IsCommentBlock : (expected : Bool) → Grammar → Automaton → TableData → ℕ → List ℕ → Text → Type 0
+IsCommentBlock false g a t start w text = IsCommentText g a t start w text
+IsCommentBlock true g a t start w text =
+    (lines : Text) × IsCommentText g a t start w lines × (tokens : List ℕ) × ExpectedTokens t start (take (length w - 1) w) tokens × (text ≡ lines ++ expected_comment g tokens)
+
+-- The new text is the old one with the line of the tokens appended that are expected in place of the last token.
+abbrev pub AppendsExpected : Grammar → TableData → ℕ → List ℕ → Text → Text → Type 0
+AppendsExpected g t start w old new = (tokens : List ℕ) × ExpectedTokens t start (take (length w - 1) w) tokens × (new ≡ old ++ expected_comment g tokens)
+
 -- The new text is the old one with the comment lines of a state appended, for the item with the farthest dot.
 abbrev pub AppendsComments : Grammar → List KernelItem → ℕ → List ℕ → Text → Text → Type 0
 AppendsComments g items s ps old new = (item : KernelItem) × HasFarthestDot items item × (new ≡ old ++ comments g items s item ps)
 
--- The text is the entry of a sentence that fails: its line, its comment lines, an empty line, a placeholder for the
--- message, and an empty line.
-pub record IsEntryText (g : Grammar) (a : Automaton) (t : TableData) (start : ℕ) (w : List ℕ) (text : Text) : Type 0 where
+-- The text is the entry of a sentence that fails: its line, its comment lines, with the expected tokens or without, an
+-- empty line, a placeholder for the message, and an empty line.
+pub record IsEntryText (expected : Bool) (g : Grammar) (a : Automaton) (t : TableData) (start : ℕ) (w : List ℕ) (text : Text) : Type 0 where
   pub comments : Text
-  pub are_comments : IsCommentText g a t start w comments
+  pub are_comments : IsCommentBlock expected g a t start w comments
   pub is : text ≡ sentence_text g start w ++ codes "\n" ++ comments ++ message_placeholder

@@ -4,5 +4,5 @@
 mod laws;
 mod lines;
 
-pub use laws::{entry_is_one, known_suffix_is_one};
-pub use lines::{comment_lines, entry_text, write_comments};
+pub use laws::{entry_is_unique, known_suffix_is_unique};
+pub use lines::{Commenter, comment_lines, write_comments, write_expected};

@@ -5,12 +5,13 @@ ghost use Rattle.mh_grammar.specs.Plain.{plain_of, rhs_of};
 ghost use Rattle.mh_items_kernels.specs.Kernels.{IsKernelItem};
 ghost use Rattle.mh_tables_core.specs.Failing.{Fails};
 ghost use Rattle.mh_report_comments.specs.Fitting.{FitsStates};
-ghost use Rattle.mh_report_comments.specs.Comments.{HasFarthestDot, AppendsComments, IsCommentText, IsEntryText, state_comment, suffix_title, suffix_comment, reduced_comment, reduced_comments, message_placeholder};
+ghost use Rattle.mh_report_comments.specs.Comments.{HasFarthestDot, AppendsComments, AppendsExpected, IsCommentBlock, IsCommentText, IsEntryText, expected_comment, state_comment, suffix_title, suffix_comment, reduced_comment, reduced_comments, message_placeholder};
 
+use mh_expected::expected;
 use mh_grammar::{Grammar, Memory, Token};
 use mh_grammar_texts::{write_before, write_between, write_production};
 use mh_items_kernels::{Automaton, KernelItem};
-use mh_msgfile::write_sentence;
+use mh_msgfile::{write_names, write_sentence};
 use mh_report_notation::write_item_lines;
 use mh_run::{Verdict, trace};
 use mh_tables_core::Halting;
@@ -154,26 +155,89 @@ pub fn comment_lines<const W: usize>(
     Ok(text)
 }
 
-/// Returns the entry of a sentence that fails, in the form of a messages file: the sentence, its comment lines, an
-/// empty line, a placeholder for the message, and an empty line. Fails only if memory runs out.
-pub fn entry_text<const W: usize>(
-    alloc: Global,
+/// Appends the line of these tokens.
+#[tactic(auto, unfolding(crate::specs::Comments::expected_title))]
+fn write_expected_line(
+    text: &mut Vec<u8>,
     grammar: &Grammar,
-    automaton: &Automaton<W>,
+    tokens: &[Token],
+) -> Result<(), Memory>
+    ensures { OnOk result (text.new.items ≡ text.old.items ++ expected_comment grammar.now tokens.now) }
+{
+    text.extend_from_slice(b"## Expected:")?;
+    write_names(text, grammar, tokens)?;
+    text.push(b'\n')?;
+    Ok(())
+}
+
+/// Appends the line of the tokens that are expected in place of the last token of a sentence that fails. Fails only if
+/// memory runs out.
+pub fn write_expected(
+    alloc: Global,
+    text: &mut Vec<u8>,
+    grammar: &Grammar,
     table: &Halting,
     start: u16,
     sentence: &[Token],
-) -> Result<Vec<u8>, Memory>
-    requires fits { FitsStates W grammar.now automaton.now table.now }
+) -> Result<(), Memory>
     requires fails { (state : ℕ) × Fails table.now start sentence.now state }
     requires size { length sentence.now < 2 ^ 32 }
-    ensures { IfOk result (λ text. IsEntryText grammar.now automaton.now table.now start sentence.now text.items) }
+    ensures { OnOk result (AppendsExpected grammar.now table.now start sentence.now text.old.items text.new.items) }
 {
-    let comments = comment_lines(alloc, grammar, automaton, table, start, sentence)?;
-    let mut text = Vec::new(alloc);
-    write_sentence(&mut text, grammar, start, sentence)?;
-    text.push(b'\n')?;
-    text.extend_from_slice(comments.as_slice())?;
-    write_message_place(&mut text)?;
-    Ok(text)
+    let _facts = table.table();
+    let before = &sentence[..sentence.len() - 1];
+    let tokens = expected(alloc, table, start, before)?;
+    write_expected_line(text, grammar, tokens.as_slice())
+}
+
+/// What comment lines are made from: a grammar, its automaton and its table.
+#[derive(Drop)]
+pub struct Commenter<'a, const W: usize> {
+    pub grammar: &'a Grammar,
+    pub automaton: &'a Automaton<W>,
+    pub table: &'a Halting,
+    /// Whether the comment lines end with the tokens that are expected in place of the last token.
+    pub expected: bool,
+}
+
+impl<const W: usize> Commenter<'_, W> {
+    /// Returns the comment lines of a sentence that fails, with the expected tokens if they are asked for. Fails only
+    /// if memory runs out.
+    pub fn comments(&self, alloc: Global, start: u16, sentence: &[Token]) -> Result<Vec<u8>, Memory>
+        requires fits { FitsStates W self.now.grammar.now self.now.automaton.now self.now.table.now }
+        requires fails { (state : ℕ) × Fails self.now.table.now start sentence.now state }
+        requires size { length sentence.now < 2 ^ 32 }
+        ensures { IfOk result (λ text. IsCommentBlock self.now.expected self.now.grammar.now self.now.automaton.now self.now.table.now start sentence.now text.items) }
+    {
+        let mut text = comment_lines(
+            alloc,
+            self.grammar,
+            self.automaton,
+            self.table,
+            start,
+            sentence,
+        )?;
+        if !self.expected {
+            return Ok(text);
+        }
+        write_expected(alloc, &mut text, self.grammar, self.table, start, sentence)?;
+        Ok(text)
+    }
+
+    /// Returns the entry of a sentence that fails, in the form of a messages file: the sentence, its comment lines, an
+    /// empty line, a placeholder for the message, and an empty line. Fails only if memory runs out.
+    pub fn entry(&self, alloc: Global, start: u16, sentence: &[Token]) -> Result<Vec<u8>, Memory>
+        requires fits { FitsStates W self.now.grammar.now self.now.automaton.now self.now.table.now }
+        requires fails { (state : ℕ) × Fails self.now.table.now start sentence.now state }
+        requires size { length sentence.now < 2 ^ 32 }
+        ensures { IfOk result (λ text. IsEntryText self.now.expected self.now.grammar.now self.now.automaton.now self.now.table.now start sentence.now text.items) }
+    {
+        let comments = self.comments(alloc, start, sentence)?;
+        let mut text = Vec::new(alloc);
+        write_sentence(&mut text, self.grammar, start, sentence)?;
+        text.push(b'\n')?;
+        text.extend_from_slice(comments.as_slice())?;
+        write_message_place(&mut text)?;
+        Ok(text)
+    }
 }

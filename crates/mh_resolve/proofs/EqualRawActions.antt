@@ -1,4 +1,4 @@
--- Proves that the cells are correct for each of two equal sets of raw actions.
+-- Proves that a cell that is decided by a set of raw actions is also decided by each set with the same actions.
 use Rattle.std.proofs.Common.{ℕ, Option, Some, None, Bool, true, false, inl, inr}
 use Rattle.std.specs.Prelude.{MatchBool}
 use Rattle.mh_tables_core.specs.declared.parts.Action.{Action}
@@ -10,6 +10,7 @@ use Rattle.mh_resolve_cells.specs.declared.cells.Cell.{Cell}
 use Rattle.mh_resolve_cells.specs.Cells.{Remains, IsChosen, IsConflict, IsUnsolved}
 use Rattle.mh_resolve_cells.specs.code.Tallies.{IsChosenOrRefuse, IsKind, IsDecided}
 
+-- The two sets of actions have the same elements.
 pub record AreAlike (R S : Action → Type 0) : Type 0 where
   pub to : (a : Action) → R a → S a
   pub from : (a : Action) → S a → R a

@@ -7,6 +7,6 @@ mod states;
 
 pub use mh_resolve_cells::{Conflict, ConflictKind, Mode};
 pub use resolution::{
-    Resolution, conflicts_are_complete, conflicts_are_one, conflicts_are_raw, resolve, resolve_one,
-    resolve_states, table_acts, table_is_one,
+    Resolution, conflicts_are_complete, conflicts_are_raw, conflicts_are_unique, resolve,
+    resolve_one, resolve_states, table_acts, table_is_unique,
 };

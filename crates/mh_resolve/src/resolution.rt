@@ -15,6 +15,7 @@ ghost use Rattle.mh_resolve_cells.specs.Conflicts.{AreConflicts};
 ghost use Rattle.mh_items_kernels.specs.Conflicts.{AutomatonHasConflict, AutomatonHasAnyConflict};
 ghost use Rattle.mh_resolve_cells.specs.NoConflicts.{HasNoConflicts, HasRawConflict, ActsSoundly, ActsCompletely};
 ghost use Rattle.mh_resolve_cells.specs.code.StateResults.{IsCellRow, AreEdgesKnown};
+ghost use Rattle.mh_resolve.specs.code.StateInput.{IsStateInput};
 
 use crate::found::add_conflicts;
 use crate::states::{CellRow, ListedState, parts_of, row_of};
@@ -50,10 +51,7 @@ fn resolve_state<const W: usize>(
     mode: Mode,
 ) -> Result<Resolved, Memory>
     requires fits { FitsSets W grammar.now }
-    requires closer { IsClosureBuilder (plain_of grammar.now) closer.old }
-    requires kernel { IsItemList (plain_of grammar.now) kernel.now }
-    requires rising { IsRising IsEdgeBefore edges.now }
-    requires known { AreEdgesKnown (length grammar.now.tokens) edges.now }
+    requires state { IsStateInput grammar.now closer.old kernel.now edges.now }
     ensures parts { IfOk result (λ r. IsResolved mode (closed_state grammar.now kernel.now edges.now) kernel.now r.parts) }
     ensures row { IfOk result (λ r. IsCellRow (closed_state grammar.now kernel.now edges.now) r.row.cells r.row.last r.row.stream) }
     ensures closer { IfOk result (λ _. IsClosureBuilder (plain_of grammar.now) closer.new) }
@@ -85,10 +83,7 @@ pub fn resolve_one<const W: usize>(
     mode: Mode,
 ) -> Result<StateParts, Memory>
     requires fits { FitsSets W grammar.now }
-    requires closer { IsClosureBuilder (plain_of grammar.now) closer.old }
-    requires kernel { IsItemList (plain_of grammar.now) kernel.now }
-    requires rising { IsRising IsEdgeBefore edges.now }
-    requires known { AreEdgesKnown (length grammar.now.tokens) edges.now }
+    requires state { IsStateInput grammar.now closer.old kernel.now edges.now }
     ensures parts { IfOk result (IsResolved mode (closed_state grammar.now kernel.now edges.now) kernel.now) }
     ensures closer { IfOk result (λ _. IsClosureBuilder (plain_of grammar.now) closer.new) }
 {
@@ -211,7 +206,7 @@ pub fn resolve<const W: usize>(
 }
 
 /// Law: an automaton has at most one table in each mode. The body is empty; only the contract matters.
-pub fn table_is_one<const W: usize>(
+pub fn table_is_unique<const W: usize>(
     grammar: &Grammar,
     automaton: &Automaton<W>,
     mode: Mode,
@@ -230,7 +225,7 @@ pub fn table_is_one<const W: usize>(
 }
 
 /// Law: an automaton has at most one list of conflicts. The body is empty; only the contract matters.
-pub fn conflicts_are_one<const W: usize>(
+pub fn conflicts_are_unique<const W: usize>(
     grammar: &Grammar,
     automaton: &Automaton<W>,
     left: &[Conflict],

@@ -77,8 +77,9 @@ first_states_more g a h mode n kernel edges row lt e f k parts is states new mor
 pub all_resolved : (g : Grammar) (a : Automaton) (mode : Mode) (n : ℕ) (states : List StateParts) → n ≡ length a.kernels → AreFirstStates g a mode n states → AreResolved g a mode states
 all_resolved g a mode n states e f = record { count = f.count ∙ e; each = λ s lt. f.each s (omega arith) }
 
-pub facts_of : (g : Grammar) (a : Automaton) (mode : Mode) (states : List StateParts) → IsInRange (plain_of g) → HaveCosts g.tokens → IsAutomaton (plain_of g) a → AreResolved g a mode states → Facts (table_data g states)
-facts_of g a mode states range costs h r = facts g a mode states (record { range = range; costs = costs; automaton = h; resolved = r })
+-- The table of resolved states has the facts of every table.
+pub Facts-resolved : (g : Grammar) (a : Automaton) (mode : Mode) (states : List StateParts) → IsInRange (plain_of g) → HaveCosts g.tokens → IsAutomaton (plain_of g) a → AreResolved g a mode states → Facts (table_data g states)
+Facts-resolved g a mode states range costs h r = facts g a mode states (record { range = range; costs = costs; automaton = h; resolved = r })
 
 -- The list holds the conflicts of the first n states.
 pub record AreFirstConflicts (g : Grammar) (a : Automaton) (n : ℕ) (conflicts : List Conflict) : Type 0 where
@@ -88,9 +89,10 @@ pub record AreFirstConflicts (g : Grammar) (a : Automaton) (n : ℕ) (conflicts 
 pub none_collected : (g : Grammar) (a : Automaton) → AreFirstConflicts g a 0 []
 none_collected g a = record { members = λ c. ((λ h. absurd (omega (arith, h.1))), (λ h. absurd (omega (arith, h.0)))); order = tt }
 
-pub row_at : (g : Grammar) (a : Automaton) → IsAutomaton (plain_of g) a → (n : ℕ) (kernel : Kernel) (edges row : List Edge) → n < length a.kernels → kernel ≡ get_or a.kernels n kernel → row ≡ get_or a.edges n row → edges ≡ row
+-- A row of cells for a kernel and its edges is the row of the state that has them.
+pub IsCellRow-state_of : (g : Grammar) (a : Automaton) → IsAutomaton (plain_of g) a → (n : ℕ) (kernel : Kernel) (edges row : List Edge) → n < length a.kernels → kernel ≡ get_or a.kernels n kernel → row ≡ get_or a.edges n row → edges ≡ row
     → (cells : List Cell) (last : Cell) (stream : Bool) → IsCellRow (closed_state g kernel edges) cells last stream → IsCellRow (state_of g a n) cells last stream
-row_at g a h n kernel edges row lt e f k cells last stream r =
+IsCellRow-state_of g a h n kernel edges row lt e f k cells last stream r =
     let rows = h.rows in
     let kernels : kernel_at a n ≡ kernel = kernel_is a n kernel lt e in
     let rowed : edges_at a n ≡ edges = edges_are a n edges row (omega arith) f k in

@@ -161,14 +161,15 @@ shift_by_cell g a mode s z j c e (inr none) = absurd (let no : Shift j ≡ Refus
 cell_past : (parts : StateParts) (z : ℕ) → length parts.cells ≤ z → get_or parts.cells z Refuse ≡ Refuse
 cell_past parts z h = get_or_past parts.cells z Refuse h
 
--- A cell that is not a refusal is a cell of the state.
-record Celled (g : Grammar) (a : Automaton) (mode : Mode) (s z : ℕ) (c : Action) : Type 0 where
+-- The automaton has the state s, and conflict resolution gives the state the action c on the token z.
+record IsCellOfState (g : Grammar) (a : Automaton) (mode : Mode) (s z : ℕ) (c : Action) : Type 0 where
   state : s < length a.kernels
   cell : IsCell mode (state_of g a s) z c
 
-celled : {g : Grammar} {a : Automaton} {mode : Mode} {states : List StateParts} → ResolutionPremises g a mode states → (s z : ℕ) (c : Action) → cell_of (table_data g states) s z ≡ c → (c ≡ Refuse → ⊥) → Celled g a mode s z c
+-- An action of the table other than `Refuse` is the action of some state of the automaton.
+cell_of_state : {g : Grammar} {a : Automaton} {mode : Mode} {states : List StateParts} → ResolutionPremises g a mode states → (s z : ℕ) (c : Action) → cell_of (table_data g states) s z ≡ c → (c ≡ Refuse → ⊥) → IsCellOfState g a mode s z c
 unfolding cell_of
-celled {g} {a} {mode} {states} m s z c e some =
+cell_of_state {g} {a} {mode} {states} m s z c e some =
     elim (cases_lt s (length a.kernels)) [
       | inl lt ↦ (
           let is = m.resolved.each s lt in
@@ -179,21 +180,22 @@ celled {g} {a} {mode} {states} m s z c e some =
       | inr ge ↦ absurd (some (sym e ∙ ap (λ (parts : StateParts). get_or parts.cells z Refuse) (state_past m s ge)))
     ]
 
-record Defaulted (g : Grammar) (a : Automaton) (mode : Mode) (s : ℕ) (f : Fallback) : Type 0 where
+-- The automaton has the state s, and conflict resolution gives the state the default f.
+record IsFallbackOfState (g : Grammar) (a : Automaton) (mode : Mode) (s : ℕ) (f : Fallback) : Type 0 where
   state : s < length a.kernels
   fallback : IsFallback mode (state_of g a s) (Some f)
 
-defaulted : {g : Grammar} {a : Automaton} {mode : Mode} {states : List StateParts} → ResolutionPremises g a mode states → (s : ℕ) (f : Fallback) → fallback_of (table_data g states) s ≡ Some f → Defaulted g a mode s f
+fallback_of_state : {g : Grammar} {a : Automaton} {mode : Mode} {states : List StateParts} → ResolutionPremises g a mode states → (s : ℕ) (f : Fallback) → fallback_of (table_data g states) s ≡ Some f → IsFallbackOfState g a mode s f
 unfolding fallback_of
-defaulted {g} {a} {mode} {states} m s f e =
+fallback_of_state {g} {a} {mode} {states} m s f e =
     elim (cases_lt s (length a.kernels)) [
       | inl lt ↦ record { state = lt; fallback = rw e at (m.resolved.each s lt).fallback }
       | inr ge ↦ absurd (let no : Some f ≡ None = sym e ∙ ap (λ (parts : StateParts). parts.fallback) (state_past m s ge) in cc)
     ]
 
 completes : {g : Grammar} {a : Automaton} {mode : Mode} {states : List StateParts} → ResolutionPremises g a mode states → (s p : ℕ) → ReducesBy (table_data g states) s p → Completes g a s p
-completes {g} {a} {mode} m s p (inl default) = by_fallback g a mode s p _ refl (defaulted m s (fallbacks.Reduce p) default).fallback
-completes {g} {a} {mode} m s p (inr cell) = by_cell g a m.automaton mode s cell.0 p (Reduce p) refl (celled m s cell.0 (Reduce p) cell.1 (λ no. cc)).cell
+completes {g} {a} {mode} m s p (inl default) = by_fallback g a mode s p _ refl (fallback_of_state m s (fallbacks.Reduce p) default).fallback
+completes {g} {a} {mode} m s p (inr cell) = by_cell g a m.automaton mode s cell.0 p (Reduce p) refl (cell_of_state m s cell.0 (Reduce p) cell.1 (λ no. cc)).cell
 
 ordinary : {g : Grammar} {a : Automaton} {mode : Mode} {states : List StateParts} → ResolutionPremises g a mode states → (s p : ℕ) → ReducesBy (table_data g states) s p → (length g.starts ≤ p) × (p < production_count (plain_of g))
 ordinary {g} {a} m s p r = let c = completes m s p r in (c.ordinary, (closure_is_item (plain_of g) a m.automaton s p (length (rhs_of (plain_of g) p)) c.look c.complete).production)
@@ -211,7 +213,7 @@ complete {g} {a} m s p r =
 
 shifts : {g : Grammar} {a : Automaton} {mode : Mode} {states : List StateParts} → ResolutionPremises g a mode states → (s z j : ℕ) → cell_of (table_data g states) s z ≡ Shift j → edge_of (table_data g states) s (T z) ≡ Some j
 shifts {g} {a} {mode} m s z j e =
-    let c = celled m s z (Shift j) e (λ no. cc) in
+    let c = cell_of_state m s z (Shift j) e (λ no. cc) in
     edge_in m s (T z) c.state ∙ shift_by_cell g a mode s z j (Shift j) refl c.cell
 
 start_length : (g : PlainGrammar) (i : ℕ) → i < length g.starts → length (rhs_of g i) ≡ 1
@@ -220,7 +222,7 @@ start_length g i lt = rw (lt-ltb i (length g.starts) lt) refl
 
 accepts : {g : Grammar} {a : Automaton} {mode : Mode} {states : List StateParts} → ResolutionPremises g a mode states → (s : ℕ) → fallback_of (table_data g states) s ≡ Some fallbacks.Accept → (i : ℕ) × (i < length g.starts) × InCore (table_data g states) s i 1
 accepts {g} {a} {mode} {states} m s e =
-    let d = defaulted m s fallbacks.Accept e in
+    let d = fallback_of_state m s fallbacks.Accept e in
     let i = d.fallback.0 in
     let lt = d.fallback.1 in
     let default = d.fallback.2 in (

@@ -119,8 +119,9 @@ candidate_ranked g xs p r c =
       rank = rw ((Decides-eqb item.dot (length (rhs_of (plain_of g) item.production))).1 dot) (ap (error_rank g) same ∙ c.rank_is);
     }
 
-pub errors_of : (g : Grammar) (xs : List KernelItem) → All HasSomeLook xs → (best : BestCandidate) → best.tied ≡ false → IsBest (IsRanked g xs) (Some best) → IsErrorReduction (state_of_items g xs []) best.production
-errors_of g xs all best e b =
+-- If the best candidate is not tied, its production is the error reduction of the state.
+pub IsErrorReduction-untied : (g : Grammar) (xs : List KernelItem) → All HasSomeLook xs → (best : BestCandidate) → best.tied ≡ false → IsBest (IsRanked g xs) (Some best) → IsErrorReduction (state_of_items g xs []) best.production
+IsErrorReduction-untied g xs all best e b =
     record {
       rank = best.rank;
       candidate = ranked_candidate g xs all best.production best.rank b.0;

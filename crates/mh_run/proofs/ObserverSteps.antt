@@ -29,7 +29,7 @@ module _ {S : Type 0} (f : Observer S) (t : TableData) where
   along_add zero m c s = let e : zero + m ≡ m = omega arith in rw e refl
   along_add (suc n) m c s = let e : suc n + m ≡ suc (n + m) = omega arith in rw e (along_add n m (next_of c (step t c)) (observed f t (run_move_of t (top_of c.stack) c.left) c.left s))
 
-  -- No step leads from a configuration to itself.
+  -- Zero steps lead from a configuration to itself.
   pub leads_none : (look : Option ℕ) (old : List ℕ) (before : S) → StepsLead f t look 0 old old before before
   leads_none look old before = record { reaches = λ read rest. refl; value = λ read rest. refl }
 

@@ -1,6 +1,7 @@
 //! Runs on sentences.
-ghost use Rattle.std.specs.Prelude.{◌≡◌, ◌<◌, ◌^◌, length, IfOk, All};
+ghost use Rattle.std.specs.Prelude.{◌≡◌, ◌<◌, ◌^◌, length, IfOk};
 ghost use Rattle.mh_tables_core.specs.Run.{VerdictOf, Overshot, Rejected, top_of};
+ghost use Rattle.mh_tables_core.specs.Sentences.{FitsTable};
 ghost use Rattle.mh_run.specs.code.Observers.{RunsObserved};
 ghost use Rattle.mh_run.specs.Verdicts.{ending_for};
 
@@ -19,9 +20,7 @@ pub fn verdict(
     start: u16,
     sentence: &[Token],
 ) -> Result<Verdict, Memory>
-    requires start { start < length table.now.grammar.starts }
-    requires tokens { All (λ z. z < table.now.grammar.tokens) sentence.now }
-    requires few { length sentence.now < 2 ^ 32 }
+    requires { FitsTable table.now start sentence.now }
     ensures { IfOk result (λ verdict. VerdictOf table.now start sentence.now (ending_for verdict)) }
 {
     let verdict = run(alloc, table, start, sentence, &mut NoObserver)?;
@@ -58,9 +57,7 @@ pub(crate) fn run<F: RunObserver>(
     sentence: &[Token],
     follower: &mut F,
 ) -> Result<Verdict, Memory>
-    requires start { start < length table.now.grammar.starts }
-    requires tokens { All (λ z. z < table.now.grammar.tokens) sentence.now }
-    requires few { length sentence.now < 2 ^ 32 }
+    requires { FitsTable table.now start sentence.now }
     ensures { IfOk result (λ verdict. RunsObserved F.following table.now start sentence.now follower.old (ending_for verdict) follower.new) }
 {
     let _rows = table.table();

@@ -1,5 +1,6 @@
 //! The productions that a run has reduced since its last shift.
-ghost use Rattle.std.specs.Prelude.{◌≡◌, ◌<◌, ◌^◌, length, IfOk, All};
+ghost use Rattle.std.specs.Prelude.{IfOk};
+ghost use Rattle.mh_tables_core.specs.Sentences.{FitsTable};
 ghost use Rattle.mh_run.specs.Trace.{TraceOf};
 ghost use Rattle.mh_run.specs.Verdicts.{ending_for};
 
@@ -49,9 +50,7 @@ pub fn trace(
     start: u16,
     sentence: &[Token],
 ) -> Result<(Verdict, Vec<u32>), Memory>
-    requires start { start < length table.now.grammar.starts }
-    requires tokens { All (λ z. z < table.now.grammar.tokens) sentence.now }
-    requires few { length sentence.now < 2 ^ 32 }
+    requires { FitsTable table.now start sentence.now }
     ensures { IfOk result (λ traced. TraceOf table.now start sentence.now (ending_for traced.0) traced.1.items) }
 {
     let mut since = SinceShift {

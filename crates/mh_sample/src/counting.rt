@@ -1,8 +1,8 @@
 //! Counts how a table parses the sentences of a sample.
 ghost use Rattle.std.specs.Prelude.{◌≡◌, ◌<◌, ◌≤◌, ◌^◌, ◌∷◌, ◌++◌, [], List, length, map, count_by, decimal, IfOk, OnOk};
-ghost use Rattle.std.specs.List.{All};
 ghost use Rattle.mh_grammar.specs.Plain.{plain_of, IsInRange};
 ghost use Rattle.mh_grammar.specs.declared.types.Sentence.{Sentence as Sentence'};
+ghost use Rattle.mh_tables_core.specs.Sentences.{FitsTable};
 ghost use Rattle.mh_run.specs.Verdicts.{ending_for};
 ghost use Rattle.mh_msgfile.specs.Sentences.{vocabulary_in, sentence_in};
 ghost use Rattle.mh_sample.specs.Texts.{each_from};
@@ -25,9 +25,7 @@ fn put_verdict(
     sentence: &Sentence,
     verdicts: &mut Vec<Verdict>,
 ) -> Result<(), Memory>
-    requires start { sentence.now.start < length table.now.grammar.starts }
-    requires tokens { All (λ z. z < table.now.grammar.tokens) sentence.now.tokens }
-    requires few { length sentence.now.tokens < 2 ^ 32 }
+    requires { FitsTable table.now sentence.now.start sentence.now.tokens }
     ensures { OnOk result ((done : List Sentence') → HaveEndings table.now done (map ending_for verdicts.old.items) → HaveEndings table.now (done ++ sentence.now ∷ []) (map ending_for verdicts.new.items)) }
 {
     let verdict = verdict(alloc, table, sentence.start, sentence.tokens.as_slice())?;

@@ -9,10 +9,10 @@ mod sentences;
 mod texts;
 
 pub use counting::sample_line;
-pub use laws::sample_line_is_one;
+pub use laws::sample_line_is_unique;
 pub use making::sample;
 pub use mh_sample_random::{
-    RandomFault, random_sentence, random_sentence_is_one, random_sentence_is_sentence,
+    RandomFault, random_sentence, random_sentence_is_sentence, random_sentence_is_unique,
 };
 pub use mh_sample_shortest::{MAX_WORD, Shortest, TokenWord, shortest_words};
 pub use sentences::{random_text, shortest_text};

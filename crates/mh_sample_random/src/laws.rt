@@ -13,7 +13,7 @@ pub fn random_sentence_is_sentence(grammar: &Grammar)
 }
 
 /// The random sentence of a seed and a limit is unique.
-pub fn random_sentence_is_one(grammar: &Grammar)
+pub fn random_sentence_is_unique(grammar: &Grammar)
     ensures { (seed n : ℕ) (s t : List ℕ) → IsRandom (plain_of grammar.now) seed n s → IsRandom (plain_of grammar.now) seed n t → s ≡ t }
 {
     let _grammar = grammar;

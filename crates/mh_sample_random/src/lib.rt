@@ -7,5 +7,5 @@ mod random;
 mod rows;
 mod writing;
 
-pub use laws::{random_sentence_is_one, random_sentence_is_sentence};
+pub use laws::{random_sentence_is_sentence, random_sentence_is_unique};
 pub use random::{RandomFault, random_sentence};

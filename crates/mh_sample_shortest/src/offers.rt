@@ -3,10 +3,9 @@
 //! words to its left side. The least of all offers is the least word of its nonterminal. So each nonterminal gets one
 //! word, and each production is visited once for each of its symbols. A pass over all productions checks afterwards
 //! that no word can become earlier.
-ghost use Rattle.std.specs.Prelude.{◌≡◌, ◌<◌, ◌≤◌, ◌+◌, ◌^◌, length, sum, vec_len, OnOk, IfOk};
+ghost use Rattle.std.specs.Prelude.{◌≡◌, ◌<◌, ◌≤◌, ◌+◌, ◌^◌, length, sum, vec_len, OnOk};
 ghost use Rattle.std.specs.BinaryHeap.{heap_len};
-ghost use Rattle.std.specs.List.{All};
-ghost use Rattle.mh_grammar.specs.Plain.{plain_of, IsInRange, IsProductionBelow, IsSymbolBelow};
+ghost use Rattle.mh_grammar.specs.Plain.{plain_of, IsInRange, IsProductionBelow};
 ghost use Rattle.mh_sample_shortest.specs.code.Chains.{AreDerived};
 ghost use Rattle.mh_sample_shortest.specs.code.Offers.{load, KeepsDerived};
 
@@ -14,7 +13,7 @@ use crate::chains::{fits, spelled};
 use crate::improving::improve;
 use crate::order::Offer;
 use crate::word::{MAX_WORD, TokenWord};
-use mh_grammar::{Grammar, Memory, Production, Symbol};
+use mh_grammar::{Grammar, Memory, Production, Symbol, users_of};
 use std::alloc::Global;
 use std::cmp::Reverse;
 use std::collections::BinaryHeap;
@@ -47,35 +46,6 @@ pub fn settle(
     begin(alloc, grammar, words, &mut waiting)?;
     while let Some(Reverse(offer)) = waiting.offers.pop() {
         accept(alloc, grammar, &users, offer.place, words, &mut waiting)?;
-    }
-    Ok(())
-}
-
-/// For each nonterminal the indices of the productions whose right sides contain the nonterminal, once for each
-/// occurrence.
-fn users_of(alloc: Global, grammar: &Grammar) -> Result<Vec<Vec<usize>>, Memory>
-    requires { IsInRange (plain_of grammar.now) }
-    ensures { IfOk result (λ users. vec_len users ≡ length grammar.now.nonterminals) }
-{
-    let mut users = Vec::new(alloc);
-    for _ in 0..grammar.nonterminals.len() {
-        users.push(Vec::new(alloc))?;
-    }
-    for (place, production) in grammar.productions.as_slice().iter().enumerate() {
-        put_users(production.rhs.as_slice(), place, &mut users)?;
-    }
-    Ok(users)
-}
-
-/// Adds the index of a production to the users of each nonterminal in the right side.
-fn put_users(symbols: &[Symbol], place: usize, users: &mut Vec<Vec<usize>>) -> Result<(), Memory>
-    requires { All (IsSymbolBelow (2 ^ 16) (vec_len users.old)) symbols.now }
-    ensures { vec_len users.new ≡ vec_len users.old }
-{
-    for symbol in symbols {
-        if let Symbol::N(nonterminal) = *symbol {
-            users[usize::from(nonterminal)].push(place)?;
-        }
     }
     Ok(())
 }

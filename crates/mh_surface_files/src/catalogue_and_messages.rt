@@ -1,6 +1,7 @@
 //! Lists of errors and messages: the states that refuse a token, the first sentence that fails in each, and a message
 //! for each.
 ghost use Rattle.std.specs.Prelude.{◌≡◌, ◌≤◌, ◌<◌, length, IfOk};
+ghost use Rattle.mh_reach.specs.Coming.{FirstComing};
 ghost use Rattle.mh_grammar.specs.Plain.{plain_of, IsInRange};
 ghost use Rattle.mh_items_kernels.specs.Automaton.{IsAutomaton};
 ghost use Rattle.mh_msgfile.specs.LooseFiles.{HasShortLines};
@@ -11,15 +12,16 @@ ghost use Rattle.mh_tables_core.specs.Failing.{Fails};
 
 use mh_catalogue::{CatalogueFault, Row, catalogue};
 use mh_check::{CheckFault, Compiled, compare, compile};
-use mh_grammar::{Grammar, Memory, Sentence};
+use mh_grammar::{Grammar, Memory, Sentence, Token};
 use mh_items::Automaton;
+use mh_lint_messages::error_lines;
 use mh_msgfile::{
-    Entry, LooseFile, MsgFault, MsgFile, MsgSentence, SentenceFault, print_messages, read_loose,
-    read_messages, read_sentence,
+    Entry, LooseBlocks, LooseFile, MsgFault, MsgFile, MsgSentence, SentenceFault, print_messages,
+    read_blocks, read_loose, read_messages, read_sentence,
 };
 use mh_reach::{Reach, reach};
 use mh_rebase::rebase;
-use mh_report::comment_lines;
+use mh_report::{Commenter, comment_lines};
 use mh_run::Verdict;
 use mh_surface::{A, EOF};
 use mh_tables::Halting;
@@ -74,6 +76,65 @@ fn sentence_in(alloc: Global, reach: &Reach, state: u32) -> Result<Sentence, Fai
     }
 }
 
+/// The least cost of a sentence that comes to a state with a token next; none if no sentence does.
+fn cost_before(reach: &Reach, state: u32, token: Token) -> Option<u32> {
+    let table = reach.table().table();
+    if state < table.states() && token < table.tokens() {
+        reach.cost_to(state, token)
+    } else {
+        None
+    }
+}
+
+/// The first sentence that comes to a state with a token next.
+fn sentence_before(alloc: Global, reach: &Reach, state: u32, token: Token) -> Result<Sentence, Fail>
+    requires state { state < length reach.now.states }
+    requires token { token < reach.now.grammar.tokens }
+    ensures { IfOk result (λ sentence. FirstComing reach.now sentence.start sentence.tokens state token) }
+{
+    match reach.cost_to(state, token) {
+        None => Err(Fail::from("no sentence comes to the state")),
+        Some(cost) => {
+            if cost > MAX_COST {
+                return Err(Fail::from("a long sentence"));
+            }
+            match reach.sentence_to(alloc, state, token) {
+                Ok(sentence) => Ok(sentence),
+                Err(Memory) => Err(Fail::from("no memory")),
+            }
+        }
+    }
+}
+
+/// The empty sentence comes to state 0 with each token next, and `A` to state 1. `A EOF` comes to state 2, after the
+/// reduction to `s` that the default of state 3 makes. There is no state 4.
+fn check_comings(rt: &impl Abort, alloc: Global, reach: &Reach) -> Result<(), Fail>
+    requires states { 4 ≤ length reach.now.states }
+    requires tokens { 2 ≤ reach.now.grammar.tokens }
+{
+    let costs = [
+        cost_before(reach, 0, EOF),
+        cost_before(reach, 1, A),
+        cost_before(reach, 2, A),
+        cost_before(reach, 4, A),
+    ];
+    assert!(rt; costs == [Some(0), Some(1), Some(2), None]);
+    let sentence = sentence_before(alloc, reach, 1, EOF)?;
+    assert!(rt; sentence.start == 0 && sentence.tokens.as_slice() == [A].as_slice());
+    drop(sentence);
+    Ok(())
+}
+
+/// The first sentence that fails in state 1, once the sentences that come to states are as expected.
+fn found_sentence(rt: &impl Abort, alloc: Global, reach: &Reach) -> Result<Sentence, Fail>
+    requires states { 4 ≤ length reach.now.states }
+    requires tokens { 2 ≤ reach.now.grammar.tokens }
+    ensures { IfOk result (λ sentence. Fails reach.now sentence.start sentence.tokens 1) }
+{
+    check_comings(rt, alloc, reach)?;
+    sentence_in(alloc, reach, 1)
+}
+
 /// The comment lines of state 1.
 const COMMENT: &str = "##
 ## Ends in an error in state: 1.
@@ -106,6 +167,61 @@ fn check_sentence(
     Ok(())
 }
 
+/// The entry of state 1, with the expected tokens.
+const ENTRY: &str = "s: A A
+##
+## Ends in an error in state: 1.
+##
+## s -> A . EOF [ # ]
+##
+## The known suffix of the stack is as follows:
+## A
+##
+## Expected: EOF
+
+<YOUR SYNTAX ERROR MESSAGE HERE>
+
+";
+
+/// The comment lines with the expected tokens, and the entry, of a sentence that fails in state 1.
+fn check_entry_text(
+    rt: &impl Abort,
+    alloc: Global,
+    commenter: &Commenter<'_, 1>,
+    sentence: &Sentence,
+) -> Result<(), Fail>
+    requires automaton { IsAutomaton (plain_of commenter.now.grammar.now) commenter.now.automaton.now }
+    requires table { IsTableOf commenter.now.grammar.now commenter.now.automaton.now Merged commenter.now.table.now }
+    requires fails { Fails commenter.now.table.now sentence.now.start sentence.now.tokens 1 }
+{
+    let tokens = sentence.tokens.as_slice();
+    assert!(rt; tokens == [A, A].as_slice());
+    let comments = commenter.comments(alloc, sentence.start, tokens)?;
+    let ends = comments.ends_with(b"## Expected: EOF\n");
+    drop(comments);
+    let entry = commenter.entry(alloc, sentence.start, tokens)?;
+    assert_eq!(rt; str::from_utf8(&entry)?, ENTRY);
+    drop(entry);
+    assert!(rt; ends);
+    Ok(())
+}
+
+/// All texts on a sentence that fails in state 1.
+fn check_texts(
+    rt: &impl Abort,
+    alloc: Global,
+    commenter: &Commenter<'_, 1>,
+    sentence: &Sentence,
+) -> Result<(), Fail>
+    requires automaton { IsAutomaton (plain_of commenter.now.grammar.now) commenter.now.automaton.now }
+    requires table { IsTableOf commenter.now.grammar.now commenter.now.automaton.now Merged commenter.now.table.now }
+    requires fails { Fails commenter.now.table.now sentence.now.start sentence.now.tokens 1 }
+{
+    check_entry_text(rt, alloc, commenter, sentence)?;
+    let (grammar, automaton, table) = (commenter.grammar, commenter.automaton, commenter.table);
+    check_sentence(rt, alloc, grammar, automaton, table, sentence)
+}
+
 /// The search for failing sentences, and its results.
 pub fn search(
     rt: &impl Abort,
@@ -117,15 +233,21 @@ pub fn search(
     requires automaton { IsAutomaton (plain_of grammar.now) automaton.now }
     requires table { IsTableOf grammar.now automaton.now Merged table.now }
 {
-    if table.table().states() < 4 {
-        return Err(Fail::from("four states"));
+    if table.table().states() < 4 || table.table().tokens() < 2 {
+        return Err(Fail::from("four states and two tokens"));
     }
     let found = reach(alloc, table)?;
     check_costs(rt, &found);
-    let sentence = sentence_in(alloc, &found, 1);
+    let sentence = found_sentence(rt, alloc, &found);
     drop(found);
     let sentence = sentence?;
-    let result = check_sentence(rt, alloc, grammar, automaton, table, &sentence);
+    let commenter = Commenter {
+        grammar,
+        automaton,
+        table,
+        expected: true,
+    };
+    let result = check_texts(rt, alloc, &commenter, &sentence);
     drop(sentence);
     result
 }
@@ -261,7 +383,7 @@ fn check_update(
     requires table { IsTableOf grammar.now automaton.now Merged table.now }
     requires known { AreSentencesOf (length grammar.now.starts) (length grammar.now.tokens) file.now }
 {
-    let Ok(text) = update(alloc, grammar, automaton, table, file) else {
+    let Ok(text) = update(alloc, grammar, automaton, table, file, false) else {
         return Err(Fail::from("a file that does not fit"));
     };
     assert_eq!(rt; str::from_utf8(&text)?, UPDATED);
@@ -329,7 +451,7 @@ fn check_rebased(
     requires table { IsTableOf grammar.now automaton.now Merged table.now }
     requires short { HasShortLines file.now }
 {
-    let Ok(text) = rebase(alloc, grammar, automaton, table, file) else {
+    let Ok(text) = rebase(alloc, grammar, automaton, table, file, false) else {
         return Err(Fail::from("a file that is not rebased"));
     };
     assert_eq!(rt; str::from_utf8(&text)?, REBASED);
@@ -337,7 +459,49 @@ fn check_rebased(
     Ok(())
 }
 
-/// A messages file that is read, printed and updated, and one that is rebased.
+/// The lines on a file with an unknown token and an unwritten message, and on a state without an entry.
+const WRONG: &str = "m:1: unknown token Z
+m:1: no message yet
+state 0 has no entry: s: EOF
+state 1 has no entry: s: A A
+";
+
+/// Everything that is wrong with a messages file.
+fn check_examined(
+    rt: &impl Abort,
+    alloc: Global,
+    grammar: &Grammar,
+    table: &Halting,
+) -> Result<(), Fail>
+    requires { table.now.grammar ≡ plain_of grammar.now }
+{
+    let Ok(blocks) = read_blocks(alloc, b"A Z\n\n<YOUR SYNTAX ERROR MESSAGE HERE>\n") else {
+        return Err(Fail::from("a file without blocks"));
+    };
+    let result = check_lines(rt, alloc, grammar, table, &blocks);
+    drop(blocks);
+    result
+}
+
+fn check_lines(
+    rt: &impl Abort,
+    alloc: Global,
+    grammar: &Grammar,
+    table: &Halting,
+    blocks: &LooseBlocks,
+) -> Result<(), Fail>
+    requires same { table.now.grammar ≡ plain_of grammar.now }
+    requires short { HasShortLines blocks.now.file }
+{
+    let Ok(text) = error_lines(alloc, grammar, table, b"m", blocks) else {
+        return Err(Fail::from("a file that is not examined"));
+    };
+    assert_eq!(rt; str::from_utf8(&text)?, WRONG);
+    drop(text);
+    Ok(())
+}
+
+/// A messages file that is read, printed and updated, one that is rebased, and one that is examined.
 pub fn messages_files(
     rt: &impl Abort,
     alloc: Global,
@@ -353,7 +517,8 @@ pub fn messages_files(
     let result = check_file(rt, alloc, grammar, automaton, table, &file);
     drop(file);
     result?;
-    check_rebase(rt, alloc, grammar, automaton, table)
+    check_rebase(rt, alloc, grammar, automaton, table)?;
+    check_examined(rt, alloc, grammar, table)
 }
 
 fn check_file(
@@ -382,7 +547,6 @@ fn compiled_of(
 ) -> Result<Compiled, Fail>
     requires range { IsInRange (plain_of grammar.now) }
     requires same { table.now.grammar ≡ plain_of grammar.now }
-    ensures { IfOk result (λ compiled. length compiled ≡ length table.now.states) }
 {
     let file = messages_of(alloc, grammar, text)?;
     let compiled = compile(alloc, table, &file);
@@ -398,15 +562,10 @@ fn compiled_of(
 fn check_compiled(
     rt: &impl Abort,
     alloc: Global,
-    table: &Halting,
     left: &Compiled,
     right: &Compiled,
-) -> Result<(), Fail>
-    requires left { length left.now ≡ length table.now.states }
-    requires right { length right.now ≡ length table.now.states }
-{
+) -> Result<(), Fail> {
     assert!(rt; left.message(0) == Some(b"Expected A.\n") && left.message(2).is_none());
-    table.table().facts();
     let missing = compare(alloc, left, right)?;
     assert!(rt; missing.as_slice() == [1].as_slice());
     drop(missing);
@@ -441,10 +600,9 @@ fn compared(
 ) -> Result<(), Fail>
     requires range { IsInRange (plain_of grammar.now) }
     requires same { table.now.grammar ≡ plain_of grammar.now }
-    requires left { length left.now ≡ length table.now.states }
 {
     let right = compiled_of(alloc, grammar, table, "EOF\n\nExpected A.\n")?;
-    let result = check_compiled(rt, alloc, table, left, &right);
+    let result = check_compiled(rt, alloc, left, &right);
     drop(right);
     result
 }

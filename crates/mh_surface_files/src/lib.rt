@@ -7,6 +7,8 @@ mod catalogue_and_messages;
 #[cfg(test)]
 mod chapters;
 #[cfg(test)]
+mod conflicts;
+#[cfg(test)]
 mod table_files;
 #[cfg(test)]
 mod texts;

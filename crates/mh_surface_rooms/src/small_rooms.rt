@@ -78,7 +78,7 @@ fn sentences(rt: &impl Abort, alloc: Global, grammar: &Grammar) -> Result<(), Fa
     Ok(())
 }
 
-/// What is asked of the grammar of the examples.
+/// Tests the functions on grammars with a small grammar.
 fn check_grammar(rt: &impl Abort, alloc: Global, grammar: &Grammar) -> Result<(), Fail> {
     if !is_small(grammar) {
         return Err(Fail::from("a large grammar"));
@@ -216,9 +216,10 @@ fn is_strict_list(order: &Order) -> bool {
         order.canonical,
         order.show_cst,
         order.show_expected,
+        order.comment_expected,
     ];
     let files = order.messages.is_none() && order.tables.is_none() && order.grammars.len() == 1;
-    is_list && files && marks == [true, true, false, false, false]
+    is_list && files && marks == [true, true, false, false, false, false]
 }
 
 /// The order that the words of the command line spell.

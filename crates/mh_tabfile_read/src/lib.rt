@@ -8,5 +8,5 @@ mod places;
 mod reading;
 mod words;
 
-pub use laws::{content_is_one, fault_is_one};
+pub use laws::{content_is_unique, fault_is_unique};
 pub use reading::{TabFault, read_tables};

@@ -53,8 +53,8 @@ fn is_other_number(word: &[u8]) -> bool
     }
 }
 
-fn are_other(word: &[u8], version: &[u8], mode: &[u8]) -> bool
-    ensures { result ≡ Lines.are_other word.now version.now mode.now }
+fn is_other_version(word: &[u8], version: &[u8], mode: &[u8]) -> bool
+    ensures { result ≡ Lines.is_other_version word.now version.now mode.now }
 {
     is_word(word, b"menhir-tables") && is_other_number(version) && is_mode(mode)
 }
@@ -64,7 +64,7 @@ fn is_other_head(words: &[&[u8]]) -> bool
     ensures { result ≡ is_head_of_other (map (λ w. w.now) words.now) }
 {
     match words {
-        [word, version, mode] => are_other(word, version, mode),
+        [word, version, mode] => is_other_version(word, version, mode),
         _ => false,
     }
 }

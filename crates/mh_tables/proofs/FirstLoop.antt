@@ -1,5 +1,6 @@
 -- Lemmas on the search for the first relative run that makes more than `MAX_REDUCTIONS` reductions (that loops), for
--- each loop of the search.
+-- each loop of the search. A relative run makes reductions from a start state alone, or above a state as long as this
+-- state is not removed.
 use Rattle.std.proofs.Common.{◌≡◌, ℕ, zero, suc, ◌+◌, ◌<◌, ◌≤◌, ◌⊎◌, inl, inr, List, [], ◌∷◌, ◌++◌, length, get_or, Some, None, Option, Bool, true, false, cond, refl, ap, sym, arith, ◌∙◌, below_more}
 use Rattle.std.proofs.lemmas.Bool.{cases_lt, cases_eq}
 use Rattle.std.proofs.lemmas.List.{get_or_default}

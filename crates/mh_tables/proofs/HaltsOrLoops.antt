@@ -1,4 +1,5 @@
--- Proves that every run on a table ends, or that there is a first relative run that loops.
+-- Proves that every run on a table ends, or that there is a first relative run that loops. A relative run makes
+-- reductions from a start state alone, or above a state as long as this state is not removed.
 use Rattle.std.proofs.Common.{◌≡◌, ℕ, zero, suc, ◌<◌, ◌≤◌, ◌+◌, ◌⊎◌, inl, inr, Bool, true, false, cond, List, [], ◌∷◌, length, Option, Some, None, refl, sym, ap, ◌∙◌, arith}
 use Rattle.std.proofs.lemmas.Bool.{cases_lt, cases_eq}
 use Rattle.std.proofs.lemmas.Option.{slice_get_within}
@@ -24,7 +25,7 @@ module _ (t : TableData) where
       by None e = inr (λ (stack, f). cc)
       by (Some stack) e = inl (stack, e)
 
-  -- The relative run loops on some look, or on none.
+  -- A relative run with this beginning loops with some next token or without one, or no such run loops.
   look_decided : (below : Option ℕ) (s : ℕ) → ((look : Option ℕ) × IsFirstLoopingLook t below s look) ⊎ NeverLoops t below s
   look_decided below s = by (makes_decided below s None (suc max_reductions)) (first (λ z. RunLoops t below s (Some z)) (λ z. makes_decided below s (Some z) (suc max_reductions)) t.grammar.tokens)
     where
@@ -78,7 +79,7 @@ module _ (t : TableData) (f : Facts t) where
   clear_from : (below : Option ℕ) (s : ℕ) → (LoopsSo below s → ⊥) → IsBeginning t below s → NeverLoops t below s
   clear_from below s not b = elim (look_decided t below s) [ inl l ↦ absurd (not (b, l)) | inr clear ↦ clear ]
 
-  -- Some relative run above this state loops, or none does.
+  -- Some relative run above the state `below` loops, or none does.
   state_decided : (below : Option ℕ) → ((s : ℕ) × (look : Option ℕ) × IsFirstLoopingState t below s look) ⊎ NoneLoopsAbove t below
   state_decided below = elim (first (LoopsSo below) (so_decided below) (length t.states)) [
     | inl w ↦ inl (w.at, w.holds.1.0, record { begins = w.holds.0; first = w.holds.1.1; no_state = λ s l b. clear_from below s (w.before s l) b })

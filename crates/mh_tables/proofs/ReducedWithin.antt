@@ -1,4 +1,4 @@
--- Lemmas on the reductions of one relative run.
+-- Lemmas on the reductions of one relative run, from a start state alone or above a state that is not removed.
 use Rattle.std.proofs.Common.{◌≡◌, ℕ, zero, suc, ◌-◌, ◌<◌, ◌≤◌, List, length, take, get_or, Some, None, Option, refl, arith, lt-ltb, le-ltb}
 use Rattle.mh_grammar.specs.declared.types.Symbol.TheVariants.{N}
 use Rattle.mh_grammar.specs.Plain.{rhs_of, lhs_of}

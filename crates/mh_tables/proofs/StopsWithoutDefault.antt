@@ -1,4 +1,5 @@
--- Proves that a relative run without a token makes the same reductions with every token.
+-- Proves that a relative run without a token makes the same reductions with every token. A relative run makes
+-- reductions from a start state alone, or above a state as long as this state is not removed.
 use Rattle.std.proofs.Common.{◌≡◌, ℕ, zero, suc, Bool, true, false, List, [], ◌∷◌, Some, None, Option, refl, ap, arith, ◌∙◌}
 use Rattle.std.specs.Prelude.{is_some, not}
 use Rattle.mh_tables_core.specs.declared.parts.Action.{Action}

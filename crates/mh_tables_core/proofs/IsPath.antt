@@ -19,14 +19,15 @@ no_dot_at_beginning t f s p ordinary there =
       | inr r ↦ omega (arith, f.other_cores_moved s p 0 r there)
     ]
 
--- The claim about the pair (p, d) in the core of the state at index k of the stack.
+-- The state d places before index k of the stack has an edge on the left side of the production p.
 abbrev Back : (t : TableData) (stack : List ℕ) (p d k : ℕ) → Type 0
 Back t stack p d k = (0 < d) × (d ≤ k) × HasGoto t (get_or stack (k - d) 0) p
 
 back_on : (t : TableData) (stack : List ℕ) (p d k : ℕ) → Back t stack p d k → Back t stack p (suc d) (suc k)
 back_on t stack p d k h = (omega arith, omega arith, let e : suc k - suc d ≡ k - d = omega arith in rw e h.2)
 
--- From a pair of a production in a core on the stack, the path goes back to a state with an edge on its left side.
+-- If the production p with the dot at d is in the core of the state at index k of the stack, the state d places before
+-- has an edge on the left side of p.
 pub walks_back : (t : TableData) (f : Facts t) (stack : List ℕ) (h : IsRunStack t stack) (p d k : ℕ) → length t.grammar.starts ≤ p → k < length stack → InCore t (get_or stack k 0) p d → Back t stack p d k
 walks_back t f stack h p zero k ordinary inside there = absurd (no_dot_at_beginning t f (get_or stack k 0) p ordinary there)
 walks_back t f stack h p (suc d) zero ordinary inside there = absurd (omega (arith, (f.start_core (get_or stack 0 0) p (suc d) h.start there).1))

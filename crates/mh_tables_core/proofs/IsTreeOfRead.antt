@@ -127,8 +127,8 @@ module _ (t : TableData) (f : Facts t) (start : ℕ) (w : List ℕ) (read n : �
   accepted_one = one_tree (trees_after t n (initial start w) []) accepts.one
 
   -- The tree derives the tokens that were read.
-  pub accepted_from : IsTreeOfRead t start w read (get_or (trees_after t n (initial start w) []) 0 (Leaf 0))
-  accepted_from =
+  pub accepted_derives : IsTreeOfRead t start w read (get_or (trees_after t n (initial start w) []) 0 (Leaf 0))
+  accepted_derives =
       let c : Config = after t n (initial start w) in
       let trees : List SyntaxTree = trees_after t n (initial start w) [] in
       let h : TreesMatchRun t w c trees = TreesMatchRun-start t f start n w lt in
@@ -146,4 +146,4 @@ module _ (t : TableData) (f : Facts t) (start : ℕ) (w : List ℕ) (read n : �
       }
 
 pub accepted_tree : (t : TableData) (f : Facts t) (start : ℕ) (w : List ℕ) (read : ℕ) → start < length t.grammar.starts → VerdictOf t start w (Accepted read) → (tree : SyntaxTree) × IsTreeOfRead t start w read tree
-accepted_tree t f start w read lt (n, e) = (get_or (trees_after t n (initial start w) []) 0 (Leaf 0), accepted_from t f start w read n lt e)
+accepted_tree t f start w read lt (n, e) = (get_or (trees_after t n (initial start w) []) 0 (Leaf 0), accepted_derives t f start w read n lt e)

@@ -1,5 +1,5 @@
--- Proves that no state asks if a token is left, that none refuses if no token is left, and that no reduction ends a
--- run.
+-- Proves that no state asks for a token while a token is left, that no state refuses if no token is left, and that no
+-- reduction ends a run.
 use Rattle.std.proofs.Common.{◌≡◌, ℕ, List, [], ◌∷◌, Some, None, Option}
 use Rattle.mh_tables_core.specs.declared.parts.Action.{Action}
 use Rattle.mh_tables_core.specs.declared.parts.Action.TheVariants as actions

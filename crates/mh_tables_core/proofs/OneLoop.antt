@@ -1,4 +1,5 @@
--- Proves that the first relative run that makes more than `MAX_REDUCTIONS` reductions is unique.
+-- Proves that the first relative run that makes more than `MAX_REDUCTIONS` reductions is unique. A relative run makes
+-- reductions from a start state alone, or above a state as long as this state is not removed.
 use Rattle.std.proofs.Common.{◌≡◌, ℕ, ◌<◌, ◌⊎◌, inl, inr, Some, None, Option, refl, ap, arith}
 use Rattle.std.proofs.lemmas.Bool.{cases_lt}
 use Rattle.mh_tables_core.specs.Table.{TableData}

@@ -6,5 +6,6 @@ pub mod Halting
 pub mod NextActions
 pub mod Run
 pub mod RunTrees
+pub mod Sentences
 pub mod Table
 pub mod TreeRuns

@@ -8,7 +8,8 @@ mod top;
 
 pub use exit::run;
 pub use mh_top_claims::{
-    lines_are_answered, runs_are_one, some_work_is_asked, unwarned_is_clear, work_is_one,
+    lines_are_answered, runs_are_equal, some_work_is_asked, unwarned_is_conflict_free,
+    work_is_unique,
 };
 pub use mh_top_drive::{Cause, status};
 pub use top::menhir;

@@ -9,7 +9,7 @@ ghost use Rattle.mh_top.specs.code.Premises.{MayRunMode};
 use mh_opts::Job;
 use mh_outside::{Shelf, Sink, Source};
 use mh_top_drive::Stop;
-use mh_top_lists::{ErrorList, SampleCounts, rebase_errors};
+use mh_top_lists::{ConflictExplanations, ErrorList, SampleCounts, check_errors, rebase_errors};
 use mh_top_modes::{
     AutomatonText, FileText, RandomSentence, ShortestWords, TableFile, compare_errors, explain,
     interpret, run_session, text_from_file,
@@ -56,6 +56,7 @@ pub(crate) fn run_mode<F: Shelf, I: Source, O: Sink, const W: usize>(
             };
             write_at_end(alloc, writer, input, out)
         }
+        Job::Explain => write_at_end(alloc, ConflictExplanations { prepared }, input, out),
         Job::CompileErrors { file } => {
             let made = text_from_file(alloc, prepared, shelf, FileText::Compiled, file.as_slice());
             write_made(alloc, made, input, out)
@@ -74,6 +75,9 @@ pub(crate) fn run_mode<F: Shelf, I: Source, O: Sink, const W: usize>(
         }
         Job::RebaseErrors { file } => {
             rebase_errors(alloc, prepared, shelf, file.as_slice(), input, out)
+        }
+        Job::CheckErrors { file } => {
+            check_errors(alloc, prepared, shelf, file.as_slice(), input, out)
         }
     }
 }

@@ -4,9 +4,11 @@ ghost use Rattle.mh_grammar.specs.Plain.{plain_of, IsInRange};
 ghost use Rattle.mh_grammar.specs.Text.{Text};
 ghost use Rattle.mh_top_drive.specs.StageResults.{Go};
 ghost use Rattle.mh_top_claims.specs.Claims.{MeetsClaims};
+ghost use Rattle.mh_top_claims.specs.CheckedErrors.{ChecksErrorsExactly};
 ghost use Rattle.mh_top_claims.specs.ErrorLists.{ListsErrorsExactly};
 ghost use Rattle.mh_top_claims.specs.Headline.{ListsErrorsOfTable, TakesSoundFiles, GivesMessages};
 ghost use Rattle.mh_top_claims.specs.RebasedFiles.{RebasesSoundly};
+ghost use Rattle.mh_top_claims.specs.ConflictExplanations.{ExplainsConflictsExactly};
 ghost use Rattle.mh_top_claims.specs.VerdictClaims.{AcceptIsExact, RejectIsSound, OvershootIsSound, AcceptIsSound, TooDeepIsExact};
 ghost use Rattle.mh_top_claims.specs.MayAskForFiles.{MayAskForFiles};
 ghost use Rattle.mh_top_claims.specs.Run.{world, Ran};
@@ -182,10 +184,10 @@ pub fn menhir<F: Shelf, I: Source, O: Sink, E: Sink>(
     err: &mut E,
 ) -> u8
     requires asked { MayAskForFiles (map string_bytes words.now) (F.MayAsk shelf.old) }
-    // The full contract: how each run ends. The other clauses follow from it.
     requires may_read { I.MayRead input.old }
     requires may_write { O.MayWrite out.old }
     requires may_warn { E.MayWrite err.old }
+    // The full contract: how each run ends. Most of the other clauses follow from it.
     ensures ran { Ran (map string_bytes words.now)
         (world F.files F.faults I.left I.faults O.written O.faults E.written E.faults
         shelf.old input.old out.old err.old)
@@ -223,6 +225,18 @@ pub fn menhir<F: Shelf, I: Source, O: Sink, E: Sink>(
         shelf.new input.new out.new err.new) result }
     // A rebased messages file is sound and complete, and has the old messages of the kept sentences.
     ensures rebases { RebasesSoundly (map string_bytes words.now)
+        (world F.files F.faults I.left I.faults O.written O.faults E.written E.faults
+        shelf.old input.old out.old err.old)
+        (world F.files F.faults I.left I.faults O.written O.faults E.written E.faults
+        shelf.new input.new out.new err.new) result }
+    // The explanations of conflicts are complete, each with the first sentence.
+    ensures explains { ExplainsConflictsExactly (map string_bytes words.now)
+        (world F.files F.faults I.left I.faults O.written O.faults E.written E.faults
+        shelf.old input.old out.old err.old)
+        (world F.files F.faults I.left I.faults O.written O.faults E.written E.faults
+        shelf.new input.new out.new err.new) result }
+    // out says exactly what is wrong with a messages file: nothing if the file is sound and complete.
+    ensures checks { ChecksErrorsExactly (map string_bytes words.now)
         (world F.files F.faults I.left I.faults O.written O.faults E.written E.faults
         shelf.old input.old out.old err.old)
         (world F.files F.faults I.left I.faults O.written O.faults E.written E.faults

@@ -13,7 +13,7 @@ use Rattle.mh_top_warnings.specs.Warnings.{has_warning}
 use Rattle.mh_top_claims.specs.Preparing.{IsPrepared}
 use Rattle.mh_top_types.specs.Shapes.{Prepared}
 use Rattle.mh_top_plans.proofs.FilesOfMode.{PreparedFacts}
-use Rattle.mh_top_claims.proofs.EachMode.{facts_of}
+use Rattle.mh_top_claims.proofs.EachMode.{mode_facts}
 use Rattle.mh_top_claims.proofs.VerdictClaims.{prepared_runs}
 
 pub answered_at : (plan last : Plan) (before : List Text) (line : Text) (after : List Text) (text : Text) → AnswersAll plan_behavior plan (before ++ line ∷ after) text last → IsAnsweredAt plan before line after text last
@@ -51,7 +51,7 @@ verdict_at by last before line after text all =
 
 plan_unless : (refused : Bool) (files : Option Files) (p : Prepared) → PreparedFacts p → (plan : Plan) × IsPlanUnlessRefused refused files p plan
 plan_unless true files p runs = (_, refl)
-plan_unless false files p runs = (facts_of p.order.job p).some files runs
+plan_unless false files p runs = (mode_facts p.order.job p).some files runs
 
 work_of : (words : List Text) (files : Option Files) (s : StageResult Prepared) → IsPrepared words files s → (w : Work) × IsWorkOf files s w
 work_of words files (Go p) is = let plan = plan_unless (p.order.strict && has_warning p.tabled.conflicts) files p (prepared_runs words files p is) in (record { warnings = _; plan = plan.0 }, (refl, plan.1))

@@ -47,7 +47,7 @@ use Rattle.mh_top_tables.specs.declared.sources.AutomatonSource.TheVariants.{Can
 use Rattle.mh_top_drive.proofs.ReadFilesLoop.{turn_first, turn_later}
 use Rattle.mh_top_claims.proofs.PreparedUnique.{prepared_once}
 use Rattle.mh_top_plans.proofs.IsNextFileOfJob.{nil_not_split}
-use Rattle.mh_top_claims.proofs.EachMode.{EndsAllowed, IsAllowed, answer_right, ends_right, facts_of}
+use Rattle.mh_top_claims.proofs.EachMode.{EndsAllowed, IsAllowed, answer_right, ends_right, mode_facts}
 
 -- The cause is a refusal, which needs no explanation here.
 abbrev IsRefusal : Cause → Type 0
@@ -183,7 +183,7 @@ module _ (words : List Text) (files : Option Files) where
 
   plan_right : (refused : Bool) (p : Prepared) (plan : Plan) → IsPrepared words files (Go p) → refused ≡ (p.order.strict && has_warning p.tabled.conflicts) → IsPlanUnlessRefused refused files p plan → EndsAllowed Accounts plan
   plan_right true p plan prepared test is = subst (EndsAllowed Accounts) (sym is) tt
-  plan_right false p plan prepared test is = (facts_of p.order.job p).allowed Accounts (λ line. tt) files plan (λ name what cause turn found halt. of_mode p name what cause prepared (subst (λ (b : Bool). IsNextUnlessRefused b files p name) test turn) found halt) is
+  plan_right false p plan prepared test is = (mode_facts p.order.job p).allowed Accounts (λ line. tt) files plan (λ name what cause turn found halt. of_mode p name what cause prepared (subst (λ (b : Bool). IsNextUnlessRefused b files p name) test turn) found halt) is
 
   work_right : (s : StageResult Prepared) (w : Work) → IsPrepared words files s → IsWorkOf files s w → EndsAllowed Accounts w.plan
   work_right (Go p) w prepared is = plan_right (p.order.strict && has_warning p.tabled.conflicts) p w.plan prepared refl is.1
@@ -292,7 +292,7 @@ module _ (words : List Text) (files : Files) where
 
   halted_mode : (refused : Bool) (p : Prepared) (plan : Plan) (name : Text) (what : FileFound) (cause : Cause) → IsNextUnlessRefused refused (Some files) p name → IsFound (Some files) name what → loaded name what ≡ Halt cause → IsPlanUnlessRefused refused (Some files) p plan → plan ≡ halts cause
   halted_mode true p plan name what cause turn found halt is = absurd turn
-  halted_mode false p plan name what cause turn found halt is = (facts_of p.order.job p).unread files name what cause plan turn found halt is
+  halted_mode false p plan name what cause turn found halt is = (mode_facts p.order.job p).unread files name what cause plan turn found halt is
 
   -- If the next file to read is missing or too long, this is the cause of the outcome.
   due_gives : (w : Work) (input : Option Text) (o : Outcome) (front name : Text) (what : FileFound) (cause : Cause) → HasOutcome plan_behavior w.plan input o → IsWork words (Some files) w → IsNextToRead words (Some files) front name → IsFound (Some files) name what → loaded name what ≡ Halt cause → o.cause ≡ Some cause

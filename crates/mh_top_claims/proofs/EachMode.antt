@@ -3,7 +3,7 @@ use Rattle.std.proofs.Common.{◌≡◌, ◌∷◌, ℕ, List, Option, None, Som
 use Rattle.std.specs.Bool.{⊤}
 use Rattle.mh_grammar.specs.declared.types.Grammar.{Grammar}
 use Rattle.mh_opts.specs.declared.jobs.Job.{Job}
-use Rattle.mh_opts.specs.declared.jobs.Job.TheVariants.{Interpret, InterpretError, Session, ShowAutomaton, WriteTables, ListErrors, CompareErrors, CompileErrors, EchoErrors, UpdateErrors, RebaseErrors, Sample, ShortestSentences, RandomSentence}
+use Rattle.mh_opts.specs.declared.jobs.Job.TheVariants.{Interpret, InterpretError, Session, ShowAutomaton, WriteTables, ListErrors, CompareErrors, CompileErrors, EchoErrors, UpdateErrors, RebaseErrors, CheckErrors, Sample, ShortestSentences, RandomSentence, Explain}
 use Rattle.mh_outside.specs.Shelf.{Files, FileFound}
 use Rattle.mh_report.proofs.OneAutomatonText.{text_once}
 use Rattle.mh_session_branches.proofs.OneAnswer.{answer_once as line_once}
@@ -13,6 +13,7 @@ use Rattle.mh_check.specs.Compiling.{missing}
 use Rattle.mh_check.specs.Texts.{compiled_text}
 use Rattle.mh_msgfile.specs.FileTexts.{echo_text}
 use Rattle.mh_msgfile.specs.declared.loose.LooseFile.{LooseFile}
+use Rattle.mh_explain.proofs.ExplanationsUnique.{explanations_once}
 use Rattle.mh_sample.proofs.ShortestTextUnique.{shortest_text_once}
 use Rattle.mh_grammar.specs.Text.{Text}
 use Rattle.mh_top_drive.specs.StageResults.{StageResult, Go, Halt}
@@ -26,9 +27,10 @@ use Rattle.mh_top_plans.specs.FinalText.{end_of_final_text}
 use Rattle.mh_top_plans.specs.Compared.{comparison_result}
 use Rattle.mh_top_plans.specs.Files.{files_of_job, optional_file}
 use Rattle.mh_top_plans.specs.Listing.{ListsErrors, Lists, TooLong, too_long}
-use Rattle.mh_top_plans.specs.MessagesFiles.{AreMessagesOfBoth, AreMessages, IsLooseFile, IsMessagesFile, IsUpdatedFile, Messages}
+use Rattle.mh_top_plans.specs.MessagesFiles.{AreMessagesOfBoth, AreMessages, AreLooseBlocks, IsLooseFile, IsMessagesFile, IsUpdatedFile, Messages}
+use Rattle.mh_top_plans.proofs.FileBlocks.{blocks_facts, some_blocks}
 use Rattle.mh_top_plans.proofs.LooseFiles.{loose_facts, some_loose}
-use Rattle.mh_top_plans.specs.Plan.{Answers, Automaton, FinalOutput, Ends, IsFinalOutput, EndsWith, Errors, Explains, IsPlanOfJob, Judges, Known, AreOptionalMessages, Plan, Serves, halts, judging_plan, plan_of_stage, table_file_text, writing_plan, Rebased, Sampled, Shortest, Random}
+use Rattle.mh_top_plans.specs.Plan.{Answers, Automaton, FinalOutput, Ends, IsFinalOutput, EndsWith, Errors, Explains, IsPlanOfJob, Judges, Known, AreOptionalMessages, Plan, Serves, halts, judging_plan, plan_of_stage, table_file_text, writing_plan, Checked, Rebased, Sampled, Shortest, Random, Conflicts}
 use Rattle.mh_top_plans.specs.Verdicts.{VerdictContext}
 use Rattle.mh_top_plans.specs.declared.at_end.FinalText.{FinalText}
 use Rattle.mh_top_plans.specs.declared.at_end.FinalText.TheVariants.{Written, Refusal}
@@ -40,6 +42,7 @@ use Rattle.mh_top_plans.proofs.FilesOfMode.{ReadFacts, PreparedFacts, StopsAllow
 use Rattle.mh_top_plans.proofs.IsNextFileOfJob.{IsNextOfMode, no_turn, turn_of_named}
 use Rattle.mh_top_claims.proofs.ErrorListUnique.{list_cause_once, list_out_once}
 use Rattle.mh_top_claims.proofs.IsDrawn.{drawn_once}
+use Rattle.mh_top_claims.proofs.ChecksErrors.{checked_cause_once, checked_out_once, checked_right}
 use Rattle.mh_top_claims.proofs.RebasesFile.{rebased_cause_once, rebased_out_once, rebased_right}
 use Rattle.mh_top_claims.proofs.IsExplained.{final_once}
 use Rattle.mh_top_claims.proofs.CountsSample.{counts_cause_once, counts_out_once, counts_right}
@@ -63,7 +66,7 @@ final_right Right may (Refusal line) = may line
 -- ---- The plan of a job exists, and is unique if the files are known.
 
 -- The facts on the plans of a job that reads these files.
-pub record Facts (p : Prepared) (names : List Text) (Is : Option Files → Plan → Type 0) : Type 1 where
+pub record ModeFacts (p : Prepared) (names : List Text) (Is : Option Files → Plan → Type 0) : Type 1 where
   pub some : (files : Option Files) → PreparedFacts p → (plan : Plan) × Is files plan
   pub unique : (files : Files) → IsOne (Is (Some files))
   -- If the next file to read is missing or too long, the plan ends at once with this cause.
@@ -75,7 +78,7 @@ pub record Facts (p : Prepared) (names : List Text) (Is : Option Files → Plan 
 
 module _ (p : Prepared) where
   -- The facts for a plan that reads no file and gives no verdicts.
-  fixed : (plan : Plan) → ((by : VerdictContext) → Judges by ≡ plan → ⊥) → ((Right : Cause → Type 0) → EndsAllowed Right plan) → Facts p [] (λ files other. other ≡ plan)
+  fixed : (plan : Plan) → ((by : VerdictContext) → Judges by ≡ plan → ⊥) → ((Right : Cause → Type 0) → EndsAllowed Right plan) → ModeFacts p [] (λ files other. other ≡ plan)
   fixed plan never ends = record {
     some = λ files runs. (plan, refl);
     unique = λ files x y is so. is ∙ sym so;
@@ -94,7 +97,7 @@ module _ (p : Prepared) where
     ends_so Right may (Go x) right = ends Right may x
     ends_so Right may (Halt cause) right = right
 
-    reading : Facts p names (λ files other. (s : StageResult A) × Has files s × (other ≡ plan_of_stage plan s))
+    reading : ModeFacts p names (λ files other. (s : StageResult A) × Has files s × (other ≡ plan_of_stage plan s))
     reading = record {
       some = λ files runs. let s = read.some files runs in (plan_of_stage plan s.0, (s.0, s.1, refl));
       unique = λ files x y is so. is.2 ∙ ap (plan_of_stage plan) (read.unique files is.0 so.0 is.1 so.1) ∙ sym so.2;
@@ -116,7 +119,7 @@ module _ (p : Prepared) where
   judges_right Right (Go messages) right = tt
   judges_right Right (Halt cause) right = right
 
-  judging : (file : Option Text) → Facts p (optional_file file) (λ files plan. (s : StageResult (Option Messages)) × AreOptionalMessages file files p s × (plan ≡ plan_of_stage (judging_plan p) s))
+  judging : (file : Option Text) → ModeFacts p (optional_file file) (λ files plan. (s : StageResult (Option Messages)) × AreOptionalMessages file files p s × (plan ≡ plan_of_stage (judging_plan p) s))
   judging file = record {
     some = λ files runs. let s = some_messages_for p runs.halts runs.consistent.table.grammar file files in (plan_of_stage (judging_plan p) s.0, (s.0, s.1, refl));
     unique = λ files x y is so. is.2 ∙ ap (plan_of_stage (judging_plan p)) (messages_for_once p file files is.0 so.0 is.1 so.1) ∙ sym so.2;
@@ -130,23 +133,25 @@ module _ (p : Prepared) where
 one_checked : (p : Prepared) (file : Text) → ReadFacts p (file ∷ []) (λ files. IsFileContent files (AreMessages p.grammar p.tabled.halting) file)
 one_checked p file = one_file p file (AreMessages p.grammar p.tabled.halting) (messages_facts p.grammar p.tabled.halting) (λ runs. some_checked p.grammar p.tabled.halting runs.halts runs.consistent.table.grammar)
 
-pub facts_of : (job : Job) (p : Prepared) → Facts p (files_of_job job p.order) (λ files. IsPlanOfJob job files p)
-facts_of Interpret p = judging p p.order.messages
-facts_of InterpretError p = fixed p (Explains p []) (λ by is. cc) (λ Right. tt)
-facts_of Session p = fixed p (Serves p.grammar p.tabled.halting []) (λ by is. cc) (λ Right. tt)
-facts_of ShowAutomaton p = fixed p (Ends (Automaton p)) (λ by is. cc) (λ Right. tt)
-facts_of WriteTables p = fixed p (writing_plan (Written (table_file_text p))) (λ by is. cc) (λ Right. tt)
-facts_of ListErrors p = fixed p (Ends (Errors p)) (λ by is. cc) (λ Right. tt)
-facts_of (Sample number) p = fixed p (Ends (Sampled number p)) (λ by is. cc) (λ Right. tt)
-facts_of ShortestSentences p = fixed p (Ends (Shortest p)) (λ by is. cc) (λ Right. tt)
-facts_of (RandomSentence seed n) p = fixed p (Ends (Random seed n p)) (λ by is. cc) (λ Right. tt)
-facts_of (CompileErrors file) p = reading p (file ∷ []) (λ files. IsFileContent files (AreMessages p.grammar p.tabled.halting) file) (one_checked p file) (λ messages. writing_plan (Written (compiled_text messages))) (λ messages by is. cc) (λ Right may messages. tt)
-facts_of (EchoErrors file) p =
+pub mode_facts : (job : Job) (p : Prepared) → ModeFacts p (files_of_job job p.order) (λ files. IsPlanOfJob job files p)
+mode_facts Interpret p = judging p p.order.messages
+mode_facts InterpretError p = fixed p (Explains p []) (λ by is. cc) (λ Right. tt)
+mode_facts Session p = fixed p (Serves p.grammar p.tabled.halting []) (λ by is. cc) (λ Right. tt)
+mode_facts ShowAutomaton p = fixed p (Ends (Automaton p)) (λ by is. cc) (λ Right. tt)
+mode_facts WriteTables p = fixed p (writing_plan (Written (table_file_text p))) (λ by is. cc) (λ Right. tt)
+mode_facts ListErrors p = fixed p (Ends (Errors p)) (λ by is. cc) (λ Right. tt)
+mode_facts (Sample number) p = fixed p (Ends (Sampled number p)) (λ by is. cc) (λ Right. tt)
+mode_facts ShortestSentences p = fixed p (Ends (Shortest p)) (λ by is. cc) (λ Right. tt)
+mode_facts (RandomSentence seed n) p = fixed p (Ends (Random seed n p)) (λ by is. cc) (λ Right. tt)
+mode_facts Explain p = fixed p (Ends (Conflicts p)) (λ by is. cc) (λ Right. tt)
+mode_facts (CompileErrors file) p = reading p (file ∷ []) (λ files. IsFileContent files (AreMessages p.grammar p.tabled.halting) file) (one_checked p file) (λ messages. writing_plan (Written (compiled_text messages))) (λ messages by is. cc) (λ Right may messages. tt)
+mode_facts (EchoErrors file) p =
     reading p (file ∷ []) (λ files. IsFileContent files (IsMessagesFile p.grammar) file) (one_file p file (IsMessagesFile p.grammar) (messages_file_facts p.grammar) (λ runs name bytes short. some_spelled p.grammar name bytes)) (λ spelled. writing_plan (Written (echo_text p.grammar spelled))) (λ spelled by is. cc)
     (λ Right may spelled. tt)
-facts_of (UpdateErrors file) p = reading p (file ∷ []) (λ files. IsUpdatedFile files p file) (one_updated p file) (λ text. writing_plan (Written text)) (λ text by is. cc) (λ Right may text. tt)
-facts_of (RebaseErrors file) p = reading p (file ∷ []) (λ files. IsFileContent files IsLooseFile file) (one_file p file IsLooseFile loose_facts (λ runs name bytes short. some_loose name bytes)) (λ loose. Ends (Rebased loose p)) (λ loose by is. cc) (λ Right may loose. tt)
-facts_of (CompareErrors first second) p =
+mode_facts (UpdateErrors file) p = reading p (file ∷ []) (λ files. IsUpdatedFile files p file) (one_updated p file) (λ text. writing_plan (Written text)) (λ text by is. cc) (λ Right may text. tt)
+mode_facts (RebaseErrors file) p = reading p (file ∷ []) (λ files. IsFileContent files IsLooseFile file) (one_file p file IsLooseFile loose_facts (λ runs name bytes short. some_loose name bytes)) (λ loose. Ends (Rebased loose p)) (λ loose by is. cc) (λ Right may loose. tt)
+mode_facts (CheckErrors file) p = reading p (file ∷ []) (λ files. IsFileContent files AreLooseBlocks file) (one_file p file AreLooseBlocks blocks_facts (λ runs name bytes short. some_blocks name bytes)) (λ blocks. Ends (Checked file blocks p)) (λ blocks by is. cc) (λ Right may blocks. tt)
+mode_facts (CompareErrors first second) p =
     reading p (first ∷ second ∷ []) (λ files. AreMessagesOfBoth files p first second) (two_files p first second) (λ both. writing_plan (comparison_result first second (missing both.0 both.1))) (λ both by is. cc) (λ Right may both. final_right Right may (comparison_result first second (missing both.0 both.1)))
 
 -- ---- The end of a mode that asks for no line is unique.
@@ -156,7 +161,7 @@ pub record EndFacts (end : FinalOutput) : Type 1 where
   pub out : (x y : ModeEnd) → IsFinalOutput end x → IsFinalOutput end y → x.out ≡ y.out
   pub allowed : (Right : Cause → Type 0) → ((line : Text) → Right (Refused line)) → (e : ModeEnd) → EndsAllowed Right (Ends end) → IsFinalOutput end e → IsAllowed Right e.cause
 
-list_right : (p : Prepared) (Right : Cause → Type 0) → ((line : Text) → Right (Refused line)) → (e : ModeEnd) → ListsErrors p.grammar p.tabled.automaton p.tabled.halting e.cause e.out → IsAllowed Right e.cause
+list_right : (p : Prepared) (Right : Cause → Type 0) → ((line : Text) → Right (Refused line)) → (e : ModeEnd) → ListsErrors p.order.comment_expected p.grammar p.tabled.automaton p.tabled.halting e.cause e.out → IsAllowed Right e.cause
 list_right p Right may e (Lists none cause list) = subst (IsAllowed Right) (sym cause) tt
 list_right p Right may e (TooLong s long cause out) = subst (IsAllowed Right) (sym cause) (may (too_long s))
 
@@ -175,14 +180,19 @@ end_facts (Automaton p) = record {
   allowed = λ Right may e right is. subst (IsAllowed Right) (sym is.0) tt;
 }
 end_facts (Errors p) = record {
-  cause = λ x y is so. list_cause_once p.grammar p.tabled.automaton p.tabled.halting x.cause y.cause x.out y.out is so;
-  out = λ x y is so. list_out_once p.grammar p.tabled.automaton p.tabled.halting x.cause y.cause x.out y.out is so;
+  cause = λ x y is so. list_cause_once p.order.comment_expected p.grammar p.tabled.automaton p.tabled.halting x.cause y.cause x.out y.out is so;
+  out = λ x y is so. list_out_once p.order.comment_expected p.grammar p.tabled.automaton p.tabled.halting x.cause y.cause x.out y.out is so;
   allowed = λ Right may e right is. list_right p Right may e is;
 }
 end_facts (Rebased file p) = record {
-  cause = λ x y is so. rebased_cause_once p.grammar p.tabled.automaton p.tabled.halting file x.cause y.cause x.out y.out is so;
-  out = λ x y is so. rebased_out_once p.grammar p.tabled.automaton p.tabled.halting file x.cause y.cause x.out y.out is so;
-  allowed = λ Right may e right is. rebased_right p.grammar p.tabled.automaton p.tabled.halting file (IsAllowed Right) may tt e.cause e.out is;
+  cause = λ x y is so. rebased_cause_once p.order.comment_expected p.grammar p.tabled.automaton p.tabled.halting file x.cause y.cause x.out y.out is so;
+  out = λ x y is so. rebased_out_once p.order.comment_expected p.grammar p.tabled.automaton p.tabled.halting file x.cause y.cause x.out y.out is so;
+  allowed = λ Right may e right is. rebased_right p.order.comment_expected p.grammar p.tabled.automaton p.tabled.halting file (IsAllowed Right) may tt e.cause e.out is;
+}
+end_facts (Checked name blocks p) = record {
+  cause = λ x y is so. checked_cause_once p.grammar p.tabled.halting name blocks x.cause y.cause x.out y.out is so;
+  out = λ x y is so. checked_out_once p.grammar p.tabled.halting name blocks x.cause y.cause x.out y.out is so;
+  allowed = λ Right may e right is. checked_right p.grammar p.tabled.halting name blocks (IsAllowed Right) may tt e.cause e.out is;
 }
 end_facts (Sampled number p) = record {
   cause = λ x y is so. counts_cause_once p.grammar p.tabled.halting number x.cause y.cause x.out y.out is so;
@@ -198,6 +208,11 @@ end_facts (Random seed n p) = record {
   cause = λ x y is so. ap (λ (e : ModeEnd). e.cause) (random_once p seed n x y is so);
   out = λ x y is so. ap (λ (e : ModeEnd). e.out) (random_once p seed n x y is so);
   allowed = λ Right may e right is. subst (IsAllowed Right) (sym (ap (λ (x : ModeEnd). x.cause) is.2)) (final_right Right may is.0);
+}
+end_facts (Conflicts p) = record {
+  cause = λ x y is so. is.0 ∙ sym so.0;
+  out = λ x y is so. explanations_once p.grammar p.tabled.automaton p.tabled.halting p.tabled.conflicts x.out y.out is.1 so.1;
+  allowed = λ Right may e right is. subst (IsAllowed Right) (sym is.0) tt;
 }
 
 -- ---- The answer to a line and the end of a mode are unique.

@@ -1,5 +1,5 @@
 -- The list of errors of a table is unique: either its catalogue, or the refusal of one state.
-use Rattle.std.proofs.Common.{◌≡◌, ◌<◌, ℕ, List, Option, sym, ◌∙◌, ap, subst, inl, inr, arith}
+use Rattle.std.proofs.Common.{◌≡◌, ◌<◌, ℕ, List, Option, sym, ◌∙◌, ap, subst, inl, inr, arith, Bool, Bool}
 use Rattle.std.specs.Prelude.{Some}
 use Rattle.std.proofs.lemmas.Bool.{cases_lt}
 use Rattle.mh_grammar.specs.declared.types.Grammar.{Grammar}
@@ -28,16 +28,16 @@ too_long_once t s r long other = elim (cases_lt s r) [
   | inr le ↦ elim (cases_lt r s) [ inl lt ↦ absurd (not_below t r s other long lt) | inr ge ↦ omega arith ]
 ]
 
-pub list_cause_once : (g : Grammar) (a : Automaton) (t : TableData) (c d : Option Cause) (x y : Text) → ListsErrors g a t c x → ListsErrors g a t d y → c ≡ d
-list_cause_once g a t c d x y (Lists none cause list) (Lists none' cause' list') = cause ∙ sym cause'
-list_cause_once g a t c d x y (Lists none cause list) (TooLong s long cause' out) = absurd (none s long)
-list_cause_once g a t c d x y (TooLong s long cause out) (Lists none cause' list) = absurd (none s long)
-list_cause_once g a t c d x y (TooLong s long cause out) (TooLong r also cause' out') = cause ∙ ap (λ (n : ℕ). Some (Refused (too_long n))) (too_long_once t s r long also) ∙ sym cause'
+pub list_cause_once : (expected : Bool) (g : Grammar) (a : Automaton) (t : TableData) (c d : Option Cause) (x y : Text) → ListsErrors expected g a t c x → ListsErrors expected g a t d y → c ≡ d
+list_cause_once expected g a t c d x y (Lists none cause list) (Lists none' cause' list') = cause ∙ sym cause'
+list_cause_once expected g a t c d x y (Lists none cause list) (TooLong s long cause' out) = absurd (none s long)
+list_cause_once expected g a t c d x y (TooLong s long cause out) (Lists none cause' list) = absurd (none s long)
+list_cause_once expected g a t c d x y (TooLong s long cause out) (TooLong r also cause' out') = cause ∙ ap (λ (n : ℕ). Some (Refused (too_long n))) (too_long_once t s r long also) ∙ sym cause'
 
-pub list_out_once : (g : Grammar) (a : Automaton) (t : TableData) (c d : Option Cause) (x y : Text) → ListsErrors g a t c x → ListsErrors g a t d y → x ≡ y
-list_out_once g a t c d x y (Lists none cause list) (Lists none' cause' list') =
+pub list_out_once : (expected : Bool) (g : Grammar) (a : Automaton) (t : TableData) (c d : Option Cause) (x y : Text) → ListsErrors expected g a t c x → ListsErrors expected g a t d y → x ≡ y
+list_out_once expected g a t c d x y (Lists none cause list) (Lists none' cause' list') =
     let same = catalogue_once t list'.rows list.rows list'.catalogue list.catalogue in
-    entries_once g a t list.rows x y list.entries (subst (λ (rows : List CatalogueRow). AreEntries g a t rows y) same list'.entries)
-list_out_once g a t c d x y (Lists none cause list) (TooLong s long cause' out) = absurd (none s long)
-list_out_once g a t c d x y (TooLong s long cause out) (Lists none cause' list) = absurd (none s long)
-list_out_once g a t c d x y (TooLong s long cause out) (TooLong r also cause' out') = out ∙ sym out'
+    entries_once expected g a t list.rows x y list.entries (subst (λ (rows : List CatalogueRow). AreEntries expected g a t rows y) same list'.entries)
+list_out_once expected g a t c d x y (Lists none cause list) (TooLong s long cause' out) = absurd (none s long)
+list_out_once expected g a t c d x y (TooLong s long cause out) (Lists none cause' list) = absurd (none s long)
+list_out_once expected g a t c d x y (TooLong s long cause out) (TooLong r also cause' out') = out ∙ sym out'

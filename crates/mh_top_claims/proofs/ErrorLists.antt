@@ -1,46 +1,27 @@
 -- Proves the claim on lists of errors from the definition of a run.
-use Rattle.std.proofs.Common.{◌≡◌, ◌⊎◌, inl, inr, ℕ, Bool, true, false, ◌&&◌, List, [], ◌++◌, Option, None, Some, sym, ◌∙◌, ap, subst}
+use Rattle.std.proofs.Common.{◌≡◌, ◌⊎◌, inl, inr, ℕ, List, [], ◌++◌, Option, Some, ◌∙◌, ap, subst}
 use Rattle.std.proofs.lemmas.List.{append-nil}
 use Rattle.std.specs.Io.KnownBytes.{Appends}
-use Rattle.mh_opts.specs.declared.jobs.Job.{Job}
 use Rattle.mh_opts.specs.declared.jobs.Job.TheVariants.{ListErrors}
 use Rattle.mh_outside.specs.Shelf.{Files}
-use Rattle.mh_top_drive.specs.StageResults.{StageResult, Go, Halt}
 use Rattle.mh_top_drive.specs.Statuses.{last_line_of, status_of}
 use Rattle.mh_top_claims.specs.ErrorLists.{ErrorListOutcome, AsksForErrorList, Listed, ListsErrorsExactly, Refused}
 use Rattle.mh_top_plans.specs.Listing.{ListsErrors, Lists, TooLong}
 use Rattle.mh_top_drive.specs.ModeBehavior.{HasOutcome}
-use Rattle.mh_top_plans.specs.Plan.{Plan, IsPlanOfJob, Ends, Errors, plan_behavior}
-use Rattle.mh_top_claims.specs.Run.{World, DoesWork, text_on_err}
+use Rattle.mh_top_plans.specs.Plan.{Plan, Ends, Errors, plan_behavior}
+use Rattle.mh_top_claims.specs.Run.{World, DoesWork}
 use Rattle.mh_top_claims.specs.Run as runs
 use Rattle.mh_top_types.specs.Shapes.{Prepared}
 use Rattle.mh_grammar.specs.Text.{Text}
-use Rattle.mh_top_claims.specs.Work.{Work, IsPlanUnlessRefused, IsWork, IsWorkOf}
-use Rattle.mh_top_warnings.specs.Warnings.{has_warning, warnings_of}
-use Rattle.mh_top_claims.specs.Preparing.{IsPrepared}
+use Rattle.mh_top_claims.specs.Work.{IsWork}
+use Rattle.mh_top_warnings.specs.Warnings.{warnings_of}
 use Rattle.mh_top_drive.specs.declared.stop.Cause.{Cause}
 use Rattle.mh_top_claims.proofs.Claims.{completes}
-use Rattle.mh_top_claims.proofs.PreparedUnique.{prepared_once}
 use Rattle.mh_top_claims.proofs.FinalOutputOutcome.{yields_end}
-
--- The plan that the words ask for is the one that lists the errors.
-plan_of : (refused : Bool) (files : Option Files) (p : Prepared) (plan : Plan) → refused ≡ false → p.order.job ≡ ListErrors → IsPlanUnlessRefused refused files p plan → plan ≡ Ends (Errors p)
-plan_of true files p plan accepted job is = absurd (cc)
-plan_of false files p plan accepted job is = subst (λ (j : Job). IsPlanOfJob j files p plan) job is
-
-module _ (words : List Text) (files : Files) (p : Prepared) (asks : AsksForErrorList words (Some files) p) where
-  work_at : (s : StageResult Prepared) (w : Work) → s ≡ Go p → IsWorkOf (Some files) s w → (w.warnings ≡ warnings_of p) × (w.plan ≡ Ends (Errors p))
-  work_at (Go q) w same is =
-      let one : q ≡ p = cc in
-      let at : IsWorkOf (Some files) (Go p) w = subst (λ (x : Prepared). IsWorkOf (Some files) (Go x) w) one is in
-      (at.0, plan_of (p.order.strict && has_warning p.tabled.conflicts) (Some files) p w.plan asks.accepted asks.job at.1)
-  work_at (Halt cause) w same is = absurd (cc)
-
-  work_is : (w : Work) → IsWork words (Some files) w → (w.warnings ≡ warnings_of p) × (w.plan ≡ Ends (Errors p))
-  work_is w is = work_at is.0 w (prepared_once words files is.0 (Go p) is.1 asks.prepared) is.2
+use Rattle.mh_top_claims.proofs.WorkOfJob.{work_is}
 
 module _ (p : Prepared) (b a : World) (status : ℕ) where
-  listed : (cause : Option Cause) (out : Text) → ListsErrors p.grammar p.tabled.automaton p.tabled.halting cause out → status ≡ status_of cause → Appends b.out a.out out → Appends b.err a.err (warnings_of p ++ last_line_of cause) → ErrorListOutcome p b a status
+  listed : (cause : Option Cause) (out : Text) → ListsErrors p.order.comment_expected p.grammar p.tabled.automaton p.tabled.halting cause out → status ≡ status_of cause → Appends b.out a.out out → Appends b.err a.err (warnings_of p ++ last_line_of cause) → ErrorListOutcome p b a status
   listed cause out (Lists none cause_is list) is on_out on_err =
       let err : Appends b.err a.err (warnings_of p ++ []) = subst (λ (c : Option Cause). Appends b.err a.err (warnings_of p ++ last_line_of c)) cause_is on_err in
       Listed none (is ∙ ap status_of cause_is) out list on_out (subst (λ (t : Text). Appends b.err a.err t) (append-nil (warnings_of p)) err)
@@ -50,9 +31,9 @@ module _ (p : Prepared) (b a : World) (status : ℕ) where
 module _ (words : List Text) (b a : World) (status : ℕ) where
   done : (files : Files) → b.files ≡ Some files → (p : Prepared) → AsksForErrorList words (Some files) p → DoesWork words b a status → ErrorListOutcome p b a status
   done files told p asks does =
-      let work = work_is words files p asks does.work (subst (λ (x : Option Files). IsWork words x does.work) told does.is_asked) in
+      let work = work_is words files p ListErrors (Errors p) (λ plan is. is) asks.prepared asks.job asks.accepted does.work (subst (λ (x : Option Files). IsWork words x does.work) told does.is_asked) in
       let yields : HasOutcome plan_behavior (Ends (Errors p)) b.left does.outcome = subst (λ (l : Plan). HasOutcome plan_behavior l b.left does.outcome) work.1 does.yields in
-      let list : ListsErrors p.grammar p.tabled.automaton p.tabled.halting does.outcome.cause does.outcome.out = yields_end (Errors p) b.left does.outcome yields in
+      let list : ListsErrors p.order.comment_expected p.grammar p.tabled.automaton p.tabled.halting does.outcome.cause does.outcome.out = yields_end (Errors p) b.left does.outcome yields in
       listed p b a status does.outcome.cause does.outcome.out list does.status_is does.on_out (subst (λ (t : Text). Appends b.err a.err (t ++ last_line_of does.outcome.cause)) work.0 does.on_err)
 
   pub lists_exactly : runs.Ran words b a status → ListsErrorsExactly words b a status

@@ -7,8 +7,8 @@ use Rattle.mh_top_drive.specs.declared.stop.Cause.{Cause}
 use Rattle.mh_top_plans.specs.Plan.{Plan, FinalOutput, IsFinalOutput, EndsWith, Ends, plan_behavior}
 
 module _ (end : FinalOutput) where
-  ends_alone : (lines : List Text) (text : Text) (last : Plan) (whole : Bool) (cause : Option Cause) (out : Text) → AreAskedLines NoLine None lines whole → AnswersAll plan_behavior (Ends end) lines text last → EndsAfterAnswers plan_behavior whole last text cause out → IsFinalOutput end (record { cause = cause; out = out })
-  ends_alone lines text last whole cause out asks answers ends =
+  ends_alone : (lines : List Text) (text : Text) (last : Plan) (complete : Bool) (cause : Option Cause) (out : Text) → AreAskedLines NoLine None lines complete → AnswersAll plan_behavior (Ends end) lines text last → EndsAfterAnswers plan_behavior complete last text cause out → IsFinalOutput end (record { cause = cause; out = out })
+  ends_alone lines text last complete cause out asks answers ends =
       let none : AnswersAll plan_behavior (Ends end) [] text last = subst (λ (l : List Text). AnswersAll plan_behavior (Ends end) l text last) asks.0 answers in
       let all : EndsAfterAnswers plan_behavior true last text cause out = subst (λ (b : Bool). EndsAfterAnswers plan_behavior b last text cause out) asks.1 ends in
       let e = all.0 in

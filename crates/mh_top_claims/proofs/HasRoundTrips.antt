@@ -1,6 +1,6 @@
 -- The texts that the program writes for a grammar of files are read again, since its names are those of files. The list
 -- of errors is the rebased text of a messages file without entries.
-use Rattle.std.proofs.Common.{◌≡◌, List, [], ◌∷◌, Option, filter, refl, sym, ap, subst}
+use Rattle.std.proofs.Common.{◌≡◌, Bool, List, [], ◌∷◌, Option, filter, refl, sym, ap, subst}
 use Rattle.std.proofs.lemmas.List.{append-nil}
 use Rattle.mh_grammar.proofs.Lists.{contains_none}
 use Rattle.mh_grammar.specs.Plain.{plain_of}
@@ -48,8 +48,8 @@ all_new : (rows : List CatalogueRow) → filter (is_new_row []) rows ≡ rows
 all_new [] = refl
 all_new (row ∷ rows) = ap (λ (l : List CatalogueRow). row ∷ l) (all_new rows)
 
-module _ (g : Grammar) (a : Automaton) (t : TableData) where
-  list_is_rebased : (text : Text) → IsCatalogueText g a t text → IsRebased g a t no_entries text
+module _ (expected : Bool) (g : Grammar) (a : Automaton) (t : TableData) where
+  list_is_rebased : (text : Text) → IsCatalogueText expected g a t text → IsRebased expected g a t no_entries text
   list_is_rebased text is = record {
     entries = [];
     of_file = refl;
@@ -57,13 +57,13 @@ module _ (g : Grammar) (a : Automaton) (t : TableData) where
     rows = is.rows;
     catalogue = is.catalogue;
     new = text;
-    are_new = subst (λ (rows : List CatalogueRow). AreEntries g a t rows text) (sym (all_new is.rows)) is.entries;
+    are_new = subst (λ (rows : List CatalogueRow). AreEntries expected g a t rows text) (sym (all_new is.rows)) is.entries;
     is = sym (append-nil text);
   }
 
-  list_is_complete : Facts t → t.grammar ≡ plain_of g → HasFileNames g → (text : Text) → IsCatalogueText g a t text → IsCompleteMessagesFile g t text
+  list_is_complete : Facts t → t.grammar ≡ plain_of g → HasFileNames g → (text : Text) → IsCatalogueText expected g a t text → IsCompleteMessagesFile g t text
   list_is_complete facts same names text is =
-      let read = reread g a t facts same names.readable (without_line_ends g names) [] no_entries empty_spells empty_has_no_cr text (list_is_rebased text is) in
+      let read = reread expected g a t facts same names.readable (without_line_ends g names) [] no_entries empty_spells empty_has_no_cr text (list_is_rebased text is) in
       record { file = read.again; spells = read.spells; sound = read.sound; complete = read.complete }
 
 -- ---- All claims.
@@ -83,8 +83,8 @@ module _ (words : List Text) (files : Option Files) (p : Prepared) (is : IsPrepa
         sentence = canonical_line g names.readable;
         spaced = spaced_line g names.readable;
         printed = printed_again g names.readable;
-        list = list_is_complete g a t facts table.grammar names;
-        updated = updated_again g a t facts (without_line_ends g names);
-        rebased = repeated g a t facts table.grammar names.readable (without_line_ends g names);
+        list = λ expected. list_is_complete expected g a t facts table.grammar names;
+        updated = λ expected. updated_again expected g a t facts (without_line_ends g names);
+        rebased = λ expected. repeated expected g a t facts table.grammar names.readable (without_line_ends g names);
         table = is_written g a p.tabled.mode t (word_names g names) runs.consistent.range runs.consistent.automaton table facts;
       }

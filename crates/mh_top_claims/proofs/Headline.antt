@@ -27,7 +27,7 @@ use Rattle.mh_msgfile.proofs.MsgSpells.{spelled_has_no_fault, spelled_once}
 use Rattle.mh_check.specs.Checks.{IsMessage, Sound, sentences_of}
 use Rattle.mh_check.specs.Compiling.{IsCompiled, message_at}
 use Rattle.mh_check.specs.Texts.{compiled_text}
-use Rattle.mh_check.proofs.CheckedOnce.{sound_right}
+use Rattle.mh_check.proofs.CheckedOnce.{sound_has_no_fault}
 use Rattle.mh_report_comments.specs.CatalogueTexts.{IsCatalogueText}
 use Rattle.mh_top_drive.specs.InputLines.{are_within_limits, lines_of_input, lines_within_limits}
 use Rattle.mh_top_drive.specs.Limits.{line_count_limit, line_limit}
@@ -89,8 +89,8 @@ module _ (t : TableData) where
         let first = recursion_contains (λ (r : CatalogueRow). FailsFirst t r.start r.sentence r.state) rows catalogue.each row is.1 in
         subst (IsRefusedIn t) is.2 (row.start, row.sentence, length row.sentence - 1, first.fails.sentence, first.fails.verdict)
 
-lists_states : (g : Grammar) (a : Automaton) (t : TableData) (text : Text) → IsCatalogueText g a t text → ListsErrorStates g a t text
-lists_states g a t text is = record {
+lists_states : (expected : Bool) (g : Grammar) (a : Automaton) (t : TableData) (text : Text) → IsCatalogueText expected g a t text → ListsErrorStates expected g a t text
+lists_states expected g a t text is = record {
   rows = is.rows;
   entries = is.entries;
   rising = is.catalogue.rising;
@@ -98,9 +98,9 @@ lists_states g a t text is = record {
   states = λ s. (refused_is_listed t is.rows is.catalogue s, listed_is_refused t is.rows is.catalogue s);
 }
 
-listed : (g : Grammar) (a : Automaton) (t : TableData) (cause : Option Cause) (out : Text) → ListsErrors g a t cause out → cause ≡ None → ListsErrorStates g a t out
-listed g a t cause out (Lists none cause_is list) ended = lists_states g a t out list
-listed g a t cause out (TooLong s long cause_is empty) ended = absurd (cc)
+listed : (expected : Bool) (g : Grammar) (a : Automaton) (t : TableData) (cause : Option Cause) (out : Text) → ListsErrors expected g a t cause out → cause ≡ None → ListsErrorStates expected g a t out
+listed expected g a t cause out (Lists none cause_is list) ended = lists_states expected g a t out list
+listed expected g a t cause out (TooLong s long cause_is empty) ended = absurd (cc)
 
 -- ---- Sound messages files.
 
@@ -129,7 +129,7 @@ never_refused files g t name file is cause content = at content.0 (loaded_once f
     of_file : (s : StageResult MsgFile) → IsMessagesFile g name is.bytes s → AfterStage s (AreMessagesOf t name) (Halt cause) → ⊥
     of_file (Go other) spells fault =
         let one : file ≡ other = spelled_once g is.bytes file other is.spells spells in
-        sound_right t (sentences_of other) fault.fault (subst (λ (f : MsgFile). Sound t (sentences_of f)) one is.sound) fault.first
+        sound_has_no_fault t (sentences_of other) fault.fault (subst (λ (f : MsgFile). Sound t (sentences_of f)) one is.sound) fault.first
     of_file (Halt why) fault same = spelled_has_no_fault g is.bytes file fault.fault is.spells fault.has_fault
 
     at : (read : StageResult Text) → read ≡ Go is.bytes → AfterStage read (AreMessages g t name) (Halt cause) → ⊥
@@ -283,8 +283,18 @@ module _ (words : List Text) (b a : World) (status : ℕ) where
     lists_errors order asked job is =
         let d = done order asked is in
         let ends : d.plan ≡ Ends (Errors d.p) = plan_of order ListErrors job d in
-        let list : ListsErrors d.p.grammar d.p.tabled.automaton d.p.tabled.halting d.outcome.cause d.outcome.out = yields_end (Errors d.p) b.left d.outcome (subst (λ (l : Plan). HasOutcome plan_behavior l b.left d.outcome) ends d.yields) in
-        (d.p.grammar, d.p.tabled.automaton, d.p.tabled.halting, gives order d (ap sample_of job), (d.outcome.out, listed d.p.grammar d.p.tabled.automaton d.p.tabled.halting d.outcome.cause d.outcome.out list d.ended, d.on_out))
+        let list : ListsErrors d.p.order.comment_expected d.p.grammar d.p.tabled.automaton d.p.tabled.halting d.outcome.cause d.outcome.out = yields_end (Errors d.p) b.left d.outcome (subst (λ (l : Plan). HasOutcome plan_behavior l b.left d.outcome) ends d.yields) in (
+          d.p.grammar,
+          d.p.tabled.automaton,
+          d.p.tabled.halting,
+          gives order d (ap sample_of job),
+          (
+            d.outcome.out,
+            subst (λ (o : Order). ListsErrorStates o.comment_expected d.p.grammar d.p.tabled.automaton d.p.tabled.halting d.outcome.out) d.order_is
+                (listed d.p.order.comment_expected d.p.grammar d.p.tabled.automaton d.p.tabled.halting d.outcome.cause d.outcome.out list d.ended),
+            d.on_out,
+          ),
+        )
 
     -- The messages of a stage that did not stop.
     taken : (order : Order) (name : Text) (d : IsDone order) → IsPlanOfJob (CompileErrors name) b.files d.p d.plan → (file : MsgFile) × IsSoundFile b.files d.p.grammar d.p.tabled.halting name file

@@ -15,7 +15,7 @@ module _ (p : Prepared) where
   by_once : (s : Sentence) (how : Ending) (a b : FinalText) → IsExplainedBy p s how a → IsExplainedBy p s how b → a ≡ b
   by_once s (Accepted read) a b x y = x ∙ sym y
   by_once s (Overshot state) a b x y = x ∙ sym y
-  by_once s (Rejected at state) a b (inl (last, text, is, told)) (inl (last', text', is', told')) = told ∙ ap (λ (t : Text). Written t) (entry_once p.grammar p.tabled.automaton p.tabled.halting s.start s.tokens text text' is is') ∙ sym told'
+  by_once s (Rejected at state) a b (inl (last, text, is, told)) (inl (last', text', is', told')) = told ∙ ap (λ (t : Text). Written t) (entry_once p.grammar p.tabled.automaton p.tabled.halting p.order.comment_expected s.start s.tokens text text' is is') ∙ sym told'
   by_once s (Rejected at state) a b (inl (last, text, is, told)) (inr (early, told')) = absurd (early last)
   by_once s (Rejected at state) a b (inr (early, told)) (inl (last, text, is, told')) = absurd (early last)
   by_once s (Rejected at state) a b (inr (early, told)) (inr (early', told')) = told ∙ sym told'

@@ -19,9 +19,9 @@ use Rattle.mh_top_plans.proofs.FilesOfMode.{ReadFacts, PreparedFacts, StopsAllow
 
 module _ (p : Prepared) where
   of_file_once : (name : Text) (file : MsgFile) → IsOne (IsUpdatedOf p name file)
-  of_file_once name file (Go x) (Go y) is so = ap Go (updated_once p.grammar p.tabled.automaton p.tabled.halting file x y is so)
-  of_file_once name file (Go x) (Halt cause) is so = absurd (updated_fits p.tabled.halting p.grammar p.tabled.automaton file x so.fault is so.first)
-  of_file_once name file (Halt cause) (Go y) is so = absurd (updated_fits p.tabled.halting p.grammar p.tabled.automaton file y is.fault so is.first)
+  of_file_once name file (Go x) (Go y) is so = ap Go (updated_once p.order.comment_expected p.grammar p.tabled.automaton p.tabled.halting file x y is so)
+  of_file_once name file (Go x) (Halt cause) is so = absurd (updated_fits p.tabled.halting p.order.comment_expected p.grammar p.tabled.automaton file x so.fault is so.first)
+  of_file_once name file (Halt cause) (Go y) is so = absurd (updated_fits p.tabled.halting p.order.comment_expected p.grammar p.tabled.automaton file y is.fault so is.first)
   of_file_once name file (Halt cause) (Halt cause') is so =
       ap Halt (is.cause_is ∙ ap (λ (f : SoundnessFault). Refused (check_line name f)) (unfit_once p.tabled.halting (sentences_of file) is.fault so.fault is.first so.first) ∙ sym so.cause_is)
 
@@ -30,7 +30,7 @@ module _ (p : Prepared) where
   of_file_right Right may name file (Halt cause) is = subst Right (sym is.cause_is) (may (check_line name is.fault))
 
   some_updated : PreparedFacts p → (name : Text) (file : MsgFile) → AreSentencesOf (length p.tabled.halting.grammar.starts) p.tabled.halting.grammar.tokens file → (s : StageResult Text) × IsUpdatedOf p name file s
-  some_updated runs name file of = elim (updated_or_unfit p.tabled.halting p.grammar p.tabled.automaton runs.halts runs.consistent.automaton runs.consistent.table.states.count file of) [
+  some_updated runs name file of = elim (updated_or_unfit p.tabled.halting p.order.comment_expected p.grammar p.tabled.automaton runs.halts runs.consistent.automaton runs.consistent.table.states.count file of) [
     | inl text ↦ (Go text.0, text.1)
     | inr f ↦ (Halt (Refused (check_line name f.0)), record { fault = f.0; first = f.1; cause_is = refl })
   ]

@@ -6,6 +6,7 @@ pub mod IsExplained
 pub mod AreMessagesOfBoth
 pub mod IsUpdatedFile
 pub mod RebasesFile
+pub mod ChecksErrors
 pub mod EachMode
 pub mod HasFileNames
 pub mod IsGrammarReady
@@ -19,13 +20,16 @@ pub mod Claims
 pub mod UnwarnedIsConflictFree
 pub mod VerdictClaims
 pub mod AnswerAtLine
+mod WorkOfJob
 pub mod FinalOutputOutcome
 pub mod ErrorLists
+pub mod ConflictExplanations
 pub mod MergedHasNoConflict
 pub mod WorkBeforeLastLine
 pub mod Ran
 pub mod AcceptsRandom
 pub mod RebasedFiles
+pub mod CheckedErrors
 pub mod HasRoundTrips
 pub mod PreparationStages
 pub mod GivesTable

@@ -58,12 +58,12 @@ module _ (words : List Text) (files : Files) (p : Prepared) (file : LooseFile) (
   work_is w is = work_at is.0 w (prepared_once words files is.0 (Go p) is.1 asks.prepared) is.2
 
   module _ (b a : World) (status : ℕ) (free : HasNoCr file) where
-    outcome : (cause : Option Cause) (out : Text) → RebasesFile p.grammar p.tabled.automaton p.tabled.halting file cause out → status ≡ status_of cause → Appends b.out a.out out → Appends b.err a.err (warnings_of p ++ last_line_of cause) → RebasedOutcome p file b a status
+    outcome : (cause : Option Cause) (out : Text) → RebasesFile p.order.comment_expected p.grammar p.tabled.automaton p.tabled.halting file cause out → status ≡ status_of cause → Appends b.out a.out out → Appends b.err a.err (warnings_of p ++ last_line_of cause) → RebasedOutcome p file b a status
     outcome cause out (Rebases none cause_is is) status_is on_out on_err =
         let err : Appends b.err a.err (warnings_of p ++ []) = subst (λ (c : Option Cause). Appends b.err a.err (warnings_of p ++ last_line_of c)) cause_is on_err in
         let ready = prepared_runs words (Some files) p asks.prepared in
         let names = (made words (Some files) p asks.prepared).ready.names in
-        let again = reread p.grammar p.tabled.automaton p.tabled.halting ready.halts.facts ready.consistent.table.grammar names.readable (without_line_ends p.grammar names) asks.bytes file asks.spells free out is in
+        let again = reread p.order.comment_expected p.grammar p.tabled.automaton p.tabled.halting ready.halts.facts ready.consistent.table.grammar names.readable (without_line_ends p.grammar names) asks.bytes file asks.spells free out is in
         Written none (status_is ∙ ap status_of cause_is) out again on_out (subst (λ (t : Text). Appends b.err a.err t) (append-nil (warnings_of p)) err)
     outcome cause out (TooLong s long cause_is none) status_is on_out on_err =
         Refused s long (status_is ∙ ap status_of cause_is) (subst (λ (t : Text). Appends b.out a.out t) none on_out) (subst (λ (c : Option Cause). Appends b.err a.err (warnings_of p ++ last_line_of c)) cause_is on_err)
@@ -72,7 +72,7 @@ module _ (words : List Text) (files : Files) (p : Prepared) (file : LooseFile) (
     done known does =
         let work = work_is does.work (subst (λ x. IsWork words x does.work) known does.is_asked) in
         let yields : HasOutcome plan_behavior plan b.left does.outcome = subst (λ (l : Plan). HasOutcome plan_behavior l b.left does.outcome) work.1 does.yields in
-        let end : RebasesFile p.grammar p.tabled.automaton p.tabled.halting file does.outcome.cause does.outcome.out = yields_end (Rebased file p) b.left does.outcome yields in
+        let end : RebasesFile p.order.comment_expected p.grammar p.tabled.automaton p.tabled.halting file does.outcome.cause does.outcome.out = yields_end (Rebased file p) b.left does.outcome yields in
         outcome does.outcome.cause does.outcome.out end does.status_is does.on_out (subst (λ (t : Text). Appends b.err a.err (t ++ last_line_of does.outcome.cause)) work.0 does.on_err)
 
 module _ (words : List Text) (b a : World) (status : ℕ) where

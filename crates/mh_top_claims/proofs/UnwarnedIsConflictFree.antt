@@ -1,5 +1,5 @@
 -- A grammar without levels of precedence and without warnings has an automaton without conflicts.
-use Rattle.std.proofs.Common.{◌≡◌, ℕ, zero, suc, ◌<◌, ◌++◌, List, [], ◌∷◌, Option, Some, None, refl, ap, sym, ◌∙◌, subst, arith, inl, inr}
+use Rattle.std.proofs.Common.{◌≡◌, ℕ, zero, suc, ◌<◌, List, [], ◌∷◌, Option, Some, None, refl, ap, sym, ◌∙◌, subst, arith, inl, inr}
 use Rattle.std.specs.List.{slice_get}
 use Rattle.std.specs.Option.{option_and_then}
 use Rattle.std.proofs.lemmas.Bool.{cases_eq, cases_lt}
@@ -12,7 +12,7 @@ use Rattle.mh_grammar.specs.declared.types.Look.TheVariants.{Token, End}
 use Rattle.mh_grammar.specs.ItemSets.{ItemSet}
 use Rattle.mh_items_kernels.specs.KernelTypes.{Automaton}
 use Rattle.mh_resolve_cells.specs.Names.{look_name}
-use Rattle.mh_report_notation.specs.Warnings.{conflict_place, warning_line}
+use Rattle.mh_report_notation.specs.Warnings.{warning_title, warning_line}
 use Rattle.mh_report.specs.Warnings.{warning_lines}
 use Rattle.mh_tables_core.specs.declared.parts.Action.{Action}
 use Rattle.mh_tables_core.specs.declared.parts.Action.TheVariants.{Shift, Reduce, Refuse}
@@ -82,14 +82,14 @@ module _ (g : Grammar) (none : HasNoLevels g) (items : ItemSet) (look : Look) wh
 
 -- ---- Each conflict that levels do not solve has a warning.
 
-place_said : (s : ℕ) → conflict_place s ≡ [] → ⊥
-unfolding conflict_place
-place_said s e = cc
+title_said : warning_title ≡ [] → ⊥
+unfolding warning_title
+title_said e = cc
 
 silent : (g : Grammar) (s : ℕ) (look : Look) (kind : ConflictKind) → warning_line g s look kind ≡ [] → kind ≡ Solved
 silent g s look Solved e = refl
-silent g s look Unsolved e = absurd (place_said s (nil_parts (conflict_place s) (look_name g look) (nil_parts (conflict_place s ++ look_name g look) _ e).0).0)
-silent g s look Stream e = absurd (cc)
+silent g s look Unsolved e = absurd (title_said (nil_parts warning_title _ e).0)
+silent g s look Stream e = absurd (title_said (nil_parts warning_title _ e).0)
 
 all_silent : (g : Grammar) (cs : List Conflict) → warning_lines g cs ≡ [] → (n : ℕ) (c : Conflict) → slice_get cs n ≡ Some c → c.kind ≡ Solved
 all_silent g [] e n c at = absurd (cc)

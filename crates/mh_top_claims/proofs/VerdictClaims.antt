@@ -20,8 +20,9 @@ use Rattle.mh_pager_steps.proofs.MergingExceeds.{merged_few}
 use Rattle.mh_top_claims.proofs.MergedHasNoConflict.{merged_has_no_conflict, canonical_has_no_conflict}
 use Rattle.mh_top_claims.proofs.UnwarnedIsConflictFree.{unwarned_has_no_conflict}
 use Rattle.mh_resolve_cells.specs.NoConflicts.{HasNoConflicts}
+use Rattle.mh_resolve_cells.specs.Conflicts.{AreConflicts}
 use Rattle.mh_resolve_cells.specs.States.{IsTableOf}
-use Rattle.mh_resolve_cells.proofs.AreResolved.{facts_of}
+use Rattle.mh_resolve_cells.proofs.AreResolved.{Facts-resolved}
 use Rattle.mh_tables_core.specs.Table.{TableData, table_data}
 use Rattle.mh_tables_core.specs.Facts.{Facts}
 use Rattle.mh_tables_core.specs.Run.{Ending as Ended, Accepted, Overshot, Rejected, VerdictOf, initial}
@@ -58,7 +59,7 @@ use Rattle.mh_top_tables.specs.declared.sources.AutomatonSource.{AutomatonSource
 use Rattle.mh_top_tables.specs.declared.sources.AutomatonSource.TheVariants.{Canonical, File, Merged}
 use Rattle.mh_tables_core.specs.Halting.{AlwaysHalts}
 use Rattle.mh_top_plans.proofs.FilesOfMode.{PreparedFacts}
-use Rattle.mh_top_claims.proofs.EachMode.{facts_of as job_facts}
+use Rattle.mh_top_claims.proofs.EachMode.{mode_facts as job_facts}
 
 -- ---- The grammar and the table for verdicts.
 
@@ -151,7 +152,7 @@ module _ (words : List Text) (g : Grammar) (t : TableData) (is : IsTabled words 
       let table = is.table.table in
       let grammar : t.grammar ≡ plain_of g = table.grammar in
       let whole : table_data g t.states ≡ t = (λ i. record { grammar = sym grammar i; costs = sym table.costs i; states = t.states }) in
-      subst Facts whole (facts_of g is.table.automaton (mode_of is.table.source) t.states is.range is.costs automaton table.states)
+      subst Facts whole (Facts-resolved g is.table.automaton (mode_of is.table.source) t.states is.range is.costs automaton table.states)
 
   -- The table is that of an automaton without conflicts.
   clear : IsConflictFree words g t → IsConflictFreeTable g t
@@ -181,7 +182,7 @@ module _ (words : List Text) (g : Grammar) (t : TableData) (is : IsTabled words 
     overshot productive w s v = overshoots g is.table.automaton (mode_of is.table.source) t facts automaton is.table.table productive start w s known v
 
 -- The prepared grammar, automaton and table belong together.
-prepared_fit : (words : List Text) (files : Option Files) (p : Prepared) → IsPrepared words files (Go p) → IsConsistent p
+pub prepared_fit : (words : List Text) (files : Option Files) (p : Prepared) → IsPrepared words files (Go p) → IsConsistent p
 prepared_fit words files p is = let m = made words files p is in at m m.stage.0 m.stage.1 m.stage.2
   where
     at : (m : IsMade words files p) → (s : StageResult Automaton) → IsAutomatonStage m.source p.grammar s → AfterStage s (IsResolvedStage (mode_of m.source) p.grammar) (Go p.tabled) → IsConsistent p
@@ -191,6 +192,7 @@ prepared_fit words files p is = let m = made words files p is in at m m.stage.0 
       limits = m.limits;
       automaton = subst (IsAutomaton (plain_of p.grammar)) (sym is.automaton) (automaton_so m.source p.grammar a m.ready.range m.numbered stage);
       table = subst (λ (b : Automaton). IsTableOf p.grammar b p.tabled.mode p.tabled.halting) (sym is.automaton) (subst (λ (mode : Mode). IsTableOf p.grammar a mode p.tabled.halting) (sym is.resolved_in) is.table);
+      conflicts = subst (λ (b : Automaton). AreConflicts p.grammar b p.tabled.conflicts) (sym is.automaton) is.conflicts;
     }
     at m (Halt cause) stage is = absurd (cc)
 

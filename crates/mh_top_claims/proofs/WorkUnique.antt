@@ -14,13 +14,13 @@ use Rattle.mh_top_types.specs.Shapes.{Prepared}
 use Rattle.mh_top_drive.specs.declared.stop.Cause.{Cause}
 use Rattle.mh_top_drive.proofs.Then.{IsOne}
 use Rattle.mh_top_claims.proofs.PreparedUnique.{prepared_once}
-use Rattle.mh_top_claims.proofs.EachMode.{answer_once, cause_once, out_once, facts_of}
+use Rattle.mh_top_claims.proofs.EachMode.{answer_once, cause_once, out_once, mode_facts}
 
 -- ---- The work.
 
 plan_once : (refused : Bool) (files : Files) (p : Prepared) → IsOne (IsPlanUnlessRefused refused (Some files) p)
 plan_once true files p x y is so = is ∙ sym so
-plan_once false files p x y is so = (facts_of p.order.job p).unique files x y is so
+plan_once false files p x y is so = (mode_facts p.order.job p).unique files x y is so
 
 work_of_once : (files : Files) (s : StageResult Prepared) → IsOne (IsWorkOf (Some files) s)
 work_of_once files (Go p) w v is so =

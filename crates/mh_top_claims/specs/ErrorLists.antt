@@ -26,7 +26,7 @@ pub record AsksForErrorList (words : List Text) (files : Option Files) (p : Prep
 -- err has only the warnings. `Refused`: in some state only sentences of too high a cost fail; status 1, out has
 -- nothing, and the last line on err names the lowest such state.
 pub data ErrorListOutcome (p : Prepared) (before now : World) (status : ℕ) : Type 0 where
-  Listed : ((s : ℕ) → TooLongAt p.tabled.halting s → ⊥) → status ≡ 0 → (text : Text) → IsCatalogueText p.grammar p.tabled.automaton p.tabled.halting text → Appends before.out now.out text → Appends before.err now.err (warnings_of p) → ErrorListOutcome p before now status
+  Listed : ((s : ℕ) → TooLongAt p.tabled.halting s → ⊥) → status ≡ 0 → (text : Text) → IsCatalogueText p.order.comment_expected p.grammar p.tabled.automaton p.tabled.halting text → Appends before.out now.out text → Appends before.err now.err (warnings_of p) → ErrorListOutcome p before now status
   Refused : (s : ℕ) → TooLongAt p.tabled.halting s → status ≡ 1 → Appends before.out now.out [] → Appends before.err now.err (warnings_of p ++ too_long s) → ErrorListOutcome p before now status
 
 -- Claim, for every accepted grammar: out has exactly the entries of the states in which some sentence fails, each state

@@ -1,7 +1,7 @@
 -- The headline claims on the top call: what a list of errors, a messages file that is taken, and the answer to a refused
 -- line say of the table of the grammar (after Pottier 2016, "Reachability and error diagnosis in LR(1) parsers"). No
 -- claim speaks of the text of a fault.
-use Rattle.std.specs.Prelude.{◌≡◌, ◌⊎◌, ◌↔◌, ℕ, true, false, List, ◌++◌, flat_map, Option, Some, Ok, codes}
+use Rattle.std.specs.Prelude.{◌≡◌, ◌⊎◌, ◌↔◌, ℕ, Bool, true, false, List, ◌++◌, flat_map, Option, Some, Ok, codes}
 use Rattle.std.specs.List.{AllZip, AllByRecursion, Contains}
 use Rattle.std.specs.Io.KnownBytes.{Appends}
 use Rattle.mh_grammar.specs.Text.{Text}
@@ -36,9 +36,9 @@ IsRefusedIn t s = (start : ℕ) × (w : List ℕ) × (at : ℕ) × IsInput t sta
 -- The text is one entry for each state in which some sentence is refused, and for no other state. The states rise. Each
 -- entry has the first sentence that is refused in its state at its last token, in the order of sentences, which compares
 -- costs first.
-pub record ListsErrorStates (g : Grammar) (a : Automaton) (t : TableData) (text : Text) : Type 0 where
+pub record ListsErrorStates (expected : Bool) (g : Grammar) (a : Automaton) (t : TableData) (text : Text) : Type 0 where
   pub rows : List CatalogueRow
-  pub entries : AreEntries g a t rows text
+  pub entries : AreEntries expected g a t rows text
   pub rising : IsRising IsRowBefore rows
   pub each : AllByRecursion (λ row. FailsFirst t row.start row.sentence row.state) rows
   pub states : (s : ℕ) → IsRefusedIn t s ↔ ((row : CatalogueRow) × Contains rows row × (row.state ≡ s))
@@ -47,7 +47,7 @@ pub record ListsErrorStates (g : Grammar) (a : Automaton) (t : TableData) (text 
 -- some sentence is refused by the table of the grammar.
 abbrev pub ListsErrorsOfTable : List Text → World → World → ℕ → Type 0
 ListsErrorsOfTable words before now status = (order : Order) → order_of words ≡ Ok order → order.job ≡ ListErrors → status ≡ 0 →
-    (g : Grammar) × (a : Automaton) × (t : TableData) × GivesTable words before.files order g a t × ((text : Text) × ListsErrorStates g a t text × Appends before.out now.out text)
+    (g : Grammar) × (a : Automaton) × (t : TableData) × GivesTable words before.files order g a t × ((text : Text) × ListsErrorStates order.comment_expected g a t text × Appends before.out now.out text)
 
 -- ---- Messages files.
 

@@ -5,10 +5,12 @@ pub mod MayAskForFiles
 pub mod AnswerAtLine
 pub mod Run
 pub mod Claims
+pub mod ConflictExplanations
 pub mod GivesTable
 pub mod Headline
 pub mod ErrorLists
 pub mod RebasedFiles
+pub mod CheckedErrors
 pub mod RoundTrips
 pub mod VerdictClaims
 pub mod code

@@ -33,7 +33,7 @@ pub record AsksForRebasedFile (words : List Text) (files : Files) (p : Prepared)
 -- complete messages file, and err has only the warnings. `Refused`: in some state only sentences of too high a cost fail;
 -- status 1, out has nothing, and the last line on err names the lowest such state.
 pub data RebasedOutcome (p : Prepared) (file : LooseFile) (before now : World) (status : ℕ) : Type 0 where
-  Written : ((s : ℕ) → TooLongAt p.tabled.halting s → ⊥) → status ≡ 0 → (text : Text) → IsReadAgain p.grammar p.tabled.automaton p.tabled.halting file text → Appends before.out now.out text → Appends before.err now.err (warnings_of p) → RebasedOutcome p file before now status
+  Written : ((s : ℕ) → TooLongAt p.tabled.halting s → ⊥) → status ≡ 0 → (text : Text) → IsReadAgain p.order.comment_expected p.grammar p.tabled.automaton p.tabled.halting file text → Appends before.out now.out text → Appends before.err now.err (warnings_of p) → RebasedOutcome p file before now status
   Refused : (s : ℕ) → TooLongAt p.tabled.halting s → status ≡ 1 → Appends before.out now.out [] → Appends before.err now.err (warnings_of p ++ too_long s) → RebasedOutcome p file before now status
 
 -- Claim, for every accepted grammar: out has exactly the rebased text. It spells a messages file in which each sentence

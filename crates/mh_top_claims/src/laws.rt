@@ -1,5 +1,5 @@
-//! Laws on the definition of the work: it is unique, and each line has its answer. Each law is the contract
-//! of a function that does nothing.
+//! Laws on the definition of what the program does: the outcome is unique, and each input line gets its own answer.
+//! Each law is the contract of a function that does nothing.
 ghost use Rattle.std.specs.Prelude.{◌≡◌, ◌∷◌, ◌++◌, List, Option, Some};
 ghost use Rattle.mh_outside.specs.Shelf.{Files};
 ghost use Rattle.mh_top_claims.specs.AnswerAtLine.{IsAnsweredAt, HasVerdictAt};
@@ -15,7 +15,7 @@ ghost use Rattle.mh_top_claims.specs.Preparing.{IsPrepared};
 ghost use Rattle.mh_top_types.specs.Shapes.{Prepared};
 
 /// Over known files the words ask for at most one work, and a mode has at most one outcome on a known input.
-pub fn work_is_one()
+pub fn work_is_unique()
     ensures work { (words : List Text) (files : Files) (v w : Work) →
         IsWork words (Some files) v → IsWork words (Some files) w → v ≡ w }
     ensures outcome { (plan : Plan) (input : Text) (o p : Outcome) →
@@ -25,7 +25,7 @@ pub fn work_is_one()
 
 /// Two runs with the same words, files and input have the same warnings, the same text on out and the same cause, and
 /// leave the same input.
-pub fn runs_are_one()
+pub fn runs_are_equal()
     ensures { (words : List Text) (files : Files) (input : Text) (v w : Work) (o p : Outcome) →
         IsWork words (Some files) v → HasOutcome plan_behavior v.plan (Some input) o →
         IsWork words (Some files) w → HasOutcome plan_behavior w.plan (Some input) p → (v ≡ w) × (o ≡ p) }
@@ -49,7 +49,7 @@ pub fn lines_are_answered()
 /// For a grammar without levels of precedence, no warning on err means that verdicts do not depend on the resolution of
 /// a conflict, also if a table file is named. So the user sees on err whether the premise of the claims on acceptance
 /// and rejection is true.
-pub fn unwarned_is_clear()
+pub fn unwarned_is_conflict_free()
     ensures { (words : List Text) (files : Option Files) → UnwarnedIsConflictFree words files }
 {}
 

@@ -7,6 +7,6 @@
 mod laws;
 
 pub use laws::{
-    lines_are_answered, random_sentences_are_accepted, runs_are_one, some_work_is_asked,
-    texts_are_read_again, unwarned_is_clear, work_is_one,
+    lines_are_answered, random_sentences_are_accepted, runs_are_equal, some_work_is_asked,
+    texts_are_read_again, unwarned_is_conflict_free, work_is_unique,
 };

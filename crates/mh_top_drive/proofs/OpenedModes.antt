@@ -9,12 +9,12 @@ use Rattle.mh_top_drive.specs.declared.stop.Stop.{Stop}
 use Rattle.mh_top_drive.specs.declared.stop.Stop.TheVariants.{Halted, ShelfFailed, InputFailed, WriteFailed, OutOfMemory}
 
 -- If no mode was opened, unchanged counts of the input and of out meet the contract.
-pub unopened_counts : {M State : Type 0} (StandsFor : M → State → Type 0) (stop : Stop) (n m : ℕ) → IsOpened {M = M} StandsFor (Err stop) → InputAndOutCounts {T = Unit {0}} n n m m (Err stop)
-unopened_counts StandsFor (Halted cause) n m opened = (refl, refl)
-unopened_counts StandsFor (ShelfFailed name) n m opened = (refl, refl)
-unopened_counts StandsFor OutOfMemory n m opened = (refl, refl)
-unopened_counts StandsFor InputFailed n m opened = absurd opened
-unopened_counts StandsFor WriteFailed n m opened = absurd opened
+pub InputAndOutCounts-unopened : {M State : Type 0} (StandsFor : M → State → Type 0) (stop : Stop) (n m : ℕ) → IsOpened {M = M} StandsFor (Err stop) → InputAndOutCounts {T = Unit {0}} n n m m (Err stop)
+InputAndOutCounts-unopened StandsFor (Halted cause) n m opened = (refl, refl)
+InputAndOutCounts-unopened StandsFor (ShelfFailed name) n m opened = (refl, refl)
+InputAndOutCounts-unopened StandsFor OutOfMemory n m opened = (refl, refl)
+InputAndOutCounts-unopened StandsFor InputFailed n m opened = absurd opened
+InputAndOutCounts-unopened StandsFor WriteFailed n m opened = absurd opened
 
 -- A mode that reads no file leaves the count of the shelf unchanged.
 pub ran_read : {State : Type 0} (behavior : ModeBehavior State) (plan : State) (in0 in1 out0 out1 : Option Text) (n : ℕ) (r : Result (Unit {0}) Stop) → ModeRan behavior plan in0 in1 out0 out1 r → ModeShelfCounts n n r

@@ -38,16 +38,16 @@ impl Asks {
     }
 }
 
-/// A mode between two lines of the input. Contracts speak of its plan, which is a state as plain data; a value may
-/// represent several.
+/// A mode between two lines of the input. Contracts describe the mode by plans, which are plain data of the type
+/// `State`; one value may have several plans.
 pub trait Mode {
-    /// The type of the states of a mode between two lines.
+    /// The type of the plans of a mode between two lines.
     ghost State: { Type 0 };
 
     /// The behavior of the mode: which lines it asks for, how it answers a line, and what it writes at its end.
     ghost behavior: { ModeBehavior State };
 
-    /// The relation between a value and the states that it represents.
+    /// The relation between a value and its plans.
     ghost Is: { Self → State → Type 0 };
 
     /// Which lines the mode asks for.

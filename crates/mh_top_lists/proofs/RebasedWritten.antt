@@ -16,7 +16,7 @@ use Rattle.mh_top_plans.specs.Rebased.{Rebases}
 abbrev pub IsPlanOfLoose : Prepared → LooseFile → Plan → Type 0
 IsPlanOfLoose p loose plan = plan ≡ Ends (Rebased loose p)
 
-module _ (p : Prepared) (file : LooseFile) (none : (s : ℕ) → TooLongAt p.tabled.halting s → ⊥) (text : Text) (is : IsRebased p.grammar p.tabled.automaton p.tabled.halting file text) (out0 out1 : Option Text) where
+module _ (p : Prepared) (file : LooseFile) (none : (s : ℕ) → TooLongAt p.tabled.halting s → ⊥) (text : Text) (is : IsRebased p.order.comment_expected p.grammar p.tabled.automaton p.tabled.halting file text) (out0 out1 : Option Text) where
   pub text_ends : (r : Result (Unit {0}) Stop) → TextIsWritten text out0 out1 r → EndIsWritten (IsFinalOutput (Rebased file p)) out0 out1 r
   text_ends (Ok u) ran = (record { cause = None; out = text }, Rebases none refl is, refl, ran)
   text_ends (Err WriteFailed) ran = (record { cause = None; out = text }, Rebases none refl is, ran)

@@ -10,13 +10,14 @@ use Rattle.mh_outside.proofs.Consumes.{Appends-append}
 use Rattle.mh_grammar.proofs.Lists.{split_at, take_step}
 use Rattle.mh_items_kernels.specs.Automaton.{kernel_at}
 use Rattle.mh_tables_core.specs.Table.{TableData}
-use Rattle.mh_tables_core.specs.Facts.{Facts}
+use Rattle.mh_tables_core.specs.Halting.{HaltingFacts}
 use Rattle.mh_tables_core.specs.Failing.{CatalogueRow, FailsFirst, Catalogue, TooLongAt}
 use Rattle.mh_tables_core.specs.Run.{initial}
 use Rattle.mh_run.specs.Trace.{reduced_since}
 use Rattle.mh_catalogue_rows.specs.declared.rows.Row.{Row as MadeRow}
 use Rattle.mh_catalogue_rows.specs.Rows.{row_of, rows_of, AreShort}
 use Rattle.mh_report_comments.specs.Comments.{comments, message_placeholder}
+use Rattle.mh_report_comments.proofs.CommentParts.{some_block}
 use Rattle.mh_report_comments.proofs.HasFarthestDot.{some_farthest}
 use Rattle.mh_report_comments.proofs.AreEntries.{entries_append}
 use Rattle.mh_tables_core.proofs.RefusingState.{state_refused}
@@ -34,24 +35,22 @@ use Rattle.mh_top_drive.specs.declared.stop.Stop.TheVariants.{Halted, ShelfFaile
 
 -- ---- Each sentence that fails has an entry.
 
-module _ (p : Prepared) (f : Facts p.tabled.halting) (fit : IsConsistent p) where
+module _ (p : Prepared) (halts : HaltingFacts p.tabled.halting) (fit : IsConsistent p) where
   some_entry : (row : CatalogueRow) → IsFailingRow p.tabled.halting row → (text : Text) × IsEntryOf p row text
   some_entry row is =
       let g = p.grammar in
       let a = p.tabled.automaton in
       let t = p.tabled.halting in
       let fails = is.fails in
-      let known = state_refused t f row.start row.sentence (length row.sentence - 1) row.state fails.sentence.known fails.verdict in
+      let known = state_refused t halts.facts row.start row.sentence (length row.sentence - 1) row.state fails.sentence.known fails.verdict in
       let count = fit.table.states.count in
       let best = some_farthest (kernel_at a row.state).items (fit.automaton.filled row.state (omega arith)) in
       let n = fails.verdict.0 in
-      let lines = comments g (kernel_at a row.state).items row.state best.0 (reduced_since t n (initial row.start row.sentence) []) in (
-        sentence_text g row.start row.sentence ++ codes "\n" ++ lines ++ message_placeholder,
-        record {
-          comments = lines;
-          are_comments = record { state = row.state; fails = fails; item = best.0; farthest = best.1; reduced = reduced_since t n (initial row.start row.sentence) []; trace = record { steps = n; ends = fails.verdict.1; reduced = refl }; is = refl };
-          is = refl;
-        },
+      let lines = comments g (kernel_at a row.state).items row.state best.0 (reduced_since t n (initial row.start row.sentence) []) in
+      let block = some_block p.order.comment_expected g a t halts row.start row.sentence lines
+      (record { state = row.state; fails = fails; item = best.0; farthest = best.1; reduced = reduced_since t n (initial row.start row.sentence) []; trace = record { steps = n; ends = fails.verdict.1; reduced = refl }; is = refl }) in (
+        sentence_text g row.start row.sentence ++ codes "\n" ++ block.0 ++ message_placeholder,
+        record { comments = block.0; are_comments = block.1; is = refl },
       )
 
   some_entries : (rows : List CatalogueRow) → AreFailingRows p.tabled.halting rows → (text : Text) × AreEntriesOf p rows text
@@ -78,17 +77,17 @@ module _ (p : Prepared) (out0 out1 out2 : Option Text) (rows : List CatalogueRow
   pub one_more : WritesWholeText (IsEntryOf p row) out1 out2 (Ok tt) → Written p (rows ++ row ∷ []) out0 out2
   one_more ran = record {
     text = h.text ++ ran.0;
-    are = entries_append p.grammar p.tabled.automaton p.tabled.halting rows (row ∷ []) h.text ran.0 h.are (one_entry p row ran.0 ran.1);
+    are = entries_append p.order.comment_expected p.grammar p.tabled.automaton p.tabled.halting rows (row ∷ []) h.text ran.0 h.are (one_entry p row ran.0 ran.1);
     on_out = Appends-append out0 out1 out2 h.text ran.0 h.on_out ran.2;
   }
 
-  module _ (f : Facts p.tabled.halting) (fit : IsConsistent p) (rest : List CatalogueRow) (fits : AreFailingRows p.tabled.halting (row ∷ rest)) where
+  module _ (halts : HaltingFacts p.tabled.halting) (fit : IsConsistent p) (rest : List CatalogueRow) (fits : AreFailingRows p.tabled.halting (row ∷ rest)) where
     -- The entries written so far and a prefix of the next entry are a prefix of all entries.
     cut : (x front : Text) → IsEntryOf p row x → Appends out1 out2 front → IsPrefix front x → (text : Text) × AreEntriesOf p (rows ++ row ∷ rest) text × AppendsPrefix out0 out2 text
     cut x front is on_out is_front =
-        let more = some_entries p f fit rest fits.1 in (
+        let more = some_entries p halts fit rest fits.1 in (
           h.text ++ (x ++ more.0),
-          entries_append p.grammar p.tabled.automaton p.tabled.halting rows (row ∷ rest) h.text (x ++ more.0) h.are (x, more.0, is, more.1, refl),
+          entries_append p.order.comment_expected p.grammar p.tabled.automaton p.tabled.halting rows (row ∷ rest) h.text (x ++ more.0) h.are (x, more.0, is, more.1, refl),
           (
             h.text ++ front,
             Appends-append out0 out1 out2 h.text front h.on_out on_out,
@@ -99,7 +98,7 @@ module _ (p : Prepared) (out0 out1 out2 : Option Text) (rows : List CatalogueRow
     pub stops : (stop : Stop) → WritesWholeText (IsEntryOf p row) out1 out2 (Err stop) → WritesTextInParts (AreEntriesOf p (rows ++ row ∷ rest)) out0 out2 (Err stop)
     stops WriteFailed ran = cut ran.0 ran.2.0 ran.1 ran.2.1 ran.2.2
     stops OutOfMemory ran =
-        let x = some_entry p f fit row fits.0 in cut x.0 [] x.1 (subst (λ (o : Option Text). Appends out1 o []) (sym ran) (Appends-nil out1)) (x.0, refl)
+        let x = some_entry p halts fit row fits.0 in cut x.0 [] x.1 (subst (λ (o : Option Text). Appends out1 o []) (sym ran) (Appends-nil out1)) (x.0, refl)
     stops (Halted cause) ran = absurd ran
     stops (ShelfFailed name) ran = absurd ran
     stops InputFailed ran = absurd ran
@@ -137,11 +136,11 @@ module _ (p : Prepared) (rows : List MadeRow) (i : ℕ) (row : MadeRow) (lt : i 
     pub row_written : WritesWholeText (IsEntryOf p (row_of row)) out1 out2 (Ok tt) → Written p (rows_of (take (i + 1) rows)) out0 out2
     row_written ran = subst (λ (l : List CatalogueRow). Written p l out0 out2) (sym (rows_taken rows i row lt is)) (one_more p out0 out1 out2 (rows_of (take i rows)) h (row_of row) ran)
 
-    pub row_stops : Facts p.tabled.halting → IsConsistent p → AreFailingRows p.tabled.halting (rows_of rows) → (stop : Stop) → WritesWholeText (IsEntryOf p (row_of row)) out1 out2 (Err stop) → WritesTextInParts (AreEntriesOf p (rows_of rows)) out0 out2 (Err stop)
-    row_stops f fit fits stop ran =
+    pub row_stops : HaltingFacts p.tabled.halting → IsConsistent p → AreFailingRows p.tabled.halting (rows_of rows) → (stop : Stop) → WritesWholeText (IsEntryOf p (row_of row)) out1 out2 (Err stop) → WritesTextInParts (AreEntriesOf p (rows_of rows)) out0 out2 (Err stop)
+    row_stops halts fit fits stop ran =
         let same = rows_split rows i row lt is in
         subst (λ (l : List CatalogueRow). WritesTextInParts (AreEntriesOf p l) out0 out2 (Err stop)) (sym same)
-        (stops p out0 out1 out2 (rows_of (take i rows)) h (row_of row) f fit (rows_of (drop (suc i) rows)) (AreFailingRows-suffix p.tabled.halting (rows_of (take i rows)) (row_of row ∷ rows_of (drop (suc i) rows)) (subst (AreFailingRows p.tabled.halting) same fits)) stop ran)
+        (stops p out0 out1 out2 (rows_of (take i rows)) h (row_of row) halts fit (rows_of (drop (suc i) rows)) (AreFailingRows-suffix p.tabled.halting (rows_of (take i rows)) (row_of row ∷ rows_of (drop (suc i) rows)) (subst (AreFailingRows p.tabled.halting) same fits)) stop ran)
 
 pub all_written : (p : Prepared) (rows : List MadeRow) (i : ℕ) (out0 out1 : Option Text) → length rows ≤ i → Written p (rows_of (take i rows)) out0 out1 → WritesTextInParts (AreEntriesOf p (rows_of rows)) out0 out1 (Ok tt)
 all_written p rows i out0 out1 le h = let all : rows_of (take i rows) ≡ rows_of rows = ap rows_of (take_all i rows le) in (h.text, subst (λ (l : List CatalogueRow). AreEntriesOf p l h.text) all h.are, h.on_out)

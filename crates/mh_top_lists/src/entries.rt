@@ -7,7 +7,7 @@ ghost use Rattle.mh_top_drive.specs.code.ModeCalls.{OutCounts};
 
 use mh_catalogue_rows::Row;
 use mh_outside::Sink;
-use mh_report_comments::entry_text;
+use mh_report_comments::Commenter;
 use mh_top_drive::{Stop, write_text};
 use mh_top_types::Prepared;
 use std::alloc::Global;
@@ -27,14 +27,13 @@ fn write_entry<O: Sink, const W: usize>(
     ensures may_write_on { IfOk result (λ _. O.MayWrite out.new) }
     ensures counts { OutCounts (O.faults out.old) (O.faults out.new) result }
 {
-    let text = entry_text(
-        alloc,
-        &prepared.grammar,
-        &prepared.tabled.automaton,
-        &prepared.tabled.halting,
-        row.start,
-        row.sentence.as_slice(),
-    )?;
+    let commenter = Commenter {
+        grammar: &prepared.grammar,
+        automaton: &prepared.tabled.automaton,
+        table: &prepared.tabled.halting,
+        expected: prepared.order.comment_expected,
+    };
+    let text = commenter.entry(alloc, row.start, row.sentence.as_slice())?;
     write_text(out, &text)
 }
 

@@ -42,6 +42,7 @@ impl<const W: usize> Writer for RebasedFile<'_, W> {
             &tabled.automaton,
             &tabled.halting,
             &self.file,
+            self.prepared.order.comment_expected,
         ) {
             Ok(text) => write_text(out, &text),
             Err(fault) => Err(rebase_stop_of(alloc, fault)),

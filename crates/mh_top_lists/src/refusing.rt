@@ -1,10 +1,12 @@
-//! The refusal of a table that has no catalogue, for the modes that make one and for the mode that rebases a file.
-ghost use Rattle.mh_top_lists.specs.code.CatalogueFaultStops.{IsStopForCatalogueFault, IsStopForRebaseFault};
+//! The refusal of a table that has a state in which only sentences of too high a cost fail. The modes that list errors
+//! and those that rebase or check a messages file give this refusal.
+ghost use Rattle.mh_top_lists.specs.code.CatalogueFaultStops.{IsStopForCatalogueFault, IsStopForErrorsFault, IsStopForRebaseFault};
 ghost use Rattle.mh_top_drive.specs.code.StageCalls.{StopsWith};
 ghost use Rattle.mh_top_drive.specs.declared.stop.Cause.TheVariants.{Refused};
 ghost use Rattle.mh_top_plans.specs.Listing.{too_long as too_long_line};
 
 use mh_catalogue_rows::CatalogueFault;
+use mh_lint_messages::ErrorsFault;
 use mh_rebase::RebaseFault;
 use mh_top_drive::{Stop, refused};
 use std::alloc::Global;
@@ -36,5 +38,15 @@ pub(crate) fn rebase_stop_of(alloc: Global, fault: RebaseFault) -> Stop
     match fault {
         RebaseFault::TooLong { state } => too_long(alloc, state),
         RebaseFault::Memory => Stop::OutOfMemory,
+    }
+}
+
+/// The stop for a fault of examining a messages file: the refusal with its line, or lack of memory.
+pub(crate) fn errors_stop_of(alloc: Global, fault: ErrorsFault) -> Stop
+    ensures { IsStopForErrorsFault fault result }
+{
+    match fault {
+        ErrorsFault::TooLong { state } => too_long(alloc, state),
+        ErrorsFault::Memory => Stop::OutOfMemory,
     }
 }

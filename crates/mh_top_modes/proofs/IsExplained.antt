@@ -19,7 +19,7 @@ module _ (p : Prepared) (s : Sentence) (ts : List ℕ) (same : ts ≡ s.tokens) 
   there : (w : Verdict) → v ≡ w → VerdictOf p.tabled.halting s.start s.tokens (ending_for w)
   there w e = subst (λ (u : Verdict). VerdictOf p.tabled.halting s.start s.tokens (ending_for u)) e (subst (λ (l : List ℕ). VerdictOf p.tabled.halting s.start l (ending_for v)) same is)
 
-  pub explained_last : (at state : ℕ) → v ≡ verdicts.Reject at state → at + 1 ≡ length ts → (text : Text) → IsEntryText p.grammar p.tabled.automaton p.tabled.halting s.start s.tokens text → IsExplainedSentence p s (Written text)
+  pub explained_last : (at state : ℕ) → v ≡ verdicts.Reject at state → at + 1 ≡ length ts → (text : Text) → IsEntryText p.order.comment_expected p.grammar p.tabled.automaton p.tabled.halting s.start s.tokens text → IsExplainedSentence p s (Written text)
   explained_last at state e last text entry = (Rejected at state, there (verdicts.Reject at state) e, inl (last ∙ ap length same, text, entry, refl))
 
   pub explained_at_place : (at state : ℕ) → v ≡ verdicts.Reject at state → (at + 1 ≡ length ts → ⊥) → (r : Result FinalText Memory) → IfOk r (λ told. told ≡ input_refusal (early_text at)) → IfOk r (λ told. IsExplainedSentence p s told)

@@ -1,2 +1,1 @@
-pub mod KnownSentences
 pub mod Running

@@ -1,5 +1,5 @@
 //! The mode of `--compare-errors`: the states for which the first messages file has a sentence and the second has none.
-ghost use Rattle.std.specs.Prelude.{◌≡◌, ◌≤◌, ◌^◌, length, IfOk};
+ghost use Rattle.std.specs.Prelude.{◌≡◌, ◌≤◌, IfOk};
 ghost use Rattle.mh_check.specs.Compiling.{missing};
 ghost use Rattle.mh_opts.specs.declared.jobs.Job.TheVariants.{CompareErrors};
 ghost use Rattle.mh_top_plans.specs.Compared.{comparison_result};
@@ -41,7 +41,6 @@ fn compared_text(
     left: &Compiled,
     right: &Compiled,
 ) -> Result<FinalText, Memory>
-    requires { length left.now ≤ 2 ^ 32 }
     ensures { IfOk result (λ made. made ≡ comparison_result first.now second.now (missing left.now right.now)) }
 {
     let states = compare(alloc, left, right)?;
@@ -92,7 +91,6 @@ pub fn compare_errors<F: Shelf, const W: usize>(
     ensures counts { StageShelfCounts (F.faults shelf.old) (F.faults shelf.new) result }
     ensures kept { F.files shelf.new ≡ F.files shelf.old }
 {
-    prepared.tabled.halting.table().facts();
     match read_both(alloc, prepared, shelf, first, second) {
         Ok((left, right)) => Ok(compared_text(alloc, first, second, &left, &right)?),
         Err(stop) => Err(stop),

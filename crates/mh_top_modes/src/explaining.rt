@@ -9,14 +9,14 @@ ghost use Rattle.mh_top_plans.specs.Explained.{IsExplained, IsExplainedSentence,
 ghost use Rattle.mh_top_drive.specs.code.ModeCalls.{ModeRan, InputAndOutCounts};
 ghost use Rattle.mh_top_plans.specs.Plan.{Explains, plan_behavior};
 ghost use Rattle.mh_top_types.specs.code.Prepared.{IsConsistent};
-ghost use Rattle.mh_top_modes.specs.code.KnownSentences.{FitsTable};
+ghost use Rattle.mh_tables_core.specs.Sentences.{FitsTable};
 ghost use Rattle.mh_top_modes.specs.code.Running.{MayRun};
 
 use mh_check::{ending_text, write_early};
 use mh_grammar::{Memory, Sentence, Sequence};
 use mh_msgfile::{SentenceFault, read_sentence};
 use mh_outside::{Sink, Source};
-use mh_report_comments::entry_text;
+use mh_report_comments::Commenter;
 use mh_run::{Verdict, verdict};
 use mh_top_drive::{Asks, Mode, Stop, drive};
 use mh_top_plans::{FinalText, write_final};
@@ -73,17 +73,16 @@ fn entry_of<const W: usize>(
     requires consistent { IsConsistent prepared.now }
     requires fails { (state : ℕ) × Fails prepared.now.tabled.halting sentence.now.start sentence.now.tokens state }
     requires size { length sentence.now.tokens < 2 ^ 32 }
-    ensures { IfOk result (λ text. IsEntryText prepared.now.grammar prepared.now.tabled.automaton
+    ensures { IfOk result (λ text. IsEntryText prepared.now.order.comment_expected prepared.now.grammar prepared.now.tabled.automaton
         prepared.now.tabled.halting sentence.now.start sentence.now.tokens text) }
 {
-    let text = entry_text(
-        alloc,
-        &prepared.grammar,
-        &prepared.tabled.automaton,
-        &prepared.tabled.halting,
-        sentence.start,
-        sentence.tokens.as_slice(),
-    )?;
+    let commenter = Commenter {
+        grammar: &prepared.grammar,
+        automaton: &prepared.tabled.automaton,
+        table: &prepared.tabled.halting,
+        expected: prepared.order.comment_expected,
+    };
+    let text = commenter.entry(alloc, sentence.start, sentence.tokens.as_slice())?;
     Ok(Sequence::from_vec(text))
 }
 
@@ -95,7 +94,7 @@ fn explain_sentence<const W: usize>(
 ) -> Result<FinalText, Memory>
     requires few { W ≤ 8 }
     requires consistent { IsConsistent prepared.now }
-    requires sentence { FitsTable prepared.now.tabled.halting sentence.now }
+    requires sentence { FitsTable prepared.now.tabled.halting sentence.now.start sentence.now.tokens }
     ensures { IfOk result (λ made. IsExplainedSentence prepared.now sentence.now made) }
 {
     let tokens = sentence.tokens.as_slice();

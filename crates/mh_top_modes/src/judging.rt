@@ -16,7 +16,7 @@ ghost use Rattle.mh_top_drive.specs.code.ModeCalls.{InputAndOutCounts, ModeShelf
 ghost use Rattle.mh_top_types.specs.code.Prepared.{IsConsistent};
 ghost use Rattle.mh_top_plans.specs.Verdicts.{IsAnswerToLine, IsEndingText, IsOutcomeText, IsRefusalText, IsTreeText, IsVerdictText, IsSentenceAnswer, expected_line, message_or_none, refusal_text as refusal_line};
 ghost use Rattle.mh_top_modes.specs.JudgingContext.{context_of};
-ghost use Rattle.mh_top_modes.specs.code.KnownSentences.{FitsTable};
+ghost use Rattle.mh_tables_core.specs.Sentences.{FitsTable};
 
 use crate::judge::Judging;
 use mh_check::Compiled;
@@ -63,7 +63,7 @@ fn write_expected(
     sentence: &Sentence,
     at: u32,
 ) -> Result<(), Memory>
-    requires sentence { FitsTable by.now.halting.now sentence.now }
+    requires sentence { FitsTable by.now.halting.now sentence.now.start sentence.now.tokens }
     requires at { at ≤ length sentence.now.tokens }
     requires overshoots { Overshoots by.now.halting.now sentence.now.start (take at sentence.now.tokens) }
     ensures { OnOk result ((tokens : List ℕ) × ExpectedTokens by.now.halting.now sentence.now.start (take at sentence.now.tokens) tokens
@@ -97,7 +97,7 @@ fn refused_answer(
     at: u32,
     state: u32,
 ) -> Result<Vec<u8>, Memory>
-    requires sentence { FitsTable by.now.halting.now sentence.now }
+    requires sentence { FitsTable by.now.halting.now sentence.now.start sentence.now.tokens }
     requires refused { VerdictOf by.now.halting.now sentence.now.start sentence.now.tokens (Rejected at state) }
     ensures { IfOk result (λ text. IsRefusalText (context_of by.now) sentence.now at state text.items) }
 {
@@ -117,7 +117,7 @@ fn verdict_text(
     sentence: &Sentence,
     verdict: Verdict,
 ) -> Result<Vec<u8>, Memory>
-    requires sentence { FitsTable by.now.halting.now sentence.now }
+    requires sentence { FitsTable by.now.halting.now sentence.now.start sentence.now.tokens }
     requires verdict { VerdictOf by.now.halting.now sentence.now.start sentence.now.tokens (ending_for verdict) }
     ensures { IfOk result (λ text. IsEndingText (context_of by.now) sentence.now (ending_for verdict) text.items) }
 {
@@ -130,7 +130,7 @@ fn verdict_text(
 
 /// The answer to a sentence, from its verdict.
 fn verdict_answer(alloc: Global, by: &Judging<'_>, sentence: &Sentence) -> Result<Vec<u8>, Memory>
-    requires { FitsTable by.now.halting.now sentence.now }
+    requires { FitsTable by.now.halting.now sentence.now.start sentence.now.tokens }
     ensures { IfOk result (λ text. IsVerdictText (context_of by.now) sentence.now text.items) }
 {
     let tokens = sentence.tokens.as_slice();
@@ -145,7 +145,7 @@ fn outcome_text(
     sentence: &Sentence,
     outcome: &TreeOutcome,
 ) -> Result<Vec<u8>, Memory>
-    requires sentence { FitsTable by.now.halting.now sentence.now }
+    requires sentence { FitsTable by.now.halting.now sentence.now.start sentence.now.tokens }
     requires outcome { IsTreeEnding by.now.halting.now sentence.now.start sentence.now.tokens (tree_ending_for outcome.now) }
     ensures { IfOk result (λ text. IsTreeText (context_of by.now) sentence.now (tree_ending_for outcome.now) text.items) }
 {
@@ -163,7 +163,7 @@ fn outcome_text(
 
 /// The answer to a sentence, from its run with trees.
 fn tree_answer(alloc: Global, by: &Judging<'_>, sentence: &Sentence) -> Result<Vec<u8>, Memory>
-    requires { FitsTable by.now.halting.now sentence.now }
+    requires { FitsTable by.now.halting.now sentence.now.start sentence.now.tokens }
     ensures { IfOk result (λ text. IsOutcomeText (context_of by.now) sentence.now text.items) }
 {
     let tokens = sentence.tokens.as_slice();
@@ -173,7 +173,7 @@ fn tree_answer(alloc: Global, by: &Judging<'_>, sentence: &Sentence) -> Result<V
 
 /// The answer to a sentence, with trees or without.
 fn sentence_text(alloc: Global, by: &Judging<'_>, sentence: &Sentence) -> Result<Vec<u8>, Memory>
-    requires { FitsTable by.now.halting.now sentence.now }
+    requires { FitsTable by.now.halting.now sentence.now.start sentence.now.tokens }
     ensures { IfOk result (λ text. IsSentenceAnswer (context_of by.now) sentence.now text.items) }
 {
     if by.trees {

@@ -35,6 +35,7 @@ fn updated_of<const W: usize>(
         &tabled.automaton,
         &tabled.halting,
         file,
+        prepared.order.comment_expected,
     ) {
         Ok(text) => Ok(Sequence::from_vec(text)),
         Err(CheckFault::Memory) => Err(Stop::OutOfMemory),

@@ -2,11 +2,15 @@ mod SomeConflicts
 mod SomeWork
 mod LeastExample
 mod SelectedNumbers
+mod FirstSentence
 mod SomeCatalogue
 mod SomeEntries
 mod SomeAutomatonText
 mod SomeShortest
 mod SomeRandom
+mod SomeDecision
 mod SomeRebased
+mod SomeErrorText
+mod SomeExplanations
 mod SomeAnswer
 mod SomeOutcome

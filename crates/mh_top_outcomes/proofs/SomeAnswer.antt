@@ -37,7 +37,7 @@ use Rattle.mh_top_plans.proofs.FilesOfMode.{PreparedFacts}
 use Rattle.mh_top_types.specs.Shapes.{Prepared}
 use Rattle.mh_top_outcomes.proofs.SelectedNumbers.{selected_numbers}
 use Rattle.mh_top_outcomes.proofs.SomeEntries.{some_entry}
-use Rattle.mh_top_outcomes.proofs.SomeRebased.{fails_at_last}
+use Rattle.mh_top_outcomes.proofs.SomeDecision.{fails_at_last}
 
 some_expected : (t : TableData) (start : ℕ) (tokens : List ℕ) → NotLacking ((list : List ℕ) × ExpectedTokens t start tokens list)
 some_expected t start tokens = chain (selected_numbers (IsExpected t start tokens) t.grammar.tokens (λ z e. e.known)) (λ s. given (s.0, record { rising = s.1; exact = s.2 }))
@@ -103,7 +103,7 @@ module _ (p : Prepared) (facts : PreparedFacts p) where
     explained_ending (Rejected at state) v = elim (cases_eq (at + 1) (length s.tokens)) [
       | inl last ↦ (
           let fails = fails_at_last p.tabled.halting s.start s.tokens at state known tokens last v in
-          let entry = some_entry p.grammar p.tabled.automaton p.tabled.mode p.tabled.halting facts.halts.facts facts.consistent.automaton facts.consistent.table s.start s.tokens state fails in
+          let entry = some_entry p.order.comment_expected p.grammar p.tabled.automaton p.tabled.mode p.tabled.halting facts.halts facts.consistent.automaton facts.consistent.table s.start s.tokens state fails in
           (Written entry.0, inl (last, entry.0, entry.1, refl)))
       | inr early ↦ (input_refusal (early_text at), inr (early, refl))
     ]

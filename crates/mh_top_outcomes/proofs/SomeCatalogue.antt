@@ -1,72 +1,22 @@
 -- Proves that a table does not lack a catalogue of the states in which sentences fail.
-use Rattle.std.proofs.Common.{◌≡◌, ◌∙◌, ℕ, zero, suc, ◌+◌, ◌-◌, ◌<◌, ◌≤◌, ◌⊎◌, inl, inr, List, [], ◌∷◌, length, refl, sym, subst, arith}
+use Rattle.std.proofs.Common.{◌≡◌, ℕ, zero, suc, ◌+◌, ◌-◌, ◌<◌, ◌≤◌, inl, inr, List, [], ◌∷◌, length, sym, subst, arith}
 use Rattle.std.specs.List.{AllByRecursion, Contains}
-use Rattle.std.proofs.lemmas.Bool.{cases_eq, cases_lt}
+use Rattle.std.proofs.lemmas.Bool.{cases_eq}
 use Rattle.mh_grammar.specs.Edges.{IsRising}
-use Rattle.mh_grammar.specs.WordOrder.{LexLe}
 use Rattle.mh_grammar.proofs.Lists.{contains_here, contains_there, recursion-weaker}
 use Rattle.mh_grammar_decided.specs.NotLacking.{NotLacking}
 use Rattle.mh_grammar_decided.proofs.NotLacking.{given, chain, decided}
 use Rattle.mh_tables_core.specs.Table.{TableData}
 use Rattle.mh_tables_core.specs.Facts.{Facts}
-use Rattle.mh_tables_core.specs.Failing.{Fails, Failing, FailsFirst, SentenceAtMost, CatalogueRow, IsRowBefore, Catalogue, cost_of_word}
+use Rattle.mh_tables_core.specs.Failing.{Fails, Failing, FailsFirst, CatalogueRow, IsRowBefore, Catalogue}
 use Rattle.mh_tables_core.proofs.RefusingState.{state_refused}
-use Rattle.mh_facts.proofs.WordAssignment.{token_cost_positive}
-use Rattle.mh_top_outcomes.proofs.LeastExample.{Least, least_number, LeastWord, least_word}
+use Rattle.mh_top_outcomes.proofs.FirstSentence.{some_first}
 
 module _ (t : TableData) (f : Facts t) where
-  length_within_cost : (w : List ℕ) → AllByRecursion (λ z. z < t.grammar.tokens) w → length w ≤ cost_of_word t w
-  length_within_cost [] below = omega arith
-  length_within_cost (z ∷ w) below =
-      let rest = length_within_cost w below.1 in
-      let here = token_cost_positive t f z below.0 in
-      omega (arith, rest, here)
-
-  -- The first sentence that fails in a state.
-  module _ (s : ℕ) where
-    abbrev HasCost : ℕ → Type 0
-    HasCost cost = (start : ℕ) × (w : List ℕ) × Fails t start w s × (cost_of_word t w ≡ cost)
-
-    abbrev HasStart : ℕ → ℕ → Type 0
-    HasStart cost start = (w : List ℕ) × Fails t start w s × (cost_of_word t w ≡ cost)
-
-    abbrev HasTokens : ℕ → ℕ → List ℕ → Type 0
-    HasTokens cost start w = Fails t start w s × (cost_of_word t w ≡ cost)
-
-    abbrev First : Type 0
-    First = (start : ℕ) × (w : List ℕ) × FailsFirst t start w s
-
-    module _ (cost : Least HasCost) (start : Least (HasStart cost.number)) (tokens : LeastWord (HasTokens cost.number start.number)) where
-      at_most : (start' : ℕ) (w' : List ℕ) → Fails t start' w' s → SentenceAtMost t start.number tokens.word start' w'
-      at_most start' w' fails = elim (cases_lt cost.number (cost_of_word t w')) [
-        | inl lt ↦ inl (let e = tokens.holds.1 in omega (arith, e, lt))
-        | inr le ↦ (
-            let most = cost.first (cost_of_word t w') (start', w', fails, refl) in
-            let same : cost_of_word t w' ≡ cost.number = omega (arith, le, most) in
-            inr (tokens.holds.1 ∙ sym same, at_most_start same))
-      ]
-        where
-          at_most_start : cost_of_word t w' ≡ cost.number → (start.number < start') ⊎ ((start.number ≡ start') × LexLe tokens.word w')
-          at_most_start same = elim (cases_lt start.number start') [
-            | inl lt ↦ inl lt
-            | inr le ↦ (
-                let most = start.first start' (w', fails, same) in
-                let one : start.number ≡ start' = omega (arith, le, most) in
-                inr (one, tokens.first w' (subst (λ (k : ℕ). HasTokens cost.number k w') (sym one) (fails, same))))
-          ]
-
-      first : First
-      first = (start.number, tokens.word, record { fails = tokens.holds.0; first = at_most })
-
-    with_start : (cost : Least HasCost) (start : Least (HasStart cost.number)) → (w : List ℕ) → Fails t start.number w s → cost_of_word t w ≡ cost.number → NotLacking First
-    with_start cost start w fails e =
-        chain (least_word cost.number (HasTokens cost.number start.number) (λ v h. subst (λ (k : ℕ). length v ≤ k) h.1 (length_within_cost v h.0.sentence.tokens)) w (fails, e)) (λ tokens. given (first cost start tokens))
-
-    with_cost : (cost : Least HasCost) → (start : ℕ) (w : List ℕ) → Fails t start w s → cost_of_word t w ≡ cost.number → NotLacking First
-    with_cost cost start w fails e = chain (least_number (HasStart cost.number) start (w, fails, e)) (λ i. with_start cost i i.holds.0 i.holds.1 i.holds.2)
-
-    first_sentence : Failing t s → NotLacking First
-    first_sentence (start, w, fails) = chain (least_number HasCost (cost_of_word t w) (start, w, fails, refl)) (λ c. with_cost c c.holds.0 c.holds.1 c.holds.2 c.holds.3)
+  first_sentence : (s : ℕ) → Failing t s → NotLacking ((start : ℕ) × (w : List ℕ) × FailsFirst t start w s)
+  first_sentence s (start, w, fails) =
+      chain (some_first t f (λ (i : ℕ) (v : List ℕ). Fails t i v s) (λ i v h. h.sentence.tokens) start w fails)
+      (λ x. given (x.start, x.tokens, record { fails = x.holds; first = x.first }))
 
   -- The rows of the states from z on, of which there are n.
   record RowsFrom (z n : ℕ) : Type 0 where

@@ -5,11 +5,14 @@ use Rattle.mh_outside.specs.Shelf.{Files}
 use Rattle.mh_grammar.specs.Text.{Text}
 use Rattle.mh_grammar.specs.declared.types.Grammar.{Grammar}
 use Rattle.mh_grammar.specs.Plain.{plain_of}
+use Rattle.mh_grammar.proofs.Lists.{recursion-from}
+use Rattle.mh_resolve_cells.specs.Conflicts.{IsConflictOf}
 use Rattle.mh_grammar_decided.specs.NotLacking.{NotLacking}
 use Rattle.mh_grammar_decided.proofs.NotLacking.{given, chain, decided}
 use Rattle.mh_check.specs.Compiling.{missing}
 use Rattle.mh_check.specs.Texts.{compiled_text}
 use Rattle.mh_msgfile.specs.FileTexts.{echo_text}
+use Rattle.mh_msgfile.specs.declared.blocks.LooseBlocks.{LooseBlocks}
 use Rattle.mh_msgfile.specs.declared.loose.LooseFile.{LooseFile}
 use Rattle.mh_opts.specs.declared.jobs.Job.{Job}
 use Rattle.mh_opts.specs.declared.jobs.Job.TheVariants as jobs
@@ -29,10 +32,11 @@ use Rattle.mh_top_plans.specs.Compared.{comparison_result}
 use Rattle.mh_top_plans.specs.FinalText.{end_of_final_text}
 use Rattle.mh_top_plans.specs.declared.at_end.FinalText.{FinalText}
 use Rattle.mh_top_plans.specs.declared.at_end.FinalText.TheVariants.{Written}
+use Rattle.mh_top_plans.specs.ErrorsChecked.{Checks, TooLong as TooLongToCheck, cause_of_lines}
 use Rattle.mh_top_plans.specs.Listing.{Lists, TooLong, too_long}
 use Rattle.mh_top_plans.specs.Rebased.{Rebases, TooLong as TooLongToRebase}
 use Rattle.mh_top_plans.specs.Sampled.{Counts, TooLong as TooLongToCount}
-use Rattle.mh_top_plans.specs.Plan.{FinalOutput, Known, Automaton, Errors, Rebased, Sampled, Shortest, Random, IsFinalOutput, Plan, Ends, Judges, Explains, Serves, Answers, EndsWith, asks_of, plan_behavior, plan_of_stage, table_file_text, writing_plan, judging_plan, IsPlanOfJob}
+use Rattle.mh_top_plans.specs.Plan.{FinalOutput, Known, Automaton, Errors, Rebased, Checked, Sampled, Shortest, Random, Conflicts, IsFinalOutput, Plan, Ends, Judges, Explains, Serves, Answers, EndsWith, asks_of, plan_behavior, plan_of_stage, table_file_text, writing_plan, judging_plan, IsPlanOfJob}
 use Rattle.mh_top_plans.specs.Verdicts.{VerdictContext}
 use Rattle.mh_top_plans.proofs.FilesOfMode.{PreparedFacts}
 use Rattle.mh_top_claims.specs.Preparing.{IsPrepared}
@@ -44,6 +48,8 @@ use Rattle.mh_top_outcomes.proofs.SomeAutomatonText.{some_automaton_text}
 use Rattle.mh_top_outcomes.proofs.SomeShortest.{some_shortest_text}
 use Rattle.mh_top_outcomes.proofs.SomeRandom.{some_drawn}
 use Rattle.mh_top_outcomes.proofs.SomeRebased.{some_rebased}
+use Rattle.mh_top_outcomes.proofs.SomeExplanations.{some_explanations}
+use Rattle.mh_top_outcomes.proofs.SomeErrorText.{some_error_text}
 use Rattle.mh_top_outcomes.proofs.SomeAnswer.{some_verdict, some_explanation, some_reply}
 
 -- ---- The ends of modes that ask for no line.
@@ -66,7 +72,7 @@ module _ (p : Prepared) (facts : PreparedFacts p) where
   errors_end = chain (decided IsTooLong) (λ d. elim d [
     | inl long ↦ given (refuses long.0, TooLong long.0 long.1 refl refl)
     | inr none ↦ chain (some_catalogue p.tabled.halting facts.halts.facts) (λ c.
-        let entries = some_entries p.grammar p.tabled.automaton p.tabled.mode p.tabled.halting facts.halts.facts facts.consistent.automaton facts.consistent.table c.0 c.1.each in
+        let entries = some_entries p.order.comment_expected p.grammar p.tabled.automaton p.tabled.mode p.tabled.halting facts.halts facts.consistent.automaton facts.consistent.table c.0 c.1.each in
         given (writes entries.0, Lists (λ s long. none (s, long)) refl (record { rows = c.0; catalogue = c.1; entries = entries.1 })))
   ])
 
@@ -81,8 +87,15 @@ module _ (p : Prepared) (facts : PreparedFacts p) where
   rebased_end : (file : LooseFile) → HasEnd (Rebased file p)
   rebased_end file = chain (decided IsTooLong) (λ d. elim d [
     | inl long ↦ given (refuses long.0, TooLongToRebase long.0 long.1 refl refl)
-    | inr none ↦ chain (some_rebased p.grammar p.tabled.automaton p.tabled.mode p.tabled.halting facts.halts facts.consistent.automaton facts.consistent.table file) (λ x.
+    | inr none ↦ chain (some_rebased p.order.comment_expected p.grammar p.tabled.automaton p.tabled.mode p.tabled.halting facts.halts facts.consistent.automaton facts.consistent.table file) (λ x.
         given (writes x.0, Rebases (λ s long. none (s, long)) refl x.1))
+  ])
+
+  checked_end : (name : Text) (blocks : LooseBlocks) → HasEnd (Checked name blocks p)
+  checked_end name blocks = chain (decided IsTooLong) (λ d. elim d [
+    | inl long ↦ given (refuses long.0, TooLongToCheck long.0 long.1 refl refl)
+    | inr none ↦ chain (some_error_text p.grammar p.tabled.halting facts.halts facts.consistent.table.grammar name blocks) (λ x.
+        given (record { cause = cause_of_lines x.0; out = x.0 }, Checks (λ s long. none (s, long)) refl x.1))
   ])
 
   automaton_end : HasEnd (Automaton p)
@@ -93,6 +106,11 @@ module _ (p : Prepared) (facts : PreparedFacts p) where
 
   random_end : (seed n : ℕ) → HasEnd (Random seed n p)
   random_end seed n = chain (some_drawn p.grammar seed n) (λ x. given (end_of_final_text x.0, (x.0, x.1, refl)))
+
+  conflicts_end : HasEnd (Conflicts p)
+  conflicts_end =
+      chain (some_explanations p.grammar p.tabled.automaton p.tabled.halting facts.halts.facts facts.consistent.range facts.consistent.automaton p.tabled.conflicts (recursion-from (IsConflictOf p.grammar p.tabled.automaton) p.tabled.conflicts (λ c has. (facts.consistent.conflicts.members c).0 has)))
+      (λ x. given (writes x.0, (refl, x.1)))
 
 -- ---- Plans that answer and end.
 
@@ -165,10 +183,12 @@ module _ (files : Option Files) (p : Prepared) (facts : PreparedFacts p) where
   fits_job (jobs.Sample number) plan is = subst Fits (sym is) (FitsEnd (sample_end p facts number))
   fits_job jobs.ShortestSentences plan is = subst Fits (sym is) (FitsEnd (shortest_end p facts))
   fits_job (jobs.RandomSentence seed n) plan is = subst Fits (sym is) (FitsEnd (random_end p facts seed n))
+  fits_job jobs.Explain plan is = subst Fits (sym is) (FitsEnd (conflicts_end p facts))
   fits_job (jobs.CompileErrors file) plan (s, of, is) = subst Fits (sym is) (of_text (λ messages. Written (compiled_text messages)) s)
   fits_job (jobs.EchoErrors file) plan (s, of, is) = subst Fits (sym is) (of_text (λ spelled. Written (echo_text p.grammar spelled)) s)
   fits_job (jobs.UpdateErrors file) plan (s, of, is) = subst Fits (sym is) (of_text (λ text. Written text) s)
   fits_job (jobs.RebaseErrors file) plan (s, of, is) = subst Fits (sym is) (of_stage (λ loose. Ends (Rebased loose p)) (λ loose. FitsEnd (rebased_end p facts loose)) s)
+  fits_job (jobs.CheckErrors file) plan (s, of, is) = subst Fits (sym is) (of_stage (λ blocks. Ends (Checked file blocks p)) (λ blocks. FitsEnd (checked_end p facts file blocks)) s)
   fits_job (jobs.CompareErrors first second) plan (s, of, is) = subst Fits (sym is) (of_text (λ both. comparison_result first second (missing both.0 both.1)) s)
 
   fits_unless_refused : (refused : Bool) (plan : Plan) → IsPlanUnlessRefused refused files p plan → Fits plan

@@ -52,7 +52,7 @@ use Rattle.mh_tables_core.specs.Table.{TableData, table_data, no_state}
 use Rattle.mh_tables_core.specs.declared.parts.StateParts.{StateParts}
 use Rattle.mh_resolve_cells.specs.declared.kinds.Mode.{Mode}
 use Rattle.mh_resolve_cells.specs.States.{state_of, IsResolved, AreResolved, IsTableOf}
-use Rattle.mh_resolve_cells.proofs.AreResolved.{facts_of}
+use Rattle.mh_resolve_cells.proofs.AreResolved.{Facts-resolved}
 use Rattle.mh_top_tables.specs.ResolvedStage.{IsResolvedStage}
 use Rattle.mh_top_tables.specs.Loops.{loops_line}
 use Rattle.mh_msgfile.specs.Sentences.{token_names}
@@ -141,7 +141,7 @@ module _ (g : Grammar) (range : IsInRange (plain_of g)) where
     | inl over ↦ given (Halt (Refused too_many_states), (over, refl))
     | inr not ↦ chain (canon.none_lacks (plain_of g) max_states range few_starts) (λ r. elim r [ inl a ↦ given (Go a.0, (not, a.1)) | inr over ↦ absurd (not over) ])
   ])
-  some_automaton (File name raw) = chain (valid.none_neither g raw) (λ r. elim r [
+  some_automaton (File name raw) = chain (valid.valid_or_invalid g raw) (λ r. elim r [
     | inl v ↦ given (Go v.0, (v.1, v.2))
     | inr i ↦ given (Halt (Refused (invalid_line name i.0 i.1)), record { state = i.0; reason = i.1; first = i.2; cause_is = refl })
   ])
@@ -160,7 +160,7 @@ module _ (mode : Mode) (g : Grammar) (a : Automaton) (ready : IsGrammarReady g) 
   some_resolved = chain some_states (λ states.
       let t : TableData = table_data g states.0 in
       let table : IsTableOf g a mode t = record { grammar = refl; costs = refl; states = states.1 } in
-      elim (halts_or_loops t (facts_of g a mode states.0 ready.range ready.costs automaton states.1)) [
+      elim (halts_or_loops t (Facts-resolved g a mode states.0 ready.range ready.costs automaton states.1)) [
         | inl halts ↦ chain (some_conflicts g a ready.range automaton) (λ c. given (Go (record { automaton = a; halting = t; conflicts = c.0; mode = mode }), record { automaton = refl; table = table; conflicts = c.1; halts = halts; resolved_in = refl }))
         | inr l ↦ given (Halt (Refused (loops_line (token_names g) l.0 l.1 l.2)), record { found = t; table = table; below = l.0; state = l.1; look = l.2; loops = l.3; cause_is = refl })
       ])

@@ -4,3 +4,4 @@ pub mod MessagesFileLines
 pub mod OpenedAndRan
 pub mod AreMessagesOfBoth
 pub mod LooseFiles
+pub mod FileBlocks

@@ -69,8 +69,8 @@ module _ (g : Grammar) (t : TableData) (same : t.grammar ≡ plain_of g) where
 
 of_file_once : (t : TableData) (name : Text) (file : MsgFile) → IsOne (AreMessagesOf t name file)
 of_file_once t name file (Go a) (Go b) p q = ap Go (checked.compiled_once t file a b p q)
-of_file_once t name file (Go a) (Halt cause) p q = absurd (checked.sound_right t (sentences_of file) q.fault p.sound q.first)
-of_file_once t name file (Halt cause) (Go b) p q = absurd (checked.sound_right t (sentences_of file) p.fault q.sound p.first)
+of_file_once t name file (Go a) (Halt cause) p q = absurd (checked.sound_has_no_fault t (sentences_of file) q.fault p.sound q.first)
+of_file_once t name file (Halt cause) (Go b) p q = absurd (checked.sound_has_no_fault t (sentences_of file) p.fault q.sound p.first)
 of_file_once t name file (Halt cause) (Halt cause') p q =
     ap Halt (p.cause_is ∙ ap (λ (f : SoundnessFault). Refused (check_line name f)) (checked.fault_once t (sentences_of file) p.fault q.fault p.first q.first) ∙ sym q.cause_is)
 

@@ -21,7 +21,7 @@ abbrev pub IsExplainedBy : Prepared → Sentence → Ending → FinalText → Ty
 IsExplainedBy p s (Accepted read) made = made ≡ input_refusal (ending_text (Accepted read))
 IsExplainedBy p s (Overshot state) made = made ≡ input_refusal (ending_text (Overshot state))
 IsExplainedBy p s (Rejected at state) made =
-    ((at + 1 ≡ length s.tokens) × (text : Text) × IsEntryText p.grammar p.tabled.automaton p.tabled.halting s.start s.tokens text × (made ≡ Written text))
+    ((at + 1 ≡ length s.tokens) × (text : Text) × IsEntryText p.order.comment_expected p.grammar p.tabled.automaton p.tabled.halting s.start s.tokens text × (made ≡ Written text))
     ⊎ ((at + 1 ≡ length s.tokens → ⊥) × (made ≡ input_refusal (early_text at)))
 
 -- The final text for a sentence.

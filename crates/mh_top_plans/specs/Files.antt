@@ -1,7 +1,7 @@
 -- The files that the mode of a job reads after the warnings, and which of them is read next.
 use Rattle.std.specs.Prelude.{[], ◌∷◌, List, Option, None, Some}
 use Rattle.mh_opts.specs.declared.jobs.Job.{Job}
-use Rattle.mh_opts.specs.declared.jobs.Job.TheVariants.{Interpret, CompareErrors, CompileErrors, EchoErrors, UpdateErrors, RebaseErrors}
+use Rattle.mh_opts.specs.declared.jobs.Job.TheVariants.{Interpret, CompareErrors, CompileErrors, EchoErrors, UpdateErrors, RebaseErrors, CheckErrors}
 use Rattle.mh_opts.specs.declared.order.Order.{Order}
 use Rattle.mh_outside.specs.Shelf.{Files}
 use Rattle.mh_grammar.specs.Text.{Text}
@@ -20,6 +20,7 @@ files_of_job Interpret order = optional_file order.messages
 files_of_job (CompileErrors file) order = file ∷ []
 files_of_job (UpdateErrors file) order = file ∷ []
 files_of_job (RebaseErrors file) order = file ∷ []
+files_of_job (CheckErrors file) order = file ∷ []
 files_of_job (EchoErrors file) order = file ∷ []
 files_of_job (CompareErrors first second) order = first ∷ second ∷ []
 files_of_job job order = []

@@ -5,6 +5,7 @@ pub mod Explained
 pub mod MessagesFiles
 pub mod Listing
 pub mod Rebased
+pub mod ErrorsChecked
 pub mod Sampled
 pub mod Drawn
 pub mod Plan

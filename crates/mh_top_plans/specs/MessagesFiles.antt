@@ -4,7 +4,9 @@ use Rattle.std.specs.Prelude.{◌≡◌, ℕ, List, Option}
 use Rattle.mh_grammar.specs.declared.types.Grammar.{Grammar}
 use Rattle.mh_tables_core.specs.Table.{TableData}
 use Rattle.mh_msgfile.specs.Messages.{MessagesFault as FileFault, BadShape, MsgSpells, HasFault}
+use Rattle.mh_msgfile.specs.FileBlocks.{HasBlocks}
 use Rattle.mh_msgfile.specs.LooseFiles.{LooseSpells, LacksMessage}
+use Rattle.mh_msgfile.specs.declared.blocks.LooseBlocks.{LooseBlocks}
 use Rattle.mh_msgfile.specs.declared.loose.LooseFile.{LooseFile}
 use Rattle.mh_msgfile.specs.declared.messages.MsgFile.{MsgFile}
 use Rattle.mh_check.specs.Checks.{SoundnessFault, FirstFault, sentences_of}
@@ -71,7 +73,7 @@ pub record IsUpdateFault (t : TableData) (name : Text) (file : MsgFile) (cause :
 -- The text of a messages file with new comment lines for its sentences, or the refusal of a file with an unfit
 -- sentence.
 abbrev pub IsUpdatedOf : Prepared → Text → MsgFile → StageResult Text → Type 0
-IsUpdatedOf p name file (Go text) = IsUpdated p.grammar p.tabled.automaton p.tabled.halting file text
+IsUpdatedOf p name file (Go text) = IsUpdated p.order.comment_expected p.grammar p.tabled.automaton p.tabled.halting file text
 IsUpdatedOf p name file (Halt cause) = IsUpdateFault p.tabled.halting name file cause
 
 -- The stage that reads the named file and brings it up to date.
@@ -91,3 +93,10 @@ pub record IsShapeFault (name bytes : Text) (cause : Cause) : Type 0 where
 abbrev pub IsLooseFile : Text → Text → StageResult LooseFile → Type 0
 IsLooseFile name bytes (Go file) = LooseSpells bytes file
 IsLooseFile name bytes (Halt cause) = IsShapeFault name bytes cause
+
+-- ---- Messages files that are examined.
+
+-- The blocks of the bytes of the named file. All bytes have blocks, so no file is refused.
+abbrev pub AreLooseBlocks : Text → Text → StageResult LooseBlocks → Type 0
+AreLooseBlocks name bytes (Go found) = HasBlocks bytes found
+AreLooseBlocks name bytes (Halt cause) = ⊥

@@ -3,8 +3,9 @@
 -- this project's own).
 use Rattle.std.specs.Prelude.{◌≡◌, ℕ, [], Option, None, Some}
 use Rattle.mh_opts.specs.declared.jobs.Job.{Job}
-use Rattle.mh_opts.specs.declared.jobs.Job.TheVariants.{Interpret, InterpretError, Session, ShowAutomaton, WriteTables, ListErrors, CompileErrors, CompareErrors, EchoErrors, UpdateErrors, RebaseErrors, Sample, ShortestSentences, RandomSentence}
+use Rattle.mh_opts.specs.declared.jobs.Job.TheVariants.{Interpret, InterpretError, Session, ShowAutomaton, WriteTables, ListErrors, CompileErrors, CompareErrors, EchoErrors, UpdateErrors, RebaseErrors, CheckErrors, Sample, ShortestSentences, RandomSentence, Explain}
 use Rattle.mh_outside.specs.Shelf.{Files}
+use Rattle.mh_explain.specs.Explanations.{AreExplanations}
 use Rattle.mh_report.specs.Automata.{IsAutomatonText}
 use Rattle.mh_sample.specs.Sentences.{IsShortestText}
 use Rattle.mh_grammar.specs.declared.types.Grammar.{Grammar}
@@ -17,6 +18,7 @@ use Rattle.mh_check.specs.Compiling.{missing}
 use Rattle.mh_check.specs.Texts.{compiled_text}
 use Rattle.mh_msgfile.specs.FileTexts.{echo_text}
 use Rattle.mh_msgfile.specs.declared.messages.MsgFile.{MsgFile}
+use Rattle.mh_msgfile.specs.declared.blocks.LooseBlocks.{LooseBlocks}
 use Rattle.mh_msgfile.specs.declared.loose.LooseFile.{LooseFile}
 use Rattle.mh_grammar.specs.Text.{Text}
 use Rattle.mh_top_drive.specs.StageResults.{StageResult, Go, Halt, Then, Gives}
@@ -26,12 +28,13 @@ use Rattle.mh_top_drive.specs.declared.driving.Asks.TheVariants.{NoLine, FirstLi
 use Rattle.mh_top_drive.specs.declared.stop.Cause.{Cause}
 use Rattle.mh_top_drive.specs.FileContents.{IsFileContent}
 use Rattle.mh_top_types.specs.Shapes.{Prepared}
-use Rattle.mh_top_plans.specs.MessagesFiles.{Messages, AreMessagesOfBoth, AreMessages, IsLooseFile, IsMessagesFile, IsUpdatedFile}
+use Rattle.mh_top_plans.specs.MessagesFiles.{Messages, AreMessagesOfBoth, AreMessages, AreLooseBlocks, IsLooseFile, IsMessagesFile, IsUpdatedFile}
 use Rattle.mh_top_plans.specs.Compared.{comparison_result}
 use Rattle.mh_top_plans.specs.Explained.{IsExplained}
 use Rattle.mh_top_plans.specs.FinalText.{end_of_final_text}
 use Rattle.mh_top_plans.specs.Listing.{ListsErrors}
 use Rattle.mh_top_plans.specs.Rebased.{RebasesFile}
+use Rattle.mh_top_plans.specs.ErrorsChecked.{ChecksErrors}
 use Rattle.mh_top_plans.specs.Sampled.{CountsSample}
 use Rattle.mh_top_plans.specs.Drawn.{IsDrawn}
 use Rattle.mh_top_plans.specs.Verdicts.{VerdictContext, IsAnswerToLine}
@@ -48,22 +51,28 @@ pub data FinalOutput : Type 0 where
   Errors : Prepared → FinalOutput
   -- A messages file for another version of the grammar, rebased.
   Rebased : LooseFile → Prepared → FinalOutput
+  -- What is wrong with the messages file of this name and these blocks.
+  Checked : Text → LooseBlocks → Prepared → FinalOutput
   -- The counts of the sample with this number.
   Sampled : ℕ → Prepared → FinalOutput
   -- The shortest word of each nonterminal.
   Shortest : Prepared → FinalOutput
   -- The random sentence of a seed, of at most the given number of tokens.
   Random : ℕ → ℕ → Prepared → FinalOutput
+  -- The explanations of the conflicts.
+  Conflicts : Prepared → FinalOutput
 
 -- The cause and the text on out are possible for a mode that writes this at its end.
 abbrev pub IsFinalOutput : FinalOutput → ModeEnd → Type 0
 IsFinalOutput (Known end) e = e ≡ end
 IsFinalOutput (Automaton p) e = (e.cause ≡ None) × IsAutomatonText p.grammar p.tabled.automaton p.tabled.mode p.tabled.halting e.out
-IsFinalOutput (Errors p) e = ListsErrors p.grammar p.tabled.automaton p.tabled.halting e.cause e.out
-IsFinalOutput (Rebased file p) e = RebasesFile p.grammar p.tabled.automaton p.tabled.halting file e.cause e.out
+IsFinalOutput (Errors p) e = ListsErrors p.order.comment_expected p.grammar p.tabled.automaton p.tabled.halting e.cause e.out
+IsFinalOutput (Rebased file p) e = RebasesFile p.order.comment_expected p.grammar p.tabled.automaton p.tabled.halting file e.cause e.out
+IsFinalOutput (Checked name blocks p) e = ChecksErrors p.grammar p.tabled.halting name blocks e.cause e.out
 IsFinalOutput (Sampled number p) e = CountsSample p.grammar p.tabled.halting number e.cause e.out
 IsFinalOutput (Shortest p) e = (e.cause ≡ None) × IsShortestText p.grammar e.out
 IsFinalOutput (Random seed n p) e = (made : FinalText) × IsDrawn p.grammar seed n made × (e ≡ end_of_final_text made)
+IsFinalOutput (Conflicts p) e = (e.cause ≡ None) × AreExplanations p.grammar p.tabled.automaton p.tabled.halting p.tabled.conflicts e.out
 
 -- A plan: the state of a mode between two lines of the input.
 pub data Plan : Type 0 where
@@ -139,8 +148,10 @@ IsPlanOfJob ListErrors files p plan = plan ≡ Ends (Errors p)
 IsPlanOfJob (Sample number) files p plan = plan ≡ Ends (Sampled number p)
 IsPlanOfJob ShortestSentences files p plan = plan ≡ Ends (Shortest p)
 IsPlanOfJob (RandomSentence seed n) files p plan = plan ≡ Ends (Random seed n p)
+IsPlanOfJob Explain files p plan = plan ≡ Ends (Conflicts p)
 IsPlanOfJob (CompileErrors file) files p plan = (s : StageResult Messages) × IsFileContent files (AreMessages p.grammar p.tabled.halting) file s × (plan ≡ plan_of_stage (λ messages. writing_plan (Written (compiled_text messages))) s)
 IsPlanOfJob (EchoErrors file) files p plan = (s : StageResult MsgFile) × IsFileContent files (IsMessagesFile p.grammar) file s × (plan ≡ plan_of_stage (λ spelled. writing_plan (Written (echo_text p.grammar spelled))) s)
 IsPlanOfJob (UpdateErrors file) files p plan = (s : StageResult Text) × IsUpdatedFile files p file s × (plan ≡ plan_of_stage (λ text. writing_plan (Written text)) s)
 IsPlanOfJob (RebaseErrors file) files p plan = (s : StageResult LooseFile) × IsFileContent files IsLooseFile file s × (plan ≡ plan_of_stage (λ loose. Ends (Rebased loose p)) s)
+IsPlanOfJob (CheckErrors file) files p plan = (s : StageResult LooseBlocks) × IsFileContent files AreLooseBlocks file s × (plan ≡ plan_of_stage (λ blocks. Ends (Checked file blocks p)) s)
 IsPlanOfJob (CompareErrors first second) files p plan = (s : StageResult (Messages × Messages)) × AreMessagesOfBoth files p first second s × (plan ≡ plan_of_stage (λ both. writing_plan (comparison_result first second (missing both.0 both.1))) s)

@@ -4,7 +4,7 @@ ghost use Rattle.mh_grammar.specs.Plain.{plain_of, IsInRange};
 ghost use Rattle.mh_msgfile.specs.Messages.{AreSentencesOf, ReportsFault as ReportsFileFault};
 ghost use Rattle.mh_check.specs.Compiling.{ReportsCheckFault};
 ghost use Rattle.mh_check.specs.Texts.{file_line, check_line};
-ghost use Rattle.mh_top_plans.specs.MessagesFiles.{AreMessages, AreMessagesOf, IsLooseFile, IsMessagesFile};
+ghost use Rattle.mh_top_plans.specs.MessagesFiles.{AreLooseBlocks, AreMessages, AreMessagesOf, IsLooseFile, IsMessagesFile};
 ghost use Rattle.mh_top_drive.specs.FileContents.{IsFileContent};
 ghost use Rattle.mh_top_types.specs.code.Prepared.{IsConsistent};
 ghost use Rattle.mh_top_drive.specs.code.StageCalls.{FileStageGives, StopsWith, StageShelfCounts, StageGives};
@@ -12,7 +12,9 @@ ghost use Rattle.mh_top_drive.specs.declared.stop.Cause.TheVariants.{Refused as 
 
 use mh_check::{CheckFault, Compiled, check_fault_line, compile, file_fault_line};
 use mh_grammar::{Grammar, Memory, Sequence};
-use mh_msgfile::{LooseFault, LooseFile, MsgFault, MsgFile, read_loose, read_messages};
+use mh_msgfile::{
+    LooseBlocks, LooseFault, LooseFile, MsgFault, MsgFile, read_blocks, read_loose, read_messages,
+};
 use mh_outside::Shelf;
 use mh_tables_core::Halting;
 use mh_top_drive::{FileFormat, Stop, read_file, refusal};
@@ -143,6 +145,23 @@ impl FileFormat<LooseFile> for LooseFiles {
     }
 }
 
+/// The form of messages files that are examined: any file has blocks.
+#[derive(Drop)]
+struct ExaminedFiles;
+
+impl FileFormat<LooseBlocks> for ExaminedFiles {
+    ghost use Rattle.mh_top_plans.specs.MessagesFiles.{AreLooseBlocks};
+
+    ghost Spells = { λ s. AreLooseBlocks };
+
+    fn spell(&self, alloc: Global, _name: &[u8], bytes: &[u8]) -> Result<LooseBlocks, Stop> {
+        match read_blocks(alloc, bytes) {
+            Ok(blocks) => Ok(blocks),
+            Err(Memory) => Err(Stop::OutOfMemory),
+        }
+    }
+}
+
 /// Reads the named messages file, and gives the messages for the states of the table.
 pub fn read_messages_file<F: Shelf, const W: usize>(
     alloc: Global,
@@ -201,5 +220,21 @@ pub fn read_loose_file<F: Shelf>(
     ensures kept { F.files shelf.new ≡ F.files shelf.old }
 {
     let files = LooseFiles;
+    read_file(alloc, shelf, &files, name)
+}
+
+/// Reads the blocks of the named messages file, of which nothing need be right.
+pub fn read_examined_file<F: Shelf>(
+    alloc: Global,
+    shelf: &mut F,
+    name: &[u8],
+) -> Result<LooseBlocks, Stop>
+    requires { F.MayAsk shelf.old name.now }
+    ensures blocks { FileStageGives (IsFileContent (F.files shelf.old) AreLooseBlocks name.now)
+        (λ other. other ≡ name.now) result }
+    ensures counts { StageShelfCounts (F.faults shelf.old) (F.faults shelf.new) result }
+    ensures kept { F.files shelf.new ≡ F.files shelf.old }
+{
+    let files = ExaminedFiles;
     read_file(alloc, shelf, &files, name)
 }

@@ -33,6 +33,7 @@ fn prepare_from<const W: usize>(
     requires numbered { HasNumberedStates source.now }
     ensures prepared { StageGives (IsPreparedFromSource front source.now) result }
     ensures order { IfOk result (λ prepared. prepared.order ≡ front.order) }
+    ensures grammar { IfOk result (λ prepared. prepared.grammar ≡ front.grammar) }
     ensures consistent { IfOk result (λ prepared. IsConsistent prepared) }
 {
     match table_of(alloc, source, &front.grammar) {
@@ -62,6 +63,7 @@ pub fn prepare<F: Shelf, const W: usize>(
     requires asked { MayAskForTables front.order (F.MayAsk shelf.old) }
     ensures prepared { FileStageGives (IsPreparedFromFiles (F.files shelf.old) front) (λ name. front.order.tables ≡ Some name) result }
     ensures order { IfOk result (λ prepared. prepared.order ≡ front.order) }
+    ensures grammar { IfOk result (λ prepared. prepared.grammar ≡ front.grammar) }
     ensures consistent { IfOk result (λ prepared. IsConsistent prepared) }
     ensures kept { F.files shelf.new ≡ F.files shelf.old }
     ensures may_ask { (other : List ℕ) → F.MayAsk shelf.old other → F.MayAsk shelf.new other }

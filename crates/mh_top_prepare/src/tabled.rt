@@ -1,5 +1,5 @@
 //! Makes the automaton of a grammar, or takes it from a table file, and makes its table and its conflicts.
-ghost use Rattle.std.specs.Prelude.{◌≡◌, ◌<◌, ◌^◌, length, Err, IfOk};
+ghost use Rattle.std.specs.Prelude.{◌≡◌, Err, IfOk};
 ghost use Rattle.mh_grammar.specs.Costs.{HaveCosts};
 ghost use Rattle.mh_grammar.specs.Plain.{plain_of};
 ghost use Rattle.mh_items_kernels.specs.Automaton.{IsAutomaton};
@@ -16,6 +16,7 @@ ghost use Rattle.mh_top_tables.specs.code.SourceFacts.{HasNumberedStates};
 ghost use Rattle.mh_resolve_cells.specs.States.{IsTableOf};
 ghost use Rattle.mh_resolve_cells.specs.Conflicts.{AreConflicts};
 ghost use Rattle.mh_validate_valid.specs.Valid.{AreTokenNamesDistinct};
+ghost use Rattle.mh_validate.specs.CanBeValidated.{CanBeValidated};
 ghost use Rattle.mh_items.specs.Fitting.{FitsSets};
 
 use crate::table_file::not_valid;
@@ -103,9 +104,7 @@ fn validated<const W: usize>(
     raw: &RawTable,
 ) -> Result<Valid<W>, Stop>
     requires fits { FitsSets W grammar.now }
-    requires costs { HaveCosts grammar.now.tokens }
-    requires distinct_names { AreTokenNamesDistinct grammar.now }
-    requires numbered { length raw.now.states < 2 ^ 32 }
+    requires input { CanBeValidated grammar.now raw.now }
     ensures stage { IsValidated name.now raw.now grammar.now result }
     ensures automaton { IfOk result (λ valid. IsAutomaton (plain_of grammar.now) valid.automaton) }
 {
@@ -123,9 +122,7 @@ fn table_in<const W: usize>(
     raw: &RawTable,
 ) -> Result<TabledAutomaton<W>, Stop>
     requires fits { FitsSets W grammar.now }
-    requires costs { HaveCosts grammar.now.tokens }
-    requires distinct_names { AreTokenNamesDistinct grammar.now }
-    requires numbered { length raw.now.states < 2 ^ 32 }
+    requires input { CanBeValidated grammar.now raw.now }
     ensures stage { StageGives (IsTableStage (File name.now raw.now) grammar.now) result }
     ensures automaton { IfOk result (λ tabled. IsAutomaton (plain_of grammar.now) tabled.automaton) }
 {

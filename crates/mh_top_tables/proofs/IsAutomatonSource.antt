@@ -16,7 +16,7 @@ use Rattle.mh_top_tables.specs.AutomatonSources.{IsAutomatonSource, IsAutomatonS
 use Rattle.mh_top_tables.specs.declared.sources.AutomatonSource.{AutomatonSource}
 use Rattle.mh_top_tables.specs.declared.sources.AutomatonSource.TheVariants.{File}
 
--- The named file as a source is one for each order that names it.
+-- If an order names a table file, the content of this file is the automaton source of the order.
 pub file_source : (files : Option Files) (name : Text) (canonical : Bool) (raw : RawTable) → IsFileContent files IsTableFile name (Go raw) → IsAutomatonSourceBy (Some name) canonical files (Go (File name raw))
 file_source files name canonical raw is = (Go raw, is, refl)
 
@@ -31,7 +31,7 @@ read_numbered files name raw is = at is.0 is.2
     at (Go bytes) file = file.spelled.few_states
     at (Halt cause) same = absurd (cc)
 
--- A source for the named file is one for the order that names it.
+-- A result for the name of a table file is a result for each order that has this name.
 pub order_source : (files : Option Files) (order : Order) (name : Text) (r : Result AutomatonSource Stop) → order.tables ≡ Some name → FileStageGives (IsAutomatonSourceBy (Some name) order.canonical files) (λ other. other ≡ name) r → FileStageGives (IsAutomatonSource files order) (λ other. order.tables ≡ Some other) r
 order_source files order name r is has =
     names_wider (IsAutomatonSource files order) (λ other. other ≡ name) (λ other. order.tables ≡ Some other) r (λ other same. is ∙ ap Some (sym same)) (subst (λ (t : Option Text). FileStageGives (IsAutomatonSourceBy t order.canonical files) (λ other. other ≡ name) r) (sym is) has)

@@ -50,7 +50,7 @@ impl Model for Tree {
     ghost size_decreases = { λ t h. depth_le-height t.shape.value };
 }
 
-// Drops the nodes that have no other owner in a loop. A recursion over a high tree could exceed the program's stack.
+// Drops, in a loop, the nodes that have no other owner. A recursion over a high tree could exceed the program's stack.
 impl Drop for Tree {
     fn drop(self) {
         let Tree { shape, height: _ } = self;

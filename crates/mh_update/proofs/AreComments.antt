@@ -1,5 +1,5 @@
 -- Lemmas on the loops that collect the comments of sentences.
-use Rattle.std.proofs.Common.{ℕ, ◌+◌, ◌<◌, List, [], ◌∷◌, ◌++◌, length, take, drop, flat_map, get_or, inl, inr, subst, sym, ◌≡◌, append_assoc, append-nil, ap, ◌∙◌, refl}
+use Rattle.std.proofs.Common.{ℕ, ◌+◌, ◌<◌, List, [], ◌∷◌, ◌++◌, length, take, drop, flat_map, get_or, inl, inr, subst, sym, ◌≡◌, append_assoc, append-nil, ap, ◌∙◌, refl, Bool, Bool}
 use Rattle.std.proofs.lemmas.List.{take-append-drop}
 use Rattle.std.proofs.lemmas.Grind.{flat_map-append}
 use Rattle.std.specs.List.{Contains}
@@ -13,6 +13,7 @@ use Rattle.mh_check.specs.Checks.{BreaksSoundness, FailsIn}
 use Rattle.mh_check.specs.Compiling.{ReportsCheckFault}
 use Rattle.mh_check.specs.declared.compiling.CheckFault.{CheckFault}
 use Rattle.mh_check.proofs.ArePlaces.{split-append, ReportsCheckFault-weaker}
+use Rattle.mh_report_comments.proofs.CommentParts.{block_fails}
 use Rattle.mh_update_renewed.specs.declared.comment.Comment.{Comment}
 use Rattle.mh_update_renewed.specs.Updates.{AreComments, FirstUnfit, IsComment}
 
@@ -38,23 +39,23 @@ entry_split es i e lt is =
 
 -- ---- Comments and faults.
 
-module _ (g : Grammar) (a : Automaton) (t : TableData) where
-  pub comments_push : (xs : List MsgSentence) (cs : List Comment) (x : MsgSentence) (c : Comment) → AreComments g a t xs cs → IsComment g a t x c → AreComments g a t (xs ++ x ∷ []) (cs ++ c ∷ [])
+module _ (expected : Bool) (g : Grammar) (a : Automaton) (t : TableData) where
+  pub comments_push : (xs : List MsgSentence) (cs : List Comment) (x : MsgSentence) (c : Comment) → AreComments expected g a t xs cs → IsComment expected g a t x c → AreComments expected g a t (xs ++ x ∷ []) (cs ++ c ∷ [])
   comments_push [] [] x c are is = (is, tt)
   comments_push [] (d ∷ cs) x c are is = absurd are
   comments_push (y ∷ xs) [] x c are is = absurd are
   comments_push (y ∷ xs) (d ∷ cs) x c are is = (are.0, comments_push xs cs x c are.1 is)
 
-  pub comments_next : (done xs : List MsgSentence) (i : ℕ) (x : MsgSentence) (old new : List Comment) (c : Comment) → i < length xs → x ≡ get_or xs i x → AreComments g a t (done ++ take i xs) old → IsComment g a t x c → new ≡ old ++ c ∷ []
-      → AreComments g a t (done ++ take (i + 1) xs) new
+  pub comments_next : (done xs : List MsgSentence) (i : ℕ) (x : MsgSentence) (old new : List Comment) (c : Comment) → i < length xs → x ≡ get_or xs i x → AreComments expected g a t (done ++ take i xs) old → IsComment expected g a t x c → new ≡ old ++ c ∷ []
+      → AreComments expected g a t (done ++ take (i + 1) xs) new
   comments_next done xs i x old new c lt here are is added =
-      subst (λ (l : List MsgSentence). AreComments g a t l new) (next_taken done xs i x lt here)
-      (subst (AreComments g a t ((done ++ take i xs) ++ x ∷ [])) (sym added) (comments_push (done ++ take i xs) old x c are is))
+      subst (λ (l : List MsgSentence). AreComments expected g a t l new) (next_taken done xs i x lt here)
+      (subst (AreComments expected g a t ((done ++ take i xs) ++ x ∷ [])) (sym added) (comments_push (done ++ take i xs) old x c are is))
 
-  fails_of : (x : MsgSentence) (c : Comment) → IsComment g a t x c → (s : ℕ) × FailsIn t x s
-  fails_of x c is = (is.1.state, is.1.fails)
+  fails_of : (x : MsgSentence) (c : Comment) → IsComment expected g a t x c → (s : ℕ) × FailsIn t x s
+  fails_of x c is = block_fails expected g a t x.start x.tokens c.text is.1
 
-  fail_each : (xs : List MsgSentence) (cs : List Comment) → AreComments g a t xs cs → (y : MsgSentence) → Contains xs y → (s : ℕ) × FailsIn t y s
+  fail_each : (xs : List MsgSentence) (cs : List Comment) → AreComments expected g a t xs cs → (y : MsgSentence) → Contains xs y → (s : ℕ) × FailsIn t y s
   fail_each [] cs are y c = absurd (contains_none y c)
   fail_each (x ∷ xs) [] are y c = absurd are
   fail_each (x ∷ xs) (d ∷ cs) are y c = elim (contains_cases x xs y c) [
@@ -62,7 +63,7 @@ module _ (g : Grammar) (a : Automaton) (t : TableData) where
     | inr i ↦ fail_each xs cs are.1 y i
   ]
 
-  pub unfit_here : (done : List MsgSentence) (cs : List Comment) (x : MsgSentence) (fault : CheckFault) → AreComments g a t done cs → ReportsCheckFault fault (BreaksSoundness t [] x) → ReportsCheckFault fault (FirstUnfit t (done ++ x ∷ []))
+  pub unfit_here : (done : List MsgSentence) (cs : List Comment) (x : MsgSentence) (fault : CheckFault) → AreComments expected g a t done cs → ReportsCheckFault fault (BreaksSoundness t [] x) → ReportsCheckFault fault (FirstUnfit t (done ++ x ∷ []))
   unfit_here done cs x fault are told = ReportsCheckFault-weaker fault (BreaksSoundness t [] x) (FirstUnfit t (done ++ x ∷ [])) (λ f breaks. record {
     before = done;
     sentence = x;

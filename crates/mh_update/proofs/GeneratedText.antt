@@ -19,7 +19,7 @@ use Rattle.mh_grammar.specs.declared.types.Symbol.TheVariants.{T, N}
 use Rattle.mh_grammar.specs.declared.types.Look.{Look}
 use Rattle.mh_grammar.specs.declared.types.Look.TheVariants.{Token, End}
 use Rattle.mh_grammar.specs.Plain.{plain_of, rhs_of}
-use Rattle.mh_grammar.specs.Names.{nonterminal_name, symbol_name, left_side_name, start_name}
+use Rattle.mh_grammar.specs.Names.{nonterminal_name, symbol_name, left_side_name, start_name, token_name}
 use Rattle.mh_items_kernels.specs.KernelTypes.{KernelItem, Automaton}
 use Rattle.mh_items_kernels.specs.Automaton.{kernel_at}
 use Rattle.mh_tables_core.specs.Table.{TableData}
@@ -27,9 +27,10 @@ use Rattle.mh_tables_core.specs.Facts.{Facts}
 use Rattle.mh_resolve_cells.specs.Names.{look_name}
 use Rattle.mh_report_notation.specs.ItemTexts.{looks_after, item_text, item_line}
 use Rattle.mh_grammar_texts.specs.Productions.{spaced_symbols, left_side_text, production_text}
-use Rattle.mh_msgfile.proofs.LineEnds.{with_ends, IsReadUnchanged, ends_in_cr}
+use Rattle.mh_msgfile.specs.FileTexts.{names_after}
+use Rattle.mh_msgfile.proofs.LineEnds.{with_ends, IsReadUnchanged, no_cr-unchanged}
 use Rattle.mh_tables_core.proofs.RefusingState.{state_refused}
-use Rattle.mh_report_comments.specs.Comments.{before_dot, kernel_comments, comments, IsCommentText, state_comment, suffix_title, suffix_comment, reduced_title, reduced_comment, reduced_comments}
+use Rattle.mh_report_comments.specs.Comments.{before_dot, kernel_comments, comments, expected_comment, expected_title, IsCommentBlock, IsCommentText, state_comment, suffix_title, suffix_comment, reduced_title, reduced_comment, reduced_comments}
 use Rattle.mh_grammar.specs.Text.{Text}
 use Rattle.mh_update_renewed.specs.Updates.{is_generated}
 use Rattle.mh_update.specs.NoLineEnds.{is_no_line_end, HasNoLineEnd, HasNamesWithoutLineEnds}
@@ -37,8 +38,8 @@ use Rattle.mh_update.proofs.LineWalk.{IsGeneratedLine}
 
 -- ---- Texts without LF and CR.
 
-pub in_both : (x y : Text) → HasNoLineEnd x → HasNoLineEnd y → HasNoLineEnd (x ++ y)
-in_both x y a b = list_all-append is_no_line_end x y ∙ rw a (rw b refl)
+pub HasNoLineEnd-append : (x y : Text) → HasNoLineEnd x → HasNoLineEnd y → HasNoLineEnd (x ++ y)
+HasNoLineEnd-append x y a b = list_all-append is_no_line_end x y ∙ rw a (rw b refl)
 
 inner_of : (b : ℕ) (text : Text) → HasNoLineEnd (b ∷ text) → is_no_line_end b ≡ true
 inner_of b text is = (and_parts (is_no_line_end b) (list_all is_no_line_end text) is).0
@@ -53,12 +54,12 @@ no_ends : (text : Text) → HasNoLineEnd text → AllByRecursion (λ b. b ≢ 10
 no_ends [] is = tt
 no_ends (b ∷ text) is = (no_lf b (inner_of b text is), no_ends text (rest_of b text is))
 
-ends_in_cr_not : (front : Text) → HasNoLineEnd (front ++ 13 ∷ []) → ⊥
-ends_in_cr_not [] is = true≢false (sym is)
-ends_in_cr_not (b ∷ front) is = ends_in_cr_not front (rest_of b (front ++ 13 ∷ []) is)
+not_ends_in_cr : (front : Text) → HasNoLineEnd (front ++ 13 ∷ []) → ⊥
+not_ends_in_cr [] is = true≢false (sym is)
+not_ends_in_cr (b ∷ front) is = not_ends_in_cr front (rest_of b (front ++ 13 ∷ []) is)
 
-pub whole : (line : Text) → HasNoLineEnd line → IsReadUnchanged line
-whole line is = (All-from_recursion (λ b. b ≢ 10) line (no_ends line is), ends_in_cr line _ refl (λ front e. ends_in_cr_not front (subst HasNoLineEnd e is)))
+pub IsReadUnchanged-no_line_end : (line : Text) → HasNoLineEnd line → IsReadUnchanged line
+IsReadUnchanged-no_line_end line is = (All-from_recursion (λ b. b ≢ 10) line (no_ends line is), no_cr-unchanged line _ refl (λ front e. not_ends_in_cr front (subst HasNoLineEnd e is)))
 
 -- ---- Texts that consist of generated lines.
 
@@ -78,7 +79,7 @@ IsGeneratedText-empty : IsGeneratedText []
 IsGeneratedText-empty = record { lines = []; is = refl; are_generated = tt }
 
 IsGeneratedText-line : (line : Text) → is_generated line ≡ true → HasNoLineEnd line → IsGeneratedText (line ++ 10 ∷ [])
-IsGeneratedText-line line made is = record { lines = line ∷ []; is = sym (append-nil (line ++ 10 ∷ [])); are_generated = ((made, whole line is), tt) }
+IsGeneratedText-line line made is = record { lines = line ∷ []; is = sym (append-nil (line ++ 10 ∷ [])); are_generated = ((made, IsReadUnchanged-no_line_end line is), tt) }
 
 IsGeneratedText-equal : (x y : Text) → x ≡ y → IsGeneratedText y → IsGeneratedText x
 IsGeneratedText-equal x y is comment_block = subst IsGeneratedText (sym is) comment_block
@@ -108,7 +109,11 @@ module _ (g : Grammar) (names : HasNamesWithoutLineEnds g) where
 
   names_in : (symbols : List Symbol) → HasNoLineEnd (spaced_symbols g symbols)
   names_in [] = refl
-  names_in (x ∷ symbols) = in_both (symbol_name g x) (spaced_symbols g symbols) (symbol_in x) (names_in symbols)
+  names_in (x ∷ symbols) = HasNoLineEnd-append (symbol_name g x) (spaced_symbols g symbols) (symbol_in x) (names_in symbols)
+
+  token_names_in : (tokens : List ℕ) → HasNoLineEnd (names_after g tokens)
+  token_names_in [] = refl
+  token_names_in (z ∷ tokens) = HasNoLineEnd-append (token_name g z) (names_after g tokens) (names.tokens z) (token_names_in tokens)
 
   start_by : (o : Option ℕ) → HasNoLineEnd (unwrap_or (option_map (nonterminal_name g) o) [])
   start_by None = refl
@@ -131,10 +136,10 @@ module _ (g : Grammar) (names : HasNamesWithoutLineEnds g) where
   left_name_in p = choice_in (nat_lt p (length g.starts)) [] _ refl (side_by (slice_get g.productions (p - length g.starts)))
 
   left_in : (p : ℕ) → HasNoLineEnd (left_side_text g p)
-  left_in p = choice_in (nat_lt p (length g.starts)) _ _ (in_both (start_name g p) (codes "'") (start_in p) refl) (left_name_in p)
+  left_in p = choice_in (nat_lt p (length g.starts)) _ _ (HasNoLineEnd-append (start_name g p) (codes "'") (start_in p) refl) (left_name_in p)
 
   production_in : (p : ℕ) → HasNoLineEnd (production_text g p)
-  production_in p = in_both (left_side_text g p ++ codes " ->") (spaced_symbols g (rhs_of (plain_of g) p)) (in_both (left_side_text g p) (codes " ->") (left_in p) refl) (names_in (rhs_of (plain_of g) p))
+  production_in p = HasNoLineEnd-append (left_side_text g p ++ codes " ->") (spaced_symbols g (rhs_of (plain_of g) p)) (HasNoLineEnd-append (left_side_text g p) (codes " ->") (left_in p) refl) (names_in (rhs_of (plain_of g) p))
 
   look_in : (look : Look) → HasNoLineEnd (look_name g look)
   look_in (Token z) = names.tokens z
@@ -142,7 +147,7 @@ module _ (g : Grammar) (names : HasNamesWithoutLineEnds g) where
 
   looks_in : (looks : List Look) → HasNoLineEnd (looks_after g looks)
   looks_in [] = refl
-  looks_in (look ∷ looks) = in_both (look_name g look) (looks_after g looks) (look_in look) (looks_in looks)
+  looks_in (look ∷ looks) = HasNoLineEnd-append (look_name g look) (looks_after g looks) (look_in look) (looks_in looks)
 
   kernel_in : (item : KernelItem) → HasNoLineEnd (item_text g item)
   kernel_in item =
@@ -153,13 +158,13 @@ module _ (g : Grammar) (names : HasNamesWithoutLineEnds g) where
       let back = dotted ++ spaced_symbols g (drop item.dot symbols) in
       let open_looks = back ++ codes " [" in
       let looks = open_looks ++ looks_after g item.looks in
-      let in_left : HasNoLineEnd left = in_both (left_side_text g item.production) (codes " ->") (left_in item.production) refl in
-      let in_front : HasNoLineEnd front = in_both left (spaced_symbols g (take item.dot symbols)) in_left (names_in (take item.dot symbols)) in
-      let in_dotted : HasNoLineEnd dotted = in_both front (codes " .") in_front refl in
-      let in_back : HasNoLineEnd back = in_both dotted (spaced_symbols g (drop item.dot symbols)) in_dotted (names_in (drop item.dot symbols)) in
-      let in_open : HasNoLineEnd open_looks = in_both back (codes " [") in_back refl in
-      let in_looks : HasNoLineEnd looks = in_both open_looks (looks_after g item.looks) in_open (looks_in item.looks) in
-      in_both looks (codes " ]") in_looks refl
+      let in_left : HasNoLineEnd left = HasNoLineEnd-append (left_side_text g item.production) (codes " ->") (left_in item.production) refl in
+      let in_front : HasNoLineEnd front = HasNoLineEnd-append left (spaced_symbols g (take item.dot symbols)) in_left (names_in (take item.dot symbols)) in
+      let in_dotted : HasNoLineEnd dotted = HasNoLineEnd-append front (codes " .") in_front refl in
+      let in_back : HasNoLineEnd back = HasNoLineEnd-append dotted (spaced_symbols g (drop item.dot symbols)) in_dotted (names_in (drop item.dot symbols)) in
+      let in_open : HasNoLineEnd open_looks = HasNoLineEnd-append back (codes " [") in_back refl in
+      let in_looks : HasNoLineEnd looks = HasNoLineEnd-append open_looks (looks_after g item.looks) in_open (looks_in item.looks) in
+      HasNoLineEnd-append looks (codes " ]") in_looks refl
 
   -- ---- Comment lines.
 
@@ -167,7 +172,7 @@ module _ (g : Grammar) (names : HasNamesWithoutLineEnds g) where
   mark = IsGeneratedText-line (codes "##") refl refl
 
   state_line : (s : ℕ) → s < 2 ^ 64 → IsGeneratedText ((codes "## Ends in an error in state: " ++ (decimal s ++ codes ".")) ++ 10 ∷ [])
-  state_line s lt = IsGeneratedText-line (codes "## Ends in an error in state: " ++ (decimal s ++ codes ".")) refl (in_both (decimal s) (codes ".") (decimal_in s lt) refl)
+  state_line s lt = IsGeneratedText-line (codes "## Ends in an error in state: " ++ (decimal s ++ codes ".")) refl (HasNoLineEnd-append (decimal s) (codes ".") (decimal_in s lt) refl)
 
   IsGeneratedText-state : (s : ℕ) → s < 2 ^ 64 → IsGeneratedText (state_comment s)
   unfolding state_comment
@@ -212,3 +217,15 @@ module _ (g : Grammar) (names : HasNamesWithoutLineEnds g) where
       let below : is.state < length t.states = state_refused t f start w (length w - 1) is.state is.fails.sentence.known is.fails.verdict in
       let few : length t.states < 2 ^ 32 = f.ranges.few_states in
       IsGeneratedText-equal text (comments g (kernel_at a is.state).items is.state is.item is.reduced) is.is (IsGeneratedText-comments (kernel_at a is.state).items is.state is.item is.reduced (omega (arith, below, few)))
+
+  expected_line : (tokens : List ℕ) → IsGeneratedText (expected_comment g tokens)
+  unfolding expected_title
+  expected_line tokens =
+      IsGeneratedText-equal (expected_comment g tokens) ((codes "## Expected:" ++ names_after g tokens) ++ 10 ∷ []) refl
+      (IsGeneratedText-line (codes "## Expected:" ++ names_after g tokens) refl (token_names_in tokens))
+
+  -- The comment lines of a sentence that fails, with the expected tokens or without, consist of generated lines.
+  pub IsGeneratedText-block : (a : Automaton) (t : TableData) → Facts t → (expected : Bool) (start : ℕ) (w : List ℕ) (text : Text) → IsCommentBlock expected g a t start w text → IsGeneratedText text
+  IsGeneratedText-block a t f false start w text is = IsGeneratedText-comment a t f start w text is
+  IsGeneratedText-block a t f true start w text is =
+      IsGeneratedText-equal text (is.0 ++ expected_comment g is.2) is.4 (IsGeneratedText-append is.0 (expected_comment g is.2) (IsGeneratedText-comment a t f start w is.0 is.1) (expected_line is.2))

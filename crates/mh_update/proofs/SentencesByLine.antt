@@ -49,8 +49,7 @@ read_blank Sentences fs = refl
 read_blank BeforeMessage fs = refl
 read_blank Message fs = refl
 
--- The number of a nonblank line, if the reader takes the line for a sentence when it is at this place before the line;
--- else none.
+-- The number of a nonblank line, if a reader in this state takes the line for a sentence; else none.
 abbrev number_at : LinePlace → ℕ → List ℕ
 number_at Outside n = n ∷ []
 number_at Sentences n = n ∷ []
@@ -128,7 +127,7 @@ module _ (lines : List Text) where
     words_at BeforeMessage n ns xs is = is
     words_at Message n ns xs is = is
 
-    -- The sentences of the lines after the first k, by definition and line by line, are the same.
+    -- For the lines after the first k, the definition by blocks gives the sentences that are found line by line.
     abbrev IsRead : LinePlace → ℕ → List Text → Type 0
     IsRead place k xs = flat_map found_at (read place (fields_from k xs)) ≡ sentences v place k xs
 

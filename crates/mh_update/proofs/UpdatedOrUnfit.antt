@@ -1,6 +1,6 @@
 -- Proves that a file either is brought up to date or has exactly one first sentence that does not fail at its last
 -- token.
-use Rattle.std.proofs.Common.{◌≡◌, ℕ, ◌+◌, ◌-◌, ◌<◌, ◌⊎◌, List, [], ◌∷◌, ◌++◌, length, refl, sym, ◌∙◌, ap, subst, arith, inl, inr, flat_map}
+use Rattle.std.proofs.Common.{◌≡◌, ℕ, ◌+◌, ◌-◌, ◌<◌, ◌⊎◌, List, [], ◌∷◌, ◌++◌, length, refl, sym, ◌∙◌, ap, subst, arith, inl, inr, flat_map, Bool, Bool}
 use Rattle.std.specs.List.{AllByRecursion, Contains}
 use Rattle.std.proofs.lemmas.Bool.{cases_eq}
 use Rattle.std.proofs.Math.Numerals.{lt_of_le_of_ne}
@@ -26,6 +26,7 @@ use Rattle.mh_tables_core.proofs.RefusingState.{state_refused}
 use Rattle.mh_check.proofs.CheckedOnce.{no_refusal_not_rejected}
 use Rattle.mh_report_comments.specs.Comments.{comments}
 use Rattle.mh_report_comments.proofs.HasFarthestDot.{some_farthest}
+use Rattle.mh_report_comments.proofs.CommentParts.{block_fails, some_block}
 use Rattle.mh_update_renewed.specs.declared.comment.Comment.{Comment}
 use Rattle.mh_grammar.specs.Text.{Text}
 use Rattle.mh_update_renewed.specs.Updates.{IsComment, AreComments, updated, IsUpdated, FirstUnfit}
@@ -70,33 +71,33 @@ module _ (t : TableData) where
 
   -- ---- A file that is brought up to date has no fault.
 
-  module _ (g : Grammar) (a : Automaton) where
-    fails_at : (before : List MsgSentence) (x : MsgSentence) (later : List MsgSentence) (cs : List Comment) → AreComments g a t (before ++ x ∷ later) cs → (s : ℕ) × FailsIn t x s
+  module _ (expected : Bool) (g : Grammar) (a : Automaton) where
+    fails_at : (before : List MsgSentence) (x : MsgSentence) (later : List MsgSentence) (cs : List Comment) → AreComments expected g a t (before ++ x ∷ later) cs → (s : ℕ) × FailsIn t x s
     fails_at [] x later [] are = absurd are
-    fails_at [] x later (c ∷ cs) are = (are.0.1.state, are.0.1.fails)
+    fails_at [] x later (c ∷ cs) are = block_fails expected g a t x.start x.tokens c.text are.0.1
     fails_at (y ∷ before) x later [] are = absurd are
     fails_at (y ∷ before) x later (c ∷ cs) are = fails_at before x later cs are.1
 
-    pub updated_fits : (file : MsgFile) (text : Text) (f : SoundnessFault) → IsUpdated g a t file text → FirstUnfit t (sentences_of file) f → ⊥
+    pub updated_fits : (file : MsgFile) (text : Text) (f : SoundnessFault) → IsUpdated expected g a t file text → FirstUnfit t (sentences_of file) f → ⊥
     updated_fits file text f is first =
-        let fails = fails_at first.before first.sentence first.later is.0 (subst (λ (xs : List MsgSentence). AreComments g a t xs is.0) first.order is.1) in
+        let fails = fails_at first.before first.sentence first.later is.0 (subst (λ (xs : List MsgSentence). AreComments expected g a t xs is.0) first.order is.1) in
         never first.sentence f fails.0 fails.1 first.breaks
 
     -- ---- A file without fault is brought up to date.
 
     module _ (h : HaltingFacts t) (automaton : IsAutomaton (plain_of g) a) (states : length t.states ≡ length a.kernels) where
-      some_comment : (x : MsgSentence) (s : ℕ) → FailsIn t x s → (c : Comment) × IsComment g a t x c
+      some_comment : (x : MsgSentence) (s : ℕ) → FailsIn t x s → (c : Comment) × IsComment expected g a t x c
       some_comment x s fails =
           let known : s < length t.states = state_refused t h.facts x.start x.tokens (length x.tokens - 1) s fails.sentence.known fails.verdict in
           let best = some_farthest (kernel_at a s).items (automaton.filled s (omega (arith, known, states))) in
           let n = fails.verdict.0 in
-          let reduced = reduced_since t n (initial x.start x.tokens) [] in (
-            record { line = x.line; text = comments g (kernel_at a s).items s best.0 reduced },
-            (refl, record { state = s; fails = fails; item = best.0; farthest = best.1; reduced = reduced; trace = record { steps = n; ends = fails.verdict.1; reduced = refl }; is = refl }),
-          )
+          let reduced = reduced_since t n (initial x.start x.tokens) [] in
+          let block = some_block expected g a t h x.start x.tokens (comments g (kernel_at a s).items s best.0 reduced)
+          (record { state = s; fails = fails; item = best.0; farthest = best.1; reduced = reduced; trace = record { steps = n; ends = fails.verdict.1; reduced = refl }; is = refl }) in
+          (record { line = x.line; text = block.0 }, (refl, block.1))
 
       abbrev Settled : List MsgSentence → Type 0
-      Settled xs = ((cs : List Comment) × AreComments g a t xs cs) ⊎ ((f : SoundnessFault) × FirstUnfit t xs f)
+      Settled xs = ((cs : List Comment) × AreComments expected g a t xs cs) ⊎ ((f : SoundnessFault) × FirstUnfit t xs f)
 
       here : (x : MsgSentence) (xs : List MsgSentence) (f : SoundnessFault) → BreaksSoundness t [] x f → Settled (x ∷ xs)
       here x xs f breaks = inr (f, record { before = []; sentence = x; later = xs; order = refl; fail = λ y c. absurd (contains_none y c); breaks = breaks })
@@ -148,9 +149,9 @@ module _ (t : TableData) where
       of_entries [] of = tt
       of_entries (e ∷ es) of = recursion-append (IsSentenceOf (length t.grammar.starts) t.grammar.tokens) e.sentences (flat_map (λ (e : Entry). e.sentences) es) of.0 (of_entries es of.1)
 
-      pub updated_or_unfit : (file : MsgFile) → AreSentencesOf (length t.grammar.starts) t.grammar.tokens file → ((text : Text) × IsUpdated g a t file text) ⊎ ((f : SoundnessFault) × FirstUnfit t (sentences_of file) f)
+      pub updated_or_unfit : (file : MsgFile) → AreSentencesOf (length t.grammar.starts) t.grammar.tokens file → ((text : Text) × IsUpdated expected g a t file text) ⊎ ((f : SoundnessFault) × FirstUnfit t (sentences_of file) f)
       updated_or_unfit file of = by (settle (sentences_of file) (of_entries file.entries of))
         where
-          by : Settled (sentences_of file) → ((text : Text) × IsUpdated g a t file text) ⊎ ((f : SoundnessFault) × FirstUnfit t (sentences_of file) f)
+          by : Settled (sentences_of file) → ((text : Text) × IsUpdated expected g a t file text) ⊎ ((f : SoundnessFault) × FirstUnfit t (sentences_of file) f)
           by (inl (cs, are)) = inl (updated file.lines cs, (cs, are, refl))
           by (inr (f, first)) = inr (f, first)

@@ -9,29 +9,25 @@ ghost use Rattle.mh_report_comments.specs.Fitting.{FitsStates};
 ghost use Rattle.mh_update_renewed.specs.Updates.{AreComments, IsComment, AreCommentsOrFault as CommentsOf};
 
 use mh_check::{CheckFault, failing_state};
-use mh_grammar::{Grammar, Memory, Sequence};
-use mh_items_kernels::Automaton;
+use mh_grammar::{Memory, Sequence};
 use mh_msgfile::{Entry, MsgSentence};
-use mh_report_comments::comment_lines;
-use mh_tables_core::Halting;
+use mh_report_comments::Commenter;
 use mh_update_renewed::Comment;
 use std::alloc::Global;
 
 /// The comment of a sentence that fails.
 fn comment_of<const W: usize>(
     alloc: Global,
-    grammar: &Grammar,
-    automaton: &Automaton<W>,
-    table: &Halting,
+    commenter: &Commenter<'_, W>,
     sentence: &MsgSentence,
 ) -> Result<Comment, Memory>
-    requires fits { FitsStates W grammar.now automaton.now table.now }
-    requires known { IsSentenceOf (length table.now.grammar.starts) table.now.grammar.tokens sentence.now }
-    requires fails { (s : ℕ) × FailsIn table.now sentence.now s }
-    ensures { IfOk result (IsComment grammar.now automaton.now table.now sentence.now) }
+    requires fits { FitsStates W commenter.now.grammar.now commenter.now.automaton.now commenter.now.table.now }
+    requires known { IsSentenceOf (length commenter.now.table.now.grammar.starts) commenter.now.table.now.grammar.tokens sentence.now }
+    requires fails { (s : ℕ) × FailsIn commenter.now.table.now sentence.now s }
+    ensures { IfOk result (IsComment commenter.now.expected commenter.now.grammar.now commenter.now.automaton.now commenter.now.table.now sentence.now) }
 {
     let tokens = sentence.tokens.as_slice();
-    let text = comment_lines(alloc, grammar, automaton, table, sentence.start, tokens)?;
+    let text = commenter.comments(alloc, sentence.start, tokens)?;
     Ok(Comment {
         line: sentence.line,
         text: Sequence::from_vec(text),
@@ -41,17 +37,15 @@ fn comment_of<const W: usize>(
 /// The comment of a sentence, or the reason why it has none.
 fn checked_comment<const W: usize>(
     alloc: Global,
-    grammar: &Grammar,
-    automaton: &Automaton<W>,
-    table: &Halting,
+    commenter: &Commenter<'_, W>,
     sentence: &MsgSentence,
 ) -> Result<Comment, CheckFault>
-    requires fits { FitsStates W grammar.now automaton.now table.now }
-    requires known { IsSentenceOf (length table.now.grammar.starts) table.now.grammar.tokens sentence.now }
-    ensures { MatchResult result (IsComment grammar.now automaton.now table.now sentence.now) (λ fault. ReportsCheckFault fault (BreaksSoundness table.now [] sentence.now)) }
+    requires fits { FitsStates W commenter.now.grammar.now commenter.now.automaton.now commenter.now.table.now }
+    requires known { IsSentenceOf (length commenter.now.table.now.grammar.starts) commenter.now.table.now.grammar.tokens sentence.now }
+    ensures { MatchResult result (IsComment commenter.now.expected commenter.now.grammar.now commenter.now.automaton.now commenter.now.table.now sentence.now) (λ fault. ReportsCheckFault fault (BreaksSoundness commenter.now.table.now [] sentence.now)) }
 {
-    match failing_state(alloc, table, sentence) {
-        Ok(_state) => match comment_of(alloc, grammar, automaton, table, sentence) {
+    match failing_state(alloc, commenter.table, sentence) {
+        Ok(_state) => match comment_of(alloc, commenter, sentence) {
             Ok(comment) => Ok(comment),
             Err(Memory) => Err(CheckFault::Memory),
         },
@@ -62,18 +56,16 @@ fn checked_comment<const W: usize>(
 /// Appends the comments of some sentences.
 fn put_comments<const W: usize>(
     alloc: Global,
-    grammar: &Grammar,
-    automaton: &Automaton<W>,
-    table: &Halting,
+    commenter: &Commenter<'_, W>,
     sentences: &[MsgSentence],
     comments: &mut Vec<Comment>,
 ) -> Result<(), CheckFault>
-    requires fits { FitsStates W grammar.now automaton.now table.now }
-    requires known { AllByRecursion (IsSentenceOf (length table.now.grammar.starts) table.now.grammar.tokens) sentences.now }
-    ensures { (done : List MsgSentence') → AreComments grammar.now automaton.now table.now done comments.old.items → CommentsOf grammar.now automaton.now table.now (done ++ sentences.now) comments.new.items result }
+    requires fits { FitsStates W commenter.now.grammar.now commenter.now.automaton.now commenter.now.table.now }
+    requires known { AllByRecursion (IsSentenceOf (length commenter.now.table.now.grammar.starts) commenter.now.table.now.grammar.tokens) sentences.now }
+    ensures { (done : List MsgSentence') → AreComments commenter.now.expected commenter.now.grammar.now commenter.now.automaton.now commenter.now.table.now done comments.old.items → CommentsOf commenter.now.expected commenter.now.grammar.now commenter.now.automaton.now commenter.now.table.now (done ++ sentences.now) comments.new.items result }
 {
     for sentence in sentences {
-        match checked_comment(alloc, grammar, automaton, table, sentence) {
+        match checked_comment(alloc, commenter, sentence) {
             Ok(comment) => match comments.push(comment) {
                 Ok(()) => {}
                 Err(_) => return Err(CheckFault::Memory),
@@ -87,20 +79,18 @@ fn put_comments<const W: usize>(
 /// Appends the comments of all sentences of these entries to an empty vector.
 pub(crate) fn all_comments<const W: usize>(
     alloc: Global,
-    grammar: &Grammar,
-    automaton: &Automaton<W>,
-    table: &Halting,
+    commenter: &Commenter<'_, W>,
     entries: &[Entry],
     comments: &mut Vec<Comment>,
 ) -> Result<(), CheckFault>
-    requires fits { FitsStates W grammar.now automaton.now table.now }
-    requires known { AllByRecursion (λ entry. AllByRecursion (IsSentenceOf (length table.now.grammar.starts) table.now.grammar.tokens) entry.sentences) entries.now }
+    requires fits { FitsStates W commenter.now.grammar.now commenter.now.automaton.now commenter.now.table.now }
+    requires known { AllByRecursion (λ entry. AllByRecursion (IsSentenceOf (length commenter.now.table.now.grammar.starts) commenter.now.table.now.grammar.tokens) entry.sentences) entries.now }
     requires none { comments.old.items ≡ [] }
-    ensures { CommentsOf grammar.now automaton.now table.now (flat_map (λ entry. entry.sentences) entries.now) comments.new.items result }
+    ensures { CommentsOf commenter.now.expected commenter.now.grammar.now commenter.now.automaton.now commenter.now.table.now (flat_map (λ entry. entry.sentences) entries.now) comments.new.items result }
 {
     for entry in entries {
         let sentences = entry.sentences.as_slice();
-        match put_comments(alloc, grammar, automaton, table, sentences, comments) {
+        match put_comments(alloc, commenter, sentences, comments) {
             Ok(()) => {}
             Err(fault) => return Err(fault),
         }

@@ -11,6 +11,7 @@ use mh_check::CheckFault;
 use mh_grammar::{Grammar, Memory, Name};
 use mh_items_kernels::Automaton;
 use mh_msgfile::MsgFile;
+use mh_report_comments::Commenter;
 use mh_tables_core::Halting;
 use mh_update_renewed::Comment;
 use std::alloc::Global;
@@ -90,22 +91,28 @@ fn with_comments(alloc: Global, lines: &[Name], comments: &[Comment]) -> Result<
 
 /// Brings a messages file up to date: returns its lines that do not begin with `##`, in order, with the comment lines
 /// of each sentence after its line, made by this grammar, automaton and table. Fails at the first sentence that is not
-/// refused, or is refused before its last token; two sentences may fail in the same state. Fails with `Memory` only if
-/// memory runs out.
+/// refused, or is refused before its last token; two sentences may fail in the same state. If `expected` is true, the
+/// comment lines end with the expected tokens. Fails with `Memory` only if memory runs out.
 pub fn update<const W: usize>(
     alloc: Global,
     grammar: &Grammar,
     automaton: &Automaton<W>,
     table: &Halting,
     file: &MsgFile,
+    expected: bool,
 ) -> Result<Vec<u8>, CheckFault>
     requires fits { FitsStates W grammar.now automaton.now table.now }
     requires known { AreSentencesOf (length table.now.grammar.starts) table.now.grammar.tokens file.now }
-    ensures { MatchResult result (λ text. IsUpdated grammar.now automaton.now table.now file.now text.items) (λ fault. ReportsCheckFault fault (FirstUnfit table.now (sentences_of file.now))) }
+    ensures { MatchResult result (λ text. IsUpdated expected grammar.now automaton.now table.now file.now text.items) (λ fault. ReportsCheckFault fault (FirstUnfit table.now (sentences_of file.now))) }
 {
+    let commenter = Commenter {
+        grammar,
+        automaton,
+        table,
+        expected,
+    };
     let mut comments = Vec::new(alloc);
-    let entries = file.entries.as_slice();
-    match all_comments(alloc, grammar, automaton, table, entries, &mut comments) {
+    match all_comments(alloc, &commenter, file.entries.as_slice(), &mut comments) {
         Ok(()) => match with_comments(alloc, file.lines.as_slice(), comments.as_slice()) {
             Ok(text) => Ok(text),
             Err(Memory) => Err(CheckFault::Memory),

@@ -7,7 +7,7 @@ use Rattle.mh_items_kernels.specs.KernelTypes.{Automaton}
 use Rattle.mh_tables_core.specs.Table.{TableData}
 use Rattle.mh_msgfile.specs.declared.messages.MsgSentence.{MsgSentence}
 use Rattle.mh_msgfile.specs.declared.messages.MsgFile.{MsgFile}
-use Rattle.mh_report_comments.specs.Comments.{IsCommentText}
+use Rattle.mh_report_comments.specs.Comments.{IsCommentBlock}
 use Rattle.mh_check.specs.Checks.{BreaksSoundness, FailsIn, SoundnessFault, sentences_of}
 use Rattle.mh_check.specs.Compiling.{ReportsCheckFault}
 use Rattle.mh_check.specs.declared.compiling.CheckFault.{CheckFault}
@@ -16,13 +16,14 @@ use Rattle.mh_grammar.specs.Text.{Text}
 
 -- ---- Comment lines.
 
--- The comment has the comment lines of a sentence that fails, and the line number of the sentence.
-abbrev pub IsComment : Grammar → Automaton → TableData → MsgSentence → Comment → Type 0
-IsComment g a t x c = (c.line ≡ x.line) × IsCommentText g a t x.start x.tokens c.text
+-- The comment has the comment lines of a sentence that fails, with the expected tokens or without, and the line number
+-- of the sentence.
+abbrev pub IsComment : (expected : Bool) → Grammar → Automaton → TableData → MsgSentence → Comment → Type 0
+IsComment expected g a t x c = (c.line ≡ x.line) × IsCommentBlock expected g a t x.start x.tokens c.text
 
 -- The comments are those of these sentences, in order.
-abbrev pub AreComments : Grammar → Automaton → TableData → List MsgSentence → List Comment → Type 0
-AreComments g a t xs cs = AllZip (IsComment g a t) xs cs
+abbrev pub AreComments : (expected : Bool) → Grammar → Automaton → TableData → List MsgSentence → List Comment → Type 0
+AreComments expected g a t xs cs = AllZip (IsComment expected g a t) xs cs
 
 -- ---- Lines.
 
@@ -48,8 +49,8 @@ abbrev pub updated : List Text → List Comment → Text
 updated lines cs = updated_from 0 lines cs
 
 -- All sentences of the file fail, and the text is the file brought up to date.
-abbrev pub IsUpdated : Grammar → Automaton → TableData → MsgFile → Text → Type 0
-IsUpdated g a t file text = (cs : List Comment) × AreComments g a t (sentences_of file) cs × (text ≡ updated file.lines cs)
+abbrev pub IsUpdated : (expected : Bool) → Grammar → Automaton → TableData → MsgFile → Text → Type 0
+IsUpdated expected g a t file text = (cs : List Comment) × AreComments expected g a t (sentences_of file) cs × (text ≡ updated file.lines cs)
 
 -- ---- Faults.
 
@@ -63,6 +64,6 @@ pub record FirstUnfit (t : TableData) (xs : List MsgSentence) (fault : Soundness
   pub breaks : BreaksSoundness t [] sentence fault
 
 -- The result is the comments of these sentences, or the fault of the first sentence that has none.
-abbrev pub AreCommentsOrFault : Grammar → Automaton → TableData → List MsgSentence → List Comment → {T : Type 0} → Result T CheckFault → Type 0
-AreCommentsOrFault g a t xs cs (Ok _) = AreComments g a t xs cs
-AreCommentsOrFault g a t xs cs (Err fault) = ReportsCheckFault fault (FirstUnfit t xs)
+abbrev pub AreCommentsOrFault : (expected : Bool) → Grammar → Automaton → TableData → List MsgSentence → List Comment → {T : Type 0} → Result T CheckFault → Type 0
+AreCommentsOrFault expected g a t xs cs (Ok _) = AreComments expected g a t xs cs
+AreCommentsOrFault expected g a t xs cs (Err fault) = ReportsCheckFault fault (FirstUnfit t xs)

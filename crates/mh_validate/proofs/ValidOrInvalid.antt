@@ -95,5 +95,5 @@ module _ (g : Grammar) (raw : RawTable) where
     | inr enough ↦ with_states header enough
   ]
 
-  pub none_neither : NotLacking Tested
-  none_neither = chain (decided (HasHeader g raw)) (λ d. elim d [ inl header ↦ with_header header | inr none ↦ given (inr (None, reasons.Header, none)) ])
+  pub valid_or_invalid : NotLacking Tested
+  valid_or_invalid = chain (decided (HasHeader g raw)) (λ d. elim d [ inl header ↦ with_header header | inr none ↦ given (inr (None, reasons.Header, none)) ])

@@ -1,2 +1,3 @@
+pub mod CanBeValidated
 pub mod Outcome
 pub mod code

@@ -8,9 +8,10 @@ ghost use Rattle.mh_items_kernels.specs.Automaton.{IsAutomaton};
 ghost use Rattle.mh_resolve_cells.specs.States.{IsTableOf};
 ghost use Rattle.mh_resolve_cells.specs.Conflicts.{AreConflicts};
 ghost use Rattle.mh_validate_valid.specs.declared.reason.Reason.{Reason as ReasonOf};
-ghost use Rattle.mh_validate_valid.specs.Valid.{AreKernels, AreTokenNamesDistinct, HasHeader, HasStates, IsInvalidAt, IsValid, IsValidFor, reason_of, raw_state};
+ghost use Rattle.mh_validate_valid.specs.Valid.{AreKernels, HasHeader, HasStates, IsInvalidAt, IsValid, IsValidFor, reason_of, raw_state};
 ghost use Rattle.mh_tabfile_form.specs.TableContent.{raw_cells};
 ghost use Rattle.mh_validate.specs.code.FirstRows.{AreFirstRows, AreRows, AreResolvedRows};
+ghost use Rattle.mh_validate.specs.CanBeValidated.{CanBeValidated};
 ghost use Rattle.mh_validate.specs.Outcome.{IsFault, IsOutcome};
 
 use crate::fault::ValidFault;
@@ -225,9 +226,7 @@ fn validation_of<const W: usize>(
     raw: &RawTable,
 ) -> Result<Valid<W>, ValidFault>
     requires fits { FitsSets W grammar.now }
-    requires costs { HaveCosts grammar.now.tokens }
-    requires distinct_names { AreTokenNamesDistinct grammar.now }
-    requires small { length raw.now.states < 2 ^ 32 }
+    requires input { CanBeValidated grammar.now raw.now }
     ensures { IsOutcome grammar.now raw.now result }
 {
     if !has_header(grammar, raw) {
@@ -263,9 +262,7 @@ pub fn validate<const W: usize>(
     raw: &RawTable,
 ) -> Result<Valid<W>, ValidFault>
     requires fits { FitsSets W grammar.now }
-    requires costs { HaveCosts grammar.now.tokens }
-    requires distinct_names { AreTokenNamesDistinct grammar.now }
-    requires small { length raw.now.states < 2 ^ 32 }
+    requires input { CanBeValidated grammar.now raw.now }
     ensures exact { (result ≡ Err ValidFault.Memory) ⊎ (IsTrue (is_ok result) ↔ IsValid grammar.now raw.now) }
     ensures valid { IfOk result (λ v. IsValidFor grammar.now raw.now v.automaton v.table.states) }
     ensures automaton { IfOk result (λ v. IsAutomaton (plain_of grammar.now) v.automaton) }

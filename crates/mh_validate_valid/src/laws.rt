@@ -34,8 +34,8 @@ pub fn written_is_valid<const W: usize>(grammar: &Grammar, automaton: &Automaton
     let _mode = mode;
 }
 
-/// A file that passes all tests fails none.
-pub fn valid_or_invalid(grammar: &Grammar, raw: &RawTable)
+/// A valid file does not fail any test.
+pub fn valid_is_not_invalid(grammar: &Grammar, raw: &RawTable)
     requires { AreTokenNamesDistinct grammar.now }
     ensures { IsValid grammar.now raw.now → (state : Option ℕ) (reason : ReasonOf) → IsInvalidAt grammar.now raw.now state reason → ⊥ }
 {
@@ -44,7 +44,7 @@ pub fn valid_or_invalid(grammar: &Grammar, raw: &RawTable)
 }
 
 /// A valid file names one automaton. The first failing test of any other file is unique.
-pub fn validity_is_one(grammar: &Grammar, raw: &RawTable)
+pub fn validity_is_unique(grammar: &Grammar, raw: &RawTable)
     requires { AreTokenNamesDistinct grammar.now }
     ensures automaton { (a b : AutomatonOf) (ps qs : List StateParts) → IsValidFor grammar.now raw.now a ps → IsValidFor grammar.now raw.now b qs → a ≡ b }
     ensures test { (s t : Option ℕ) (r q : ReasonOf) → IsInvalidAt grammar.now raw.now s r → IsInvalidAt grammar.now raw.now t q → (s ≡ t) × (r ≡ q) }

@@ -13,7 +13,7 @@ mod targets;
 pub use cells::{cells_at, count_right, wrong_lines};
 pub use header::has_header;
 pub use items::{is_end, is_moved};
-pub use laws::{valid_is_automaton, valid_or_invalid, validity_is_one, written_is_valid};
+pub use laws::{valid_is_automaton, valid_is_not_invalid, validity_is_unique, written_is_valid};
 pub use names::is_named;
 pub use reason::Reason;
 pub use targets::is_kernel_within;

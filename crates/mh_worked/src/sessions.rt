@@ -123,7 +123,7 @@ fn each_reply_is_that_of_its_branch(rt: HostRuntime) -> Result<(), Fail> {
     check_cases(rt.alloc(), REPLIES)
 }
 
-/// A list with its items before the rest of the list.
+/// A list that recurses at the right, so that each token makes the stack higher.
 const CHAIN: &str = "g.mly
 %token A B
 %start s

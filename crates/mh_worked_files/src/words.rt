@@ -18,9 +18,11 @@ fn job_name(job: &Job) -> &'static [u8] {
         Job::EchoErrors { .. } => b"echo",
         Job::UpdateErrors { .. } => b"update",
         Job::RebaseErrors { .. } => b"rebase",
+        Job::CheckErrors { .. } => b"check-errors",
         Job::Sample { .. } => b"sample",
         Job::ShortestSentences => b"shortest",
         Job::RandomSentence { .. } => b"random",
+        Job::Explain => b"conflicts",
     }
 }
 
@@ -57,6 +59,7 @@ fn put_order(alloc: Global, text: &mut Vec<u8>, order: &Order) {
     put_if(text, !order.stdlib, b" bare");
     put_if(text, order.show_cst, b" trees");
     put_if(text, order.show_expected, b" expected");
+    put_if(text, order.comment_expected, b" comments");
     for file in order.grammars.as_slice() {
         put(text, b" :");
         put(text, file.as_slice());
@@ -115,6 +118,9 @@ const CASES: &str = "--interpret g.mly~interpret :g.mly^\
     --rebase-errors m g.mly~rebase :g.mly^\
     --rebase-errors m --list-errors g.mly~two modes^\
     --rebase-errors m~no grammar^\
+    --check-errors m g.mly~check-errors :g.mly^\
+    --check-errors m --rebase-errors m g.mly~two modes^\
+    --check-errors m~no grammar^\
     --sample 7~sample 7^\
     --sample=9999 --canonical~sample 9999 canonical^\
     --sample=0070 --strict~sample 70 strict^\
@@ -156,6 +162,22 @@ const CASES: &str = "--interpret g.mly~interpret :g.mly^\
     --interpret=yes g.mly~bad words^\
     --interpret -x g.mly~bad words^\
     --interpret -- -x --~interpret :-x :--^\
+    --explain g.mly~conflicts :g.mly^\
+    --explain --canonical --strict g.mly~conflicts canonical strict :g.mly^\
+    --explain~no grammar^\
+    --explain --list-errors g.mly~two modes^\
+    --explain=yes g.mly~bad words^\
+    --list-errors --comment-expected g.mly~list comments :g.mly^\
+    --update-errors m --comment-expected g.mly~update comments :g.mly^\
+    --rebase-errors m --comment-expected g.mly~rebase comments :g.mly^\
+    --comment-expected --interpret-error g.mly~explain comments :g.mly^\
+    --comment-expected g.mly~no mode^\
+    --interpret --comment-expected g.mly~--comment-expected^\
+    --echo-errors m --comment-expected g.mly~--comment-expected^\
+    --explain --comment-expected~--comment-expected^\
+    --sample 7 --comment-expected~--comment-expected^\
+    --length 2 --explain --comment-expected g.mly~--length^\
+    --session --show-expected --comment-expected g.mly~--show-expected^\
     --shortest-sentences g.mly~shortest :g.mly^\
     --shortest-sentences~no grammar^\
     --shortest-sentences --list-errors g.mly~two modes^\
@@ -203,6 +225,6 @@ pub fn put_words(alloc: Global, text: &mut Vec<u8>, line: &str) {
 
 #[test]
 fn cases(rt: HostRuntime) -> Result<(), Fail> {
-    check_cases(rt.alloc(), &Subject::Words, CASES, 90)?;
+    check_cases(rt.alloc(), &Subject::Words, CASES, 109)?;
     check_cases(rt.alloc(), &Subject::NoWords, "~no mode", 1)
 }

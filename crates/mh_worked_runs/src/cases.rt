@@ -1,4 +1,5 @@
-//! The questions of the cases about runs: sentences with their verdicts and trees, and sentences of a grammar.
+//! The cases on runs, which are sentences with their verdicts and trees, and on the sentences of a grammar: the answer
+//! to each kind of question.
 use crate::{catalogues, runs, samples, sentences, trees};
 use mh_grammar::Grammar;
 use mh_worked_grammars::{Questions, check_cases as check_all};

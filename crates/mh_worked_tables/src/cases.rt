@@ -1,4 +1,4 @@
-//! The questions of the cases about what is made of a grammar, up to its table.
+//! The cases on what is computed from a grammar, from its FIRST sets to its table: the answer to each kind of question.
 use crate::{automata, closures, resolving, sets, tables, widths};
 use mh_grammar::Grammar;
 use mh_worked_grammars::{Questions, check_cases as check_all};

@@ -29,7 +29,7 @@ pub record IsStateClosure (g : PlainGrammar) (closed : Items) : Type 0 where
   pub start : ℕ
   pub path : List Symbol
   pub known : start < length g.starts
-  pub kernel : IsItemList g closed
+  pub is_list : IsItemList g closed
   pub same : AreSameItems (Holds closed) (Close g (PathItems g start path))
 
 -- The row has an edge for each symbol, to the kernel of the move on this symbol; new kernels were appended in the order

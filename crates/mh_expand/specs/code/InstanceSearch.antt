@@ -11,7 +11,8 @@ use Rattle.mh_rules.specs.declared.joined.Applied.{Applied}
 use Rattle.mh_rules.specs.declared.joined.JoinedAlternative.{JoinedAlternative}
 use Rattle.mh_rules.specs.declared.instances.InstanceProduction.{InstanceProduction}
 use Rattle.mh_rules.specs.declared.instances.Instance.{Instance}
-use Rattle.mh_expand.specs.Expansion.{IsInstance, HasNoFault, HasRightArity, IsPart, right_side, producers_of, start_terms, found_terms, IsFindingOrder, Declares, IsOnErrorRank, IsProduction, IsInstanceOf}
+use Rattle.mh_expand.specs.declared.fault.ExpandFault.{ExpandFault}
+use Rattle.mh_expand.specs.Expansion.{IsInstance, HasNoFault, HasRightArity, IsFault, IsMemoryOr, IsPart, right_side, producers_of, start_terms, found_terms, IsFindingOrder, Declares, IsOnErrorRank, IsProduction, IsInstanceOf}
 use Rattle.mh_expand.specs.code.SharedTerms.{terms_at, IsExtendedBy}
 
 -- The first occurrence of the instance t in the list `before`: all instances in front of it are among the earlier
@@ -46,6 +47,14 @@ pub record FindsTerm (j : Joined) (before ts : List Term) (t : Term) (old new : 
   pub search : IsInstanceSearch j (before ++ t ∷ []) ts new
   pub part : IsPart (terms_at ts new) t p
   pub grows : (more : List ℕ) × (new ≡ old ++ more)
+
+-- After any terms for which the search has these instances, the term t has no fault, and p is its part.
+abbrev pub FindsTermAfterAny : Joined → List Term → Term → List ℕ → List ℕ → Part → Type 0
+FindsTermAfterAny j ts t old new p = (before : List Term) → IsInstanceSearch j before ts old → FindsTerm j before ts t old new p
+
+-- After any terms for which the search has these instances, the term t has this fault, or memory ran out.
+abbrev pub IsFaultAfterAny : Joined → List Term → Term → List ℕ → ExpandFault → Type 0
+IsFaultAfterAny j ts t old fault = (before : List Term) → IsInstanceSearch j before ts old → IsMemoryOr (IsFault j before t) fault
 
 -- The terms `seen`, found after the terms `before`, have no fault; the terms and the instances may have grown.
 pub record FindsTerms (j : Joined) (before seen ts us : List Term) (old new : List ℕ) : Type 0 where

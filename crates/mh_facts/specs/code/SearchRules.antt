@@ -96,11 +96,11 @@ pub record IsCompletePathOf (t : TableData) (c : TokenClasses) (p : SettledFact)
 abbrev pub queue_of : SearchData → List (Rattle.std.specs.Global.Vec QueuedFact)
 queue_of work = work.queue.buckets.items
 
--- The settled facts that are filed at this class number, which wait for a goto.
+-- The settled facts in the row of this class number, which wait for a goto.
 abbrev pub paths_at : SearchData → ℕ → List SettledFact
 paths_at work n = row_of work.paths.items n
 
--- The complete paths that are filed at this class number.
+-- The complete paths in the row of this class number.
 abbrev pub complete_paths_at : SearchData → ℕ → List CompletePath
 complete_paths_at work n = row_of work.complete_paths.items n
 
@@ -125,7 +125,7 @@ pub data Follows (t : TableData) (c : TokenClasses) (old new : SearchData) (p : 
   Join : (w : CompletePath) → Contains (complete_paths_at new (place_of c p.end p.key.next)) w → FollowsGoto t p w cost o → Follows t c old new p cost o
   Meet : (w : CompletePath) (q : SettledFact) → IsCompletePathOf t c p w → Contains (paths_at old (place_of c p.key.from p.key.first)) q → FollowsGoto t q w cost o → Follows t c old new p cost o
 
--- The settled fact p is filed, and all facts that follow from it wait in the queue.
+-- The settled fact p is in its row, and all facts that follow from p wait in the queue.
 pub record ExpandsFact (t : TableData) (c : TokenClasses) (old new : SearchData) (p : SettledFact) : Type 0 where
   pub paths_rows : length new.paths.items ≡ length old.paths.items
   pub complete_paths_rows : length new.complete_paths.items ≡ length old.complete_paths.items

@@ -53,8 +53,8 @@ abbrev pub name_of : StartName → Option Text
 name_of LeftOut = None
 name_of (Named name) = Some name.now
 
--- All pieces of the text are words, and the result has their tokens or the first piece that no token has for its name;
--- or the fault says that some piece is no word.
+-- If all pieces of the text are words: `tokens` are their tokens and the result is `None`, or the result is the first
+-- piece that is not the name of a token. Otherwise the fault says that some piece is no word.
 abbrev pub AreTokens : Vocabulary → Text → List ℕ → Result (Option (Bor Text)) SentenceFault → Type 0
 AreTokens v text tokens (Ok None) = (list_all is_word (pieces text) ≡ true) × (tokens_of v (pieces text) ≡ Tokens tokens)
 AreTokens v text tokens (Ok (Some name)) = (list_all is_word (pieces text) ≡ true) × (tokens_of v (pieces text) ≡ Unknown name.now)
@@ -68,11 +68,13 @@ IsUnknownToken name (faults.UnknownToken other) = name ≡ other
 IsUnknownToken name faults.Memory = ⊤
 IsUnknownToken name _ = ⊥
 
--- The result for names after names of the tokens `before`.
+-- The tokens `before` followed by the result for the rest of the names.
 abbrev pub after_tokens : List ℕ → TokensResult → TokensResult
 after_tokens before (Tokens tokens) = Tokens (before ++ tokens)
 after_tokens before (Unknown name) = Unknown name
 
+-- The result for all names: the first name that no token has, if it was found; otherwise the tokens `before` followed
+-- by the result for the rest of the names.
 abbrev pub after_unknown : Option (Bor Text) → List ℕ → TokensResult → TokensResult
 after_unknown None before found = after_tokens before found
 after_unknown (Some name) before found = Unknown name.now

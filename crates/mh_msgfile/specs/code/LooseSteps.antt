@@ -1,14 +1,12 @@
 -- The contract of the steps that read a messages file without a grammar.
-use Rattle.std.specs.Prelude.{◌≡◌, ℕ, List, Option, None, Some, Result, Ok, Err, ⊤}
+use Rattle.std.specs.Prelude.{◌≡◌, ℕ, List, Option, option_map}
 use Rattle.mh_grammar.specs.Text.{Text}
 use Rattle.mh_msgfile.specs.Messages.{first_number}
 use Rattle.mh_msgfile.specs.LooseFiles.{loose_entries, unpaired_block}
 use Rattle.mh_msgfile.specs.declared.loose.LooseEntry.{LooseEntry}
-use Rattle.mh_msgfile.specs.declared.loose.LooseFault.{LooseFault}
-use Rattle.mh_msgfile.specs.declared.loose.LooseFault.TheVariants as faults
 
--- The entries are those of these blocks, or the fault has the first line of the block that has no message.
-abbrev pub ReadsLooseEntries : List Text → List (List ℕ) → List LooseEntry → Result (Unit {0}) LooseFault → Type 0
-ReadsLooseEntries lines bs entries (Ok _) = (unpaired_block bs ≡ None) × (entries ≡ loose_entries lines bs)
-ReadsLooseEntries lines bs entries (Err (faults.Shape line)) = (block : List ℕ) × (unpaired_block bs ≡ Some block) × (line ≡ first_number block)
-ReadsLooseEntries lines bs entries (Err faults.Memory) = ⊤
+-- The entries are those of these blocks, and the number is that of the first line of the last block, if this block has
+-- no message.
+pub record ReadsLooseEntries (lines : List Text) (bs : List (List ℕ)) (entries : List LooseEntry) (unpaired : Option ℕ) : Type 0 where
+  pub entries_are : entries ≡ loose_entries lines bs
+  pub unpaired_is : unpaired ≡ option_map first_number (unpaired_block bs)

@@ -1,21 +1,23 @@
--- Definitions of the best candidate for the sentence of each state, by the results of both searches. A spot is a state
--- with a next token; an arrival is the least sentence by which the second search reaches a spot.
+-- Definitions of the best candidate for the sentence of each state, and of the labels of arrivals, by the results of
+-- both searches. A spot is a state with a next token; an arrival is the least sentence by which the second search
+-- reaches a spot.
 use Rattle.std.specs.Prelude.{◌≡◌, ℕ, List, [], ◌∷◌, ◌++◌, length, slice_get, Option, Some, None, ◌<◌, ◌≤◌, ◌⊎◌, ◌+◌, min}
 use Rattle.mh_tables_core.specs.Table.{TableData, cost_of_token}
 use Rattle.mh_tables_core.specs.Run.{Refuses, run_move_of}
 use Rattle.mh_facts.specs.declared.store.FactKey.{FactKey}
 use Rattle.mh_tables_core.specs.Failing.{Fails, Failing, SentenceAtMost, cost_of_word}
+use Rattle.mh_reach.specs.Coming.{Comes}
 use Rattle.mh_facts.specs.Stored.{Facts}
 use Rattle.mh_facts.specs.code.BestFirst.{Label}
 use Rattle.mh_facts.specs.Costs.{cap}
 use Rattle.mh_reach.specs.declared.sentences.FailureCandidate.{FailureCandidate}
-use Rattle.mh_facts.specs.code.WordAssignment.{WordAssignment}
+use Rattle.mh_facts.specs.code.WordAssignment.{WordAssignment, cost_up_to_cap}
 use Rattle.mh_reach_found.specs.declared.arrivals.StateAndNext.{StateAndNext}
 use Rattle.mh_reach_found.specs.declared.arrivals.ArrivalStep.{ArrivalStep}
 use Rattle.mh_reach_found.specs.declared.arrivals.ArrivalStep.TheVariants as steps
 use Rattle.mh_reach_found.specs.declared.arrivals.Arrival.{Arrival}
 use Rattle.mh_facts.specs.declared.classes.TokenClasses.{TokenClasses}
-use Rattle.mh_facts.specs.code.TokenClasses.{rep_of}
+use Rattle.mh_facts.specs.code.TokenClasses.{IsSized, rep_of}
 use Rattle.mh_reach_found.specs.code.Arrivals.{ArrivalList, LabelAssignment, arrival_at, spot}
 use Rattle.mh_reach_found.specs.code.SentenceComparison.{Precedes}
 
@@ -80,9 +82,23 @@ pub record AreBest (t : TableData) (c : TokenClasses) (facts : Facts) (spots : A
   pub len : length best ≡ n
   pub each : (s : ℕ) (b : Option FailureCandidate) → slice_get best s ≡ Some b → IsBestBelow t c facts spots s t.grammar.tokens b
 
--- The result of both searches, with the best candidate of each state.
-pub record IsReachResult (t : TableData) (facts : Facts) (spots : ArrivalList) (best : List (Option FailureCandidate)) : Type 0 where
+-- The label is the sentence that comes first of all that come to the state s with the token z next. Its cost by the
+-- weights of the search is its cost by the table.
+pub record IsComingLabel (t : TableData) (s z : ℕ) (l : Label) : Type 0 where
+  pub comes : Comes t l.start l.word s z
+  pub weighed : cost_up_to_cap t l.word ≡ min (cost_of_word t l.word) cap
+  pub first : (start : ℕ) (w : List ℕ) → Comes t start w s z → InOrderOr t l.start l.word start w
+
+abbrev pub IsComingAt : TableData → ℕ → ℕ → Option Label → Type 0
+IsComingAt t s z None = (start : ℕ) (w : List ℕ) → Comes t start w s z → ⊥
+IsComingAt t s z (Some l) = IsComingLabel t s z l
+
+-- The result of both searches, with the best candidate of each state. The label of each arrival is the first sentence
+-- that comes there.
+pub record IsReachResult (t : TableData) (c : TokenClasses) (facts : Facts) (spots : ArrivalList) (best : List (Option FailureCandidate)) : Type 0 where
+  pub sized : IsSized t c
   pub word_assignment : WordAssignment t facts
   pub label_assignment : LabelAssignment t word_assignment.words spots
   pub len : length best ≡ length t.states
   pub each : (s : ℕ) (b : Option FailureCandidate) → slice_get best s ≡ Some b → IsBestAt t word_assignment.words label_assignment.labels s b
+  pub comings : (s z : ℕ) → z < t.grammar.tokens → IsComingAt t s z (label_assignment.labels (spot_of c s z))

@@ -19,13 +19,19 @@ use Rattle.mh_reach_found.specs.declared.arrivals.Arrival.{Arrival}
 use Rattle.mh_reach_arrivals.specs.declared.queued_arrivals.WaitingArrival.{WaitingArrival}
 use Rattle.mh_facts.specs.code.Queues.{Waits, WaitsOrIsListed, IsOne, Below, Among}
 use Rattle.mh_reach_found.specs.code.QueueDraws.{DrawsOne, DrawsNone, AppendsUnlessDone, DrawsSome, DrawsAll}
-use Rattle.mh_facts.specs.code.TokenClasses.{rep_of, place_of, representatives_at}
+use Rattle.mh_facts.specs.code.TokenClasses.{AreTokenClasses, rep_of, place_of, representatives_at}
 use Rattle.mh_facts.specs.code.SearchRules.{complete_paths_at}
 use Rattle.mh_facts.specs.code.WordAssignment.{cost_up_to_cap}
 use Rattle.mh_reach_found.specs.declared.search_result.SearchResult.{SearchResult}
 use Rattle.mh_reach_found.specs.code.SearchResult.{GotoFactsIn, IsSearchResult}
 use Rattle.mh_reach_words.specs.code.Sorting.{IsSorted}
 use Rattle.mh_reach_found.specs.code.Arrivals.{LabelNoLater, ArrivalList, arrival_at, spot, LabelBy, LabelAssignment, labels_at, HasArrival}
+
+-- The classes are those of the table, the spot k is at one of its states, and the cost n is at most the highest cost.
+pub record CanStepFrom (t : TableData) (c : TokenClasses) (k : StateAndNext) (n : ℕ) : Type 0 where
+  pub classes : AreTokenClasses t c
+  pub state : k.state < length t.states
+  pub cost : n ≤ cap
 
 -- The arrival at a state by a step, with the next token z.
 abbrev pub StepsOn : ℕ → ℕ → ArrivalStep → ℕ → ℕ → WaitingArrival → Type 0

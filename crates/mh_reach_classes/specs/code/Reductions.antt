@@ -8,9 +8,10 @@ use Rattle.mh_tables_core.specs.Table.{TableData, state_at, edge_of}
 use Rattle.mh_facts.specs.code.BestFirst.{IsPathEnd}
 use Rattle.mh_reach_classes.specs.declared.leading_reductions.Reduction.{Reduction}
 
-abbrev pub EndOf : TableData → ℕ → ℕ → Option ℕ → Type 0
-EndOf t from production None = (e : ℕ) → IsPathEnd t from production (length (rhs_of t.grammar production)) e → ⊥
-EndOf t from production (Some e) = IsPathEnd t from production (length (rhs_of t.grammar production)) e
+-- The result is the state at the end of the path along the right side, or `None` if there is no such path.
+abbrev pub IsPathEndOrNone : TableData → ℕ → ℕ → Option ℕ → Type 0
+IsPathEndOrNone t from production None = (e : ℕ) → IsPathEnd t from production (length (rhs_of t.grammar production)) e → ⊥
+IsPathEndOrNone t from production (Some e) = IsPathEnd t from production (length (rhs_of t.grammar production)) e
 
 -- The reduction by the production p, of a path from `from`, with the goto to `target`.
 pub record IsReductionBy (t : TableData) (from target p : ℕ) (r : Reduction) : Type 0 where

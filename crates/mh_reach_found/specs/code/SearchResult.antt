@@ -21,7 +21,7 @@ use Rattle.mh_reach_found.specs.code.WordNumbers.{FactsAreNumbered}
 abbrev pub IsStored : Facts → FactKey → Type 0
 IsStored facts k = (f : Fact) × (fact_at facts k ≡ Some f)
 
--- The goto facts that are filed, with their words.
+-- The goto facts of the complete paths in the search data, each with the word of its path.
 abbrev pub GotoFactsIn : TokenClasses → (FactKey → Option (List ℕ)) → SearchData → (from nonterminal first next : ℕ) → List ℕ → Type 0
 GotoFactsIn c words work s n y x v = (w : CompletePath) × Contains (complete_paths_at work (place_of c s y)) w × (goto_fact w ≡ record { from = s; nonterminal = n; first = y; next = x }) × (words w.inner ≡ Some v)
 

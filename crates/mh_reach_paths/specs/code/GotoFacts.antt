@@ -3,6 +3,7 @@
 -- the first token and the next token.
 use Rattle.std.specs.Prelude.{◌≡◌, ℕ, List, length, ◌⊎◌}
 use Rattle.std.specs.List.{Contains}
+use Rattle.mh_grammar.specs.Plain.{rhs_of}
 use Rattle.mh_tables_core.specs.Table.{TableData}
 use Rattle.mh_facts.specs.declared.work.QueuedFact.{QueuedFact}
 use Rattle.mh_facts.specs.declared.work.SettledFact.{SettledFact}
@@ -11,8 +12,8 @@ use Rattle.mh_facts.specs.declared.work.GotoFact.{GotoFact}
 use Rattle.mh_facts.specs.declared.work.SearchData.{SearchData}
 use Rattle.mh_facts.specs.declared.classes.TokenClasses.{TokenClasses}
 use Rattle.mh_facts.specs.code.Queues.{Waits, Among, IsOne}
-use Rattle.mh_facts.specs.code.TokenClasses.{place_of}
-use Rattle.mh_facts.specs.code.SearchRules.{FollowsGoto, IsReducedOn, complete_path_of, goto_fact, IsCompletePathOf, queue_of, paths_at, complete_paths_at, KnowsGoto}
+use Rattle.mh_facts.specs.code.TokenClasses.{AreTokenClasses, place_of}
+use Rattle.mh_facts.specs.code.SearchRules.{FollowsGoto, HasRows, InRange, IsReducedOn, complete_path_of, goto_fact, IsCompletePathOf, queue_of, paths_at, complete_paths_at, KnowsGoto}
 
 abbrev pub with_next : QueuedFact → ℕ → QueuedFact
 with_next i z = record { key = record { from = i.key.from; production = i.key.production; dot = i.key.dot; first = i.key.first; next = z }; end = i.end; back = i.back }
@@ -23,6 +24,13 @@ WithNext cost item z = IsOne cost (with_next item z)
 -- The settled paths that a goto fact of p may extend.
 abbrev pub paths_before : TokenClasses → SearchData → SettledFact → List SettledFact
 paths_before c work p = paths_at work (place_of c p.key.from p.key.first)
+
+-- The path p is complete, and it and the paths in the rows are in the range of the table.
+pub record IsCompletePathIn (t : TableData) (c : TokenClasses) (work : SearchData) (p : SettledFact) : Type 0 where
+  pub classes : AreTokenClasses t c
+  pub rows : HasRows t c work
+  pub inner : InRange t p
+  pub whole : p.key.dot ≡ length (rhs_of t.grammar p.key.production)
 
 -- The goto fact of w is added with all facts that follow, if p is reduced on the next token of w and the goto fact is
 -- new.

@@ -53,7 +53,7 @@ pub record IsSoundItem (t : TableData) (rep : ℕ → ℕ → ℕ) (words : Fact
   pub short : cost ≡ 0 → word ≡ []
   pub sound : SoundFact t rep i.key word
 
--- A path that is filed is in range and stored, and its cost is the cost of its word.
+-- A path in a row of the search data is in range and stored, and its cost is the cost of its word.
 pub record IsSoundPath (t : TableData) (words : FactKey → Option (List ℕ)) (p : SettledFact) : Type 0 where
   pub range : InRange t p
   pub word : List ℕ

@@ -1,5 +1,5 @@
 -- The contracts of the functions that decide on the lines of a file and write what follows from the decisions.
-use Rattle.std.specs.Prelude.{◌≡◌, ℕ, Bool, List, [], ◌∷◌, ◌++◌, length, map, Option}
+use Rattle.std.specs.Prelude.{◌≡◌, ◌-◌, ℕ, Bool, true, false, List, [], ◌∷◌, ◌++◌, length, map, take, Option}
 use Rattle.mh_grammar.specs.declared.types.Grammar.{Grammar}
 use Rattle.mh_grammar.specs.declared.types.Sentence.{Sentence}
 use Rattle.mh_grammar.specs.Text.{Text}
@@ -12,7 +12,8 @@ use Rattle.mh_msgfile.specs.declared.sentence.SentenceFault.{SentenceFault}
 use Rattle.mh_msgfile.specs.FileTexts.{sentence_text}
 use Rattle.mh_msgfile.specs.declared.loose.LooseLine.{LooseLine}
 use Rattle.mh_msgfile.specs.declared.loose.LooseEntry.{LooseEntry}
-use Rattle.mh_report_comments.specs.Comments.{HasFarthestDot, comments}
+use Rattle.mh_expected.specs.Expected.{ExpectedTokens}
+use Rattle.mh_report_comments.specs.Comments.{HasFarthestDot, comments, expected_comment}
 use Rattle.mh_rebase_form.specs.Decisions.{Decision, Drop, DecidedLine, is_keep, kept_line, IsDecision, AreDecided}
 use Rattle.mh_rebase_form.specs.declared.reason.DropReason.{DropReason}
 use Rattle.mh_rebase_form.specs.RebasedText.{DecidedEntry, without_decisions, lines_in, has_kept, kept_sentence_text, kept_sentence_texts, kept_entries_text, dropped_line_text, dropped_lines_text, dropped_entries_text}
@@ -30,11 +31,18 @@ pub record HasNothing (t : TableData) (parts : Parts) : Type 0 where
   pub kept : parts.kept.items ≡ []
   pub dropped : parts.dropped.items ≡ []
 
--- The canonical line of a sentence and the comment lines of the state are appended.
-pub record WritesKeptSentence (g : Grammar) (a : Automaton) (x : Sentence) (state : ℕ) (reduced : List ℕ) (old new : Text) : Type 0 where
+-- The line of the expected tokens, if it is asked for.
+abbrev pub IsExpectedPart : (expected : Bool) → Grammar → TableData → Sentence → Text → Type 0
+IsExpectedPart false g t x text = text ≡ []
+IsExpectedPart true g t x text = (tokens : List ℕ) × ExpectedTokens t x.start (take (length x.tokens - 1) x.tokens) tokens × (text ≡ expected_comment g tokens)
+
+-- The canonical line of a sentence and the comment lines of the state are appended, with the expected tokens or without.
+pub record WritesKeptSentence (expected : Bool) (g : Grammar) (a : Automaton) (t : TableData) (x : Sentence) (state : ℕ) (reduced : List ℕ) (old new : Text) : Type 0 where
   pub item : KernelItem
   pub farthest : HasFarthestDot (kernel_at a state).items item
-  pub written : new ≡ old ++ (sentence_text g x.start x.tokens ++ 10 ∷ comments g (kernel_at a state).items state item reduced)
+  pub more : Text
+  pub is_more : IsExpectedPart expected g t x more
+  pub written : new ≡ old ++ (sentence_text g x.start x.tokens ++ 10 ∷ (comments g (kernel_at a state).items state item reduced ++ more))
 
 -- The line has this fault, and the line that reports its reason is appended.
 pub record DropsFault (line : ℕ) (fault : SentenceFault) (old new : Text) : Type 0 where
@@ -43,27 +51,27 @@ pub record DropsFault (line : ℕ) (fault : SentenceFault) (old new : Text) : Ty
   pub drops : new ≡ old ++ dropped_line_text line (Drop reason)
 
 -- A line with this reading is decided on, and the texts that follow are appended.
-pub record DecidesLine (g : Grammar) (a : Automaton) (t : TableData) (line : ℕ) (found : LineResult) (kept : Bool) (old new : Parts) : Type 0 where
+pub record DecidesLine (expected : Bool) (g : Grammar) (a : Automaton) (t : TableData) (line : ℕ) (found : LineResult) (kept : Bool) (old new : Parts) : Type 0 where
   pub decision : Decision
   pub kept_is : kept ≡ is_keep decision
   pub decided : (before : List DecidedLine) → AreKeptLines before old.kept_lines.items → (text : Text) → sentence_in (vocabulary_of g) text ≡ found
-      → IsDecision g a t before text decision × AreKeptLines (before ++ record { line = record { line = line; text = text }; decision = decision } ∷ []) new.kept_lines.items
+      → IsDecision expected g a t before text decision × AreKeptLines (before ++ record { line = record { line = line; text = text }; decision = decision } ∷ []) new.kept_lines.items
   pub keeps : new.kept.items ≡ old.kept.items ++ kept_sentence_text g decision
   pub drops : new.dropped.items ≡ old.dropped.items ++ dropped_line_text line decision
 
 -- These lines are decided on in order, and the texts that follow are appended.
-pub record DecidesLines (g : Grammar) (a : Automaton) (t : TableData) (lines : List LooseLine) (kept : Bool) (old new : Parts) : Type 0 where
+pub record DecidesLines (expected : Bool) (g : Grammar) (a : Automaton) (t : TableData) (lines : List LooseLine) (kept : Bool) (old new : Parts) : Type 0 where
   pub done : List DecidedLine
   pub of_lines : map (λ j. j.line) done ≡ lines
   pub kept_is : kept ≡ has_kept done
-  pub decided : (before : List DecidedLine) → AreKeptLines before old.kept_lines.items → AreDecided g a t before done × AreKeptLines (before ++ done) new.kept_lines.items
+  pub decided : (before : List DecidedLine) → AreKeptLines before old.kept_lines.items → AreDecided expected g a t before done × AreKeptLines (before ++ done) new.kept_lines.items
   pub keeps : new.kept.items ≡ old.kept.items ++ kept_sentence_texts g done
   pub drops : new.dropped.items ≡ old.dropped.items ++ dropped_lines_text done
 
 -- These entries are decided on in order, and the texts that follow are appended.
-pub record DecidesEntries (g : Grammar) (a : Automaton) (t : TableData) (entries : List LooseEntry) (old new : Parts) : Type 0 where
+pub record DecidesEntries (expected : Bool) (g : Grammar) (a : Automaton) (t : TableData) (entries : List LooseEntry) (old new : Parts) : Type 0 where
   pub done : List DecidedEntry
   pub of_entries : map without_decisions done ≡ entries
-  pub decided : (before : List DecidedLine) → AreKeptLines before old.kept_lines.items → AreDecided g a t before (lines_in done) × AreKeptLines (before ++ lines_in done) new.kept_lines.items
+  pub decided : (before : List DecidedLine) → AreKeptLines before old.kept_lines.items → AreDecided expected g a t before (lines_in done) × AreKeptLines (before ++ lines_in done) new.kept_lines.items
   pub keeps : new.kept.items ≡ old.kept.items ++ kept_entries_text g done
   pub drops : new.dropped.items ≡ old.dropped.items ++ dropped_entries_text done

@@ -16,9 +16,9 @@ pub record IsFitRow (t : TableData) (row : Row) : Type 0 where
   pub few : length row.sentence < 2 ^ 32
 
 -- Whether no kept sentence fails in the state of the row.
-abbrev pub is_left_out : List (Option ℕ) → TableRow → Bool
-is_left_out kept row = is_none (kept_line_in kept row.state)
+abbrev pub has_no_kept_line : List (Option ℕ) → TableRow → Bool
+has_no_kept_line kept row = is_none (kept_line_in kept row.state)
 
 -- The entries of the rows in whose states no kept sentence fails are appended.
-abbrev pub WritesRows : Grammar → Automaton → TableData → List (Option ℕ) → List Row → Text → Text → Type 0
-WritesRows g a t kept rows old new = (entries : Text) × AreEntries g a t (filter (is_left_out kept) (rows_of rows)) entries × (new ≡ old ++ entries)
+abbrev pub WritesRows : (expected : Bool) → Grammar → Automaton → TableData → List (Option ℕ) → List Row → Text → Text → Type 0
+WritesRows expected g a t kept rows old new = (entries : Text) × AreEntries expected g a t (filter (has_no_kept_line kept) (rows_of rows)) entries × (new ≡ old ++ entries)

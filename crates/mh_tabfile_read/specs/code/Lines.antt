@@ -26,19 +26,21 @@ abbrev pub is_other_number : Option ℕ → Bool
 is_other_number None = false
 is_other_number (Some n) = not (n == 1) && not (n == 2)
 
-abbrev pub are_other : List ℕ → List ℕ → List ℕ → Bool
-are_other w v m = if same_word w (codes "menhir-tables") then (if is_other_number (number_of v) then is_mode (mode_of m) else false) else false
+-- The three words are those of the first line of a table file, but with a version number that is not known.
+abbrev pub is_other_version : List ℕ → List ℕ → List ℕ → Bool
+is_other_version w v m = if same_word w (codes "menhir-tables") then (if is_other_number (number_of v) then is_mode (mode_of m) else false) else false
 
 -- The first line of a file that is split at LF: the first part, or the empty list if there is none.
 abbrev pub first_line : List (List ℕ) → List ℕ
 first_line [] = []
 first_line (part ∷ parts) = part
 
+-- The line is the first line of a table file with a version number that is not known.
 unfoldable pub is_other_head : Line → Bool
 is_other_head [] = false
 is_other_head (w ∷ []) = false
 is_other_head (w ∷ v ∷ []) = false
-is_other_head (w ∷ v ∷ m ∷ []) = are_other w v m
+is_other_head (w ∷ v ∷ m ∷ []) = is_other_version w v m
 is_other_head (w ∷ v ∷ m ∷ x ∷ ws) = false
 
 -- The lines before line `n` begin some file, but together with line `n` they do not.

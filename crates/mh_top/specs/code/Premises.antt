@@ -1,8 +1,9 @@
 -- The premises that the calls of the work share.
-use Rattle.std.specs.Prelude.{ℕ, ◌<◌, ◌≤◌, length}
+use Rattle.std.specs.Prelude.{ℕ, ◌<◌, length}
 use Rattle.std.specs.List.{All}
 use Rattle.mh_grammar.specs.Costs.{HaveCosts}
 use Rattle.mh_grammar.specs.Text.{Text}
+use Rattle.mh_items.specs.Fitting.{FitsSets}
 use Rattle.mh_opts.specs.Orders.{IsWithinLimits}
 use Rattle.mh_top_plans.specs.Files.{files_of_mode}
 use Rattle.mh_top_tables.specs.MayAskForTables.{MayAskForTables}
@@ -21,10 +22,10 @@ pub record AllowsWork (front : OrderAndGrammar) (MayAsk : Text → Type 0) : Typ
   pub tables : MayAskForTables front.order MayAsk
   pub asked : All MayAsk (files_of_mode front.order)
 
--- The mode of an order may run on what is prepared, with sets of tokens of `width` words: the parts of what is prepared
--- agree, and the shelf, the input (`Reads`) and out (`Writes`) may be used.
+-- The mode of an order may run on what is prepared, with sets of tokens of `width` words: the tokens of the grammar fit
+-- these sets, the parts of what is prepared agree, and the shelf, the input (`Reads`) and out (`Writes`) may be used.
 pub record MayRunMode (width : ℕ) (p : Prepared) (MayAsk : Text → Type 0) (Reads Writes : Type 0) : Type 0 where
-  pub few : width ≤ 8
+  pub fits : FitsSets width p.grammar
   pub consistent : IsConsistent p
   pub asked : All MayAsk (files_of_mode p.order)
   pub may_read : Reads

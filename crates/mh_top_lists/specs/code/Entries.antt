@@ -21,10 +21,10 @@ abbrev pub AreFailingRows : TableData → List CatalogueRow → Type 0
 AreFailingRows t rows = AllByRecursion (IsFailingRow t) rows
 
 abbrev pub IsEntryOf : Prepared → CatalogueRow → Text → Type 0
-IsEntryOf p row text = IsEntryText p.grammar p.tabled.automaton p.tabled.halting row.start row.sentence text
+IsEntryOf p row text = IsEntryText p.order.comment_expected p.grammar p.tabled.automaton p.tabled.halting row.start row.sentence text
 
 abbrev pub AreEntriesOf : Prepared → List CatalogueRow → Text → Type 0
-AreEntriesOf p rows text = AreEntries p.grammar p.tabled.automaton p.tabled.halting rows text
+AreEntriesOf p rows text = AreEntries p.order.comment_expected p.grammar p.tabled.automaton p.tabled.halting rows text
 
 -- A text with the property `Is` was written whole; or a write failed after a prefix; or memory ran out before anything
 -- was written.

@@ -1,4 +1,4 @@
-use Rattle.std.proofs.Common.{◌∙◌, ℕ, List, Option, map, ap, sym, subst, Ok, Err}
+use Rattle.std.proofs.Common.{◌≡◌, length, arith, ◌∙◌, ℕ, List, Option, map, ap, sym, subst, Ok, Err}
 use Rattle.mh_check.specs.Checks.{FirstFault}
 use Rattle.mh_check.specs.Compiling.{IsCompiled, ReportsCheckFault}
 use Rattle.mh_check.specs.code.Places.{PlacesAllSentences}
@@ -6,6 +6,11 @@ use Rattle.mh_msgfile.specs.declared.messages.MsgSentence.{MsgSentence}
 use Rattle.mh_msgfile.specs.declared.messages.Entry.{Entry}
 use Rattle.mh_check.proofs.IsCompiled.{is_compiled, sentences_are}
 use Rattle.mh_check.proofs.compiling.compile.Goals as goal
+
+pub compiled_of-requires : goal.compiled_of-requires
+compiled_of-requires c =
+    let count : length c.in-Ok.places.items ≡ length c.args.table.now.states = c.in-Ok.ensures.0 in
+    omega (arith, count, c.table-facts.ensures.facts.facts.ranges.few_states)
 
 pub returns-in-Ok-copied_messages : goal.returns-in-Ok-copied_messages
 returns-in-Ok-copied_messages c =

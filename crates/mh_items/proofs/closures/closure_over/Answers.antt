@@ -33,7 +33,7 @@ added_items-requires _ c =
     (search rules, (search rules, (search rules, (c.requires.fits, (c.requires.firsts, (c.in_ok-spread.ensures.table, (size, (kernel, c.requires.kernel, w))))))))
 
 pub forget-requires : goal.forget-requires
-forget-requires _ c = (search rules, (c.requires.fits.few, (c.in_ok-spread.ensures.table, c.in_ok-spread.ensures.rest)))
+forget-requires _ c = (search rules, (c.requires.fits.few, (c.in_ok-spread.ensures.table, c.in_ok-spread.ensures.none_waits)))
 
 pub merged-requires : goal.merged-requires
 merged-requires _ c = (search rules, (c.requires.fits, (rw c.as_slice-2.ensures c.requires.kernel, rw c.as_slice-3.ensures.value c.in_ok-added.ensures.kernel)))

@@ -97,5 +97,5 @@ pub returns-clause-wanted : goal.returns-clause-wanted
 returns-clause-wanted g c = λ kernel seeds. are_closure_looks (plain_of c.args.grammar.now) c.args.firsts.now kernel c.args.set.now c.loop-done.set c.loop-done.done c.requires.firsts c.loop-done.invariant
     (omega (arith, c.loop-done-test.false, c.len.ensures, c.loop-done.set.queue.ok.0)) (omega (arith, c.loop-done.set.looks.ok.0)) seeds
 
-pub returns-clause-rest : goal.returns-clause-rest
-returns-clause-rest g c = none_waiting (plain_of c.args.grammar.now) c.args.firsts.now c.args.set.now c.loop-done.set c.loop-done.done c.loop-done.invariant (omega (arith, c.loop-done-test.false, c.len.ensures, c.loop-done.set.queue.ok.0))
+pub returns-clause-none_waits : goal.returns-clause-none_waits
+returns-clause-none_waits g c = none_waiting (plain_of c.args.grammar.now) c.args.firsts.now c.args.set.now c.loop-done.set c.loop-done.done c.loop-done.invariant (omega (arith, c.loop-done-test.false, c.len.ensures, c.loop-done.set.queue.ok.0))

@@ -10,10 +10,16 @@ use Rattle.mh_reach_paths.proofs.joins.meet_gotos.Goals as goal
 pub loop-next-init : goal.loop-next-init
 loop-next-init c = adds_gotos_none c.args.table.now c.args.classes.now c.args.work.now c.args.work.now c.args.work.now c.args.inner c.args.target
 
-pub meet_goto-requires-clause-rows : goal.meet_goto-requires-clause-rows
-meet_goto-requires-clause-rows c =
+pub meet_goto-requires-clause-complete : goal.meet_goto-requires-clause-complete
+meet_goto-requires-clause-complete c =
     let m = c.loop-next.invariant in
-    record { paths = ap length m.paths ∙ c.requires.rows.paths; complete_paths = m.rows ∙ c.requires.rows.complete_paths; each_path = λ n p h. c.requires.rows.each_path n p (rw m.paths at h) }
+    let given = c.requires.complete in
+    record {
+      classes = given.classes;
+      rows = record { paths = ap length m.paths ∙ given.rows.paths; complete_paths = m.rows ∙ given.rows.complete_paths; each_path = λ n p h. given.rows.each_path n p (rw m.paths at h) };
+      inner = given.inner;
+      whole = given.whole;
+    }
 
 pub loop-next-preserved : goal.loop-next-preserved
 loop-next-preserved c =

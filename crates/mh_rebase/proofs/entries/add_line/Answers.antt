@@ -28,11 +28,11 @@ pub returns-in-Ok-clause-line : goal.returns-in-Ok-clause-line
 returns-in-Ok-clause-line g c =
     let grammar = c.args.to.now.grammar.now in
     let read = read_as (vocabulary_in c.args.to.now.lexicon.now) grammar c.args.to.now.numbers c.as_slice.result.now c.args.line.now.text c.as_slice.ensures (IsSentence c.in-Ok.sentence) c.in-Ok.ensures.sentence in
-    subst (λ (found : LineResult). IfOk c.add_sentence.result (λ (kept : Bool). DecidesLine grammar c.args.to.now.automaton.now c.args.to.now.table.now c.args.line.now.line found kept c.args.parts.now c.add_sentence.new.parts)) (sym read) c.add_sentence.ensures.line
+    subst (λ (found : LineResult). IfOk c.add_sentence.result (λ (kept : Bool). DecidesLine c.args.to.now.expected grammar c.args.to.now.automaton.now c.args.to.now.table.now c.args.line.now.line found kept c.args.parts.now c.add_sentence.new.parts)) (sym read) c.add_sentence.ensures.line
 
 pub returns-in_ok-add_fault-in-Err-clause-line : goal.returns-in_ok-add_fault-in-Err-clause-line
 returns-in_ok-add_fault-in-Err-clause-line g c =
     let grammar = c.args.to.now.grammar.now in
-    adds_fault grammar c.args.to.now.automaton.now c.args.to.now.table.now c.args.line.now.line (sentence_in (vocabulary_of grammar) c.args.line.now.text) c.in-Err.fault c.args.parts.now c.add_fault.new.parts
+    adds_fault c.args.to.now.expected grammar c.args.to.now.automaton.now c.args.to.now.table.now c.args.line.now.line (sentence_in (vocabulary_of grammar) c.args.line.now.text) c.in-Err.fault c.args.parts.now c.add_fault.new.parts
     (fault_as (vocabulary_in c.args.to.now.lexicon.now) grammar c.args.to.now.numbers c.as_slice.result.now c.args.line.now.text c.as_slice.ensures c.in-Err.fault c.in-Err.ensures.sentence)
     c.in_ok-add_fault-in-Err.ensures.dropped c.add_fault.ensures.kept c.add_fault.ensures.kept_lines

@@ -1,6 +1,6 @@
 use Rattle.std.proofs.Common.{sym, ◌∙◌}
 use Rattle.std.proofs.lemmas.List.{take_all}
-use Rattle.mh_resolve_settle.proofs.IsErrorReduction.{ranked_more, ranked_same, errors_of, no_errors, none_ranked}
+use Rattle.mh_resolve_settle.proofs.IsErrorReduction.{ranked_more, ranked_same, IsErrorReduction-untied, no_errors, none_ranked}
 use Rattle.mh_resolve_settle.proofs.errors.on_error_production.Goals as goal
 use Rattle.mh_resolve_settle.proofs.errors.on_error_production.Goals.{in-Some, in_default}
 
@@ -22,7 +22,7 @@ pub returns-else-found : goal.returns-else-found
 returns-else-found g c =
     let whole = take_all c.loop-item.item-index c.args.items.now c.loop-item-test.false in
     let b = rw (whole, c.in-Some-best.is) at c.loop-item.invariant in
-    errors_of c.args.grammar.now c.args.items.now c.requires.items c.in-Some-best.found c.if-found.false b
+    IsErrorReduction-untied c.args.grammar.now c.args.items.now c.requires.items c.in-Some-best.found c.if-found.false b
 
 pub returns-in-None : goal.returns-in-None
 returns-in-None g c =

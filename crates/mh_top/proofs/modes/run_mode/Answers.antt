@@ -1,7 +1,7 @@
 use Rattle.std.proofs.Common.{[], arith, refl, rules, subst, sym, ap, ap₂, ◌∙◌}
 use Rattle.std.specs.List.{All}
 use Rattle.mh_opts.specs.declared.jobs.Job.{Job}
-use Rattle.mh_opts.specs.declared.jobs.Job.TheVariants.{Interpret, Session, CompileErrors, CompareErrors, EchoErrors, UpdateErrors, RebaseErrors}
+use Rattle.mh_opts.specs.declared.jobs.Job.TheVariants.{Interpret, Session, CompileErrors, CompareErrors, EchoErrors, UpdateErrors, RebaseErrors, CheckErrors}
 use Rattle.mh_top_drive.proofs.OpenedModes.{ran_read}
 use Rattle.mh_top_plans.specs.Plan.{plan_behavior}
 use Rattle.mh_top_plans.specs.Files.{files_of_job}
@@ -36,7 +36,7 @@ pub returns-in-InterpretError-clause-read : goal.returns-in-InterpretError-claus
 returns-in-InterpretError-clause-read g c = ran_read plan_behavior _ _ _ _ _ _ c.explain.result c.explain.ensures.ran
 
 pub explain-requires : goal.explain-requires
-explain-requires g c = (search rules, record { few = c.requires.few; consistent = c.requires.consistent; may_read = c.requires.may_read; may_write = c.requires.may_write })
+explain-requires g c = (search rules, record { few = c.requires.fits.few; consistent = c.requires.consistent; may_read = c.requires.may_read; may_write = c.requires.may_write })
 
 pub returns-in-Session-clause-ran : goal.returns-in-Session-clause-ran
 returns-in-Session-clause-ran g c = of_job (g.F.Shelf.files c.args.shelf.now) c.args.prepared.now Session c.in-Session.is _ _ _ _ c.run_session.result (still_followed _ _ _ _ _ _ c.run_session.result c.run_session.ensures.ran)
@@ -51,7 +51,7 @@ pub returns-in-Session-clause-read : goal.returns-in-Session-clause-read
 returns-in-Session-clause-read g c = still_read _ _ _ _ _ _ c.run_session.result c.run_session.ensures.ran
 
 pub run_session-requires : goal.run_session-requires
-run_session-requires g c = (search rules, record { few = c.requires.few; consistent = c.requires.consistent; may_read = c.requires.may_read; may_write = c.requires.may_write })
+run_session-requires g c = (search rules, record { few = c.requires.fits.few; consistent = c.requires.consistent; may_read = c.requires.may_read; may_write = c.requires.may_write })
 
 -- ---- Modes that write only at their end.
 
@@ -126,6 +126,18 @@ returns-in-RandomSentence-clause-kept g c = refl
 
 pub returns-in-RandomSentence-clause-read : goal.returns-in-RandomSentence-clause-read
 returns-in-RandomSentence-clause-read g c = ran_read plan_behavior _ _ _ _ _ _ c.write_at_end-in-RandomSentence.result c.write_at_end-in-RandomSentence.ensures.ran
+
+pub returns-in-Explain-clause-ran : goal.returns-in-Explain-clause-ran
+returns-in-Explain-clause-ran g c = of_plan (g.F.Shelf.files c.args.shelf.now) c.args.prepared.now _ c.in-Explain.is _ _ _ _ c.write_at_end-in-Explain.result _ refl c.write_at_end-in-Explain.ensures.ran
+
+pub returns-in-Explain-clause-counts : goal.returns-in-Explain-clause-counts
+returns-in-Explain-clause-counts g c = c.write_at_end-in-Explain.ensures.counts
+
+pub returns-in-Explain-clause-kept : goal.returns-in-Explain-clause-kept
+returns-in-Explain-clause-kept g c = refl
+
+pub returns-in-Explain-clause-read : goal.returns-in-Explain-clause-read
+returns-in-Explain-clause-read g c = ran_read plan_behavior _ _ _ _ _ _ c.write_at_end-in-Explain.result c.write_at_end-in-Explain.ensures.ran
 
 -- ---- Modes that write a text made from messages files.
 
@@ -212,34 +224,55 @@ returns-in-RebaseErrors-clause-kept g c = c.rebase_errors.ensures.kept
 pub returns-in-RebaseErrors-clause-read : goal.returns-in-RebaseErrors-clause-read
 returns-in-RebaseErrors-clause-read g c = c.rebase_errors.ensures.read
 
+-- ---- The mode that examines a messages file.
+
+pub returns-in-CheckErrors-clause-ran : goal.returns-in-CheckErrors-clause-ran
+returns-in-CheckErrors-clause-ran g c =
+    of_job (g.F.Shelf.files c.args.shelf.now) c.args.prepared.now (CheckErrors c.as_slice-in-CheckErrors.result.now) (c.in-CheckErrors.is ∙ ap CheckErrors (sym c.as_slice-in-CheckErrors.ensures)) _ _ _ _ c.check_errors.result c.check_errors.ensures.ran
+
+pub returns-in-CheckErrors-clause-counts : goal.returns-in-CheckErrors-clause-counts
+returns-in-CheckErrors-clause-counts g c = c.check_errors.ensures.counts
+
+pub returns-in-CheckErrors-clause-kept : goal.returns-in-CheckErrors-clause-kept
+returns-in-CheckErrors-clause-kept g c = c.check_errors.ensures.kept
+
+pub returns-in-CheckErrors-clause-read : goal.returns-in-CheckErrors-clause-read
+returns-in-CheckErrors-clause-read g c = c.check_errors.ensures.read
+
 -- ---- The shelf may be asked for the messages files of the mode.
 
 pub text_from_file-made-requires : goal.text_from_file-made-requires
 text_from_file-made-requires g c =
     let is = c.in-CompileErrors.is ∙ ap CompileErrors (sym c.as_slice.ensures) in
     let asked = subst (λ (job : Job). All (g.F.Shelf.MayAsk c.args.shelf.now) (files_of_job job c.args.prepared.now.order)) is c.requires.asked in
-    (search rules, (c.requires.few, (c.requires.consistent, asked 0 [] (omega arith))))
+    (search rules, (c.requires.fits.few, (c.requires.consistent, asked 0 [] (omega arith))))
 
 pub compare_errors-made-requires : goal.compare_errors-made-requires
 compare_errors-made-requires g c =
     let is = c.in-CompareErrors.is ∙ ap₂ CompareErrors (sym c.as_slice-in-CompareErrors.ensures) (sym c.as_slice-in-CompareErrors-2.ensures) in
     let asked = subst (λ (job : Job). All (g.F.Shelf.MayAsk c.args.shelf.now) (files_of_job job c.args.prepared.now.order)) is c.requires.asked in
-    (search rules, (c.requires.few, (c.requires.consistent, (asked 0 [] (omega arith), asked 1 [] (omega arith)))))
+    (search rules, (c.requires.fits.few, (c.requires.consistent, (asked 0 [] (omega arith), asked 1 [] (omega arith)))))
 
 pub text_from_file-made-requires-in-EchoErrors : goal.text_from_file-made-requires-in-EchoErrors
 text_from_file-made-requires-in-EchoErrors g c =
     let is = c.in-EchoErrors.is ∙ ap EchoErrors (sym c.as_slice-in-EchoErrors.ensures) in
     let asked = subst (λ (job : Job). All (g.F.Shelf.MayAsk c.args.shelf.now) (files_of_job job c.args.prepared.now.order)) is c.requires.asked in
-    (search rules, (c.requires.few, (c.requires.consistent, asked 0 [] (omega arith))))
+    (search rules, (c.requires.fits.few, (c.requires.consistent, asked 0 [] (omega arith))))
 
 pub text_from_file-made-requires-in-UpdateErrors : goal.text_from_file-made-requires-in-UpdateErrors
 text_from_file-made-requires-in-UpdateErrors g c =
     let is = c.in-UpdateErrors.is ∙ ap UpdateErrors (sym c.as_slice-in-UpdateErrors.ensures) in
     let asked = subst (λ (job : Job). All (g.F.Shelf.MayAsk c.args.shelf.now) (files_of_job job c.args.prepared.now.order)) is c.requires.asked in
-    (search rules, (c.requires.few, (c.requires.consistent, asked 0 [] (omega arith))))
+    (search rules, (c.requires.fits.few, (c.requires.consistent, asked 0 [] (omega arith))))
 
 pub rebase_errors-requires : goal.rebase_errors-requires
 rebase_errors-requires g c =
     let is = c.in-RebaseErrors.is ∙ ap RebaseErrors (sym c.as_slice-in-RebaseErrors.ensures) in
     let asked = subst (λ (job : Job). All (g.F.Shelf.MayAsk c.args.shelf.now) (files_of_job job c.args.prepared.now.order)) is c.requires.asked in
-    (search rules, (c.requires.few, (c.requires.consistent, (asked 0 [] (omega arith), (c.requires.may_read, c.requires.may_write)))))
+    (search rules, (c.requires.fits.few, (c.requires.consistent, (asked 0 [] (omega arith), (c.requires.may_read, c.requires.may_write)))))
+
+pub check_errors-requires : goal.check_errors-requires
+check_errors-requires g c =
+    let is = c.in-CheckErrors.is ∙ ap CheckErrors (sym c.as_slice-in-CheckErrors.ensures) in
+    let asked = subst (λ (job : Job). All (g.F.Shelf.MayAsk c.args.shelf.now) (files_of_job job c.args.prepared.now.order)) is c.requires.asked in
+    (search rules, (c.requires.fits.few, (c.requires.consistent, (asked 0 [] (omega arith), (c.requires.may_read, c.requires.may_write)))))

@@ -1,7 +1,9 @@
 use Rattle.std.proofs.Common.{List, ℕ, map}
 use Rattle.std.specs.String.{string_bytes}
 use Rattle.std.specs.declared.alloc.Global.{Global}
+use Rattle.mh_top_claims.proofs.CheckedErrors.{checks_exactly}
 use Rattle.mh_top_claims.proofs.Claims.{keeps}
+use Rattle.mh_top_claims.proofs.ConflictExplanations.{explains_exactly}
 use Rattle.mh_top_claims.proofs.ErrorLists.{lists_exactly}
 use Rattle.mh_top_claims.proofs.Headline.{lists_errors, takes_sound_files, gives_messages}
 use Rattle.mh_top_claims.proofs.RebasedFiles.{rebases_soundly}
@@ -20,6 +22,8 @@ returns g c =
       messages = gives_messages words _ _ _ ran;
       lists = lists_exactly words _ _ _ ran;
       rebases = rebases_soundly words _ _ _ ran;
+      explains = explains_exactly words _ _ _ ran;
+      checks = checks_exactly words _ _ _ ran;
       exact = accepts_exactly words _;
       rejects = rejects_rightly words _;
       overshoots = overshoots_rightly words _;

@@ -1,4 +1,5 @@
 use Rattle.std.proofs.Common.{refl, rules, subst, sym}
+use Rattle.mh_items.specs.Fitting.{FitsSets}
 use Rattle.mh_top_drive.specs.StageResults.{Go}
 use Rattle.mh_top_claims.specs.Preparing.{IsPrepared}
 use Rattle.mh_top_claims.proofs.WorkBeforeLastLine.{prepare_stops, prepared_so, worked_same}
@@ -8,7 +9,7 @@ use Rattle.mh_top.proofs.top.work_on.Goals as goal
 pub work_with-ended-requires : goal.work_with-ended-requires
 work_with-ended-requires g c = (
   search rules,
-  (record { few = c.requires.fits.few; consistent = c.in-Ok.ensures.consistent; asked = rw c.in-Ok.ensures.order (λ k d lt. c.in-Ok.ensures.may_ask _ (c.requires.front.asked k d lt)); may_read = c.requires.may_read; may_write = c.requires.may_write }, c.requires.may_warn),
+  (record { fits = subst (FitsSets _) (sym c.in-Ok.ensures.grammar) c.requires.fits; consistent = c.in-Ok.ensures.consistent; asked = rw c.in-Ok.ensures.order (λ k d lt. c.in-Ok.ensures.may_ask _ (c.requires.front.asked k d lt)); may_read = c.requires.may_read; may_write = c.requires.may_write }, c.requires.may_warn),
 )
 
 pub returns-in-Err-clause-ran : goal.returns-in-Err-clause-ran

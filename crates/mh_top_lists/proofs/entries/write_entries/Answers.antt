@@ -20,7 +20,7 @@ loop-row-preserved g c = record {
 
 pub returns-in-Err-clause-text : goal.returns-in-Err-clause-text
 returns-in-Err-clause-text g c =
-    row_stops c.args.prepared.now c.args.rows.now c.loop-row.row-index c.row-item.result c.loop-row-test.true c.row-item.is _ _ _ c.loop-row.invariant.written c.table-facts.ensures.facts.facts c.requires.consistent c.requires.rows c.in-Err.stop c.in-Err.ensures.text
+    row_stops c.args.prepared.now c.args.rows.now c.loop-row.row-index c.row-item.result c.loop-row-test.true c.row-item.is _ _ _ c.loop-row.invariant.written c.table-facts.ensures.facts c.requires.consistent c.requires.rows c.in-Err.stop c.in-Err.ensures.text
 
 pub returns-clause-text : goal.returns-clause-text
 returns-clause-text g c = all_written c.args.prepared.now c.args.rows.now c.loop-row.row-index _ _ c.loop-row-test.false c.loop-row.invariant.written

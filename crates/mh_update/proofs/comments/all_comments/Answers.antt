@@ -9,7 +9,7 @@ pub returns-in-Err : goal.returns-in-Err
 returns-in-Err g c =
     let i = c.loop-entry.entry-index in
     let e = c.entry-item.result in
-    let t = c.args.table.now in
+    let t = c.args.commenter.now.table.now in
     let es = c.args.entries.now in
     let done = of_entries (take i es) in
     let given = c.in-Err.ensures done c.loop-entry.invariant in

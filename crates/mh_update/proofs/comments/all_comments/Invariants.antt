@@ -3,4 +3,4 @@ use Rattle.mh_update_renewed.specs.Updates.{AreComments}
 use Rattle.mh_update.proofs.comments.all_comments.Given as goal
 
 abbrev pub invariant-loop-entry : goal.invariant-loop-entry
-invariant-loop-entry g l = AreComments l.grammar l.automaton l.table (flat_map (λ entry. entry.sentences) (take l.entry-index l.entries)) l.comments.items
+invariant-loop-entry g l = AreComments l.commenter.expected l.commenter.grammar.now l.commenter.automaton.now l.commenter.table.now (flat_map (λ entry. entry.sentences) (take l.entry-index l.entries)) l.comments.items

@@ -5,7 +5,7 @@ pub returns-clause-fault : goal.returns-clause-fault
 returns-clause-fault g c = unfit_once c.args.table.now
 
 pub returns-clause-not_both : goal.returns-clause-not_both
-returns-clause-not_both g c = updated_fits c.args.table.now c.args.grammar.now c.args.automaton.now
+returns-clause-not_both g c expected = updated_fits c.args.table.now expected c.args.grammar.now c.args.automaton.now
 
 pub returns-clause-either : goal.returns-clause-either
-returns-clause-either g c = updated_or_unfit c.args.table.now c.args.grammar.now c.args.automaton.now c.table-facts.ensures.facts
+returns-clause-either g c automaton states expected = updated_or_unfit c.args.table.now expected c.args.grammar.now c.args.automaton.now c.table-facts.ensures.facts automaton states

@@ -11,8 +11,21 @@ pub resolve_one-requires : goal.resolve_one-requires
 resolve_one-requires g c =
     let lt = c.loop-state-test.true in
     let in_kernels : c.loop-state.state < length c.args.stated.now.kernels.now = (let n = c.requires.kernels.count in let m = c.requires.rows.within in omega (arith, n, m, lt)) in
-    let has = row_has c.args.grammar.now c.args.stated.now.raw.now c.args.stated.now.kernels.now c.args.stated.now.rows.now c.loop-state.state c.index-rows-state.result c.as_slice-edges.result.now lt c.index-rows-state.is c.as_slice-edges.ensures (c.requires.rows.each c.loop-state.state lt) in
-    (search rules, (search rules, (c.requires.fits, (c.loop-state.invariant.closer, (kernel_right c.args.grammar.now c.args.stated.now.raw.now c.args.stated.now.kernels.now c.requires.kernels c.loop-state.state c.index-kernels-state.result in_kernels c.index-kernels-state.is, (has.are_edges.order, edges_known c.args.grammar.now c.args.stated.now.raw.now c.args.stated.now.kernels.now c.loop-state.state c.as_slice-edges.result.now c.requires.fits.range has))))))
+    let has = row_has c.args.grammar.now c.args.stated.now.raw.now c.args.stated.now.kernels.now c.args.stated.now.rows.now c.loop-state.state c.index-rows-state.result c.as_slice-edges.result.now lt c.index-rows-state.is c.as_slice-edges.ensures (c.requires.rows.each c.loop-state.state lt) in (
+      search rules,
+      (
+        search rules,
+        (
+          c.requires.fits,
+          record {
+            closer = c.loop-state.invariant.closer;
+            kernel = kernel_right c.args.grammar.now c.args.stated.now.raw.now c.args.stated.now.kernels.now c.requires.kernels c.loop-state.state c.index-kernels-state.result in_kernels c.index-kernels-state.is;
+            rising = has.are_edges.order;
+            known = edges_known c.args.grammar.now c.args.stated.now.raw.now c.args.stated.now.kernels.now c.loop-state.state c.as_slice-edges.result.now c.requires.fits.range has;
+          },
+        ),
+      ),
+    )
 
 pub loop-state-preserved : goal.loop-state-preserved
 loop-state-preserved g c =

@@ -2,7 +2,7 @@ use Rattle.std.proofs.Common.{ap, rules}
 use Rattle.std.specs.Prelude.{Err}
 use Rattle.mh_catalogue_rows.specs.Rows.{rows_of}
 use Rattle.mh_top_lists.proofs.WriteEntriesLoop.{catalogue_fit, rows_listed}
-use Rattle.mh_top_lists.proofs.CatalogueRefused.{catalogue_fault_counts, list_stops}
+use Rattle.mh_top_lists.proofs.CatalogueRefused.{OutCounts-catalogue_fault, list_stops}
 use Rattle.mh_top_lists.proofs.listing.ErrorListWriter.write.Goals as goal
 
 pub write_entries-requires : goal.write_entries-requires
@@ -20,4 +20,4 @@ returns-in-Err-clause-text g c =
     list_stops c.args.self.prepared.now _ c.in-Err.fault c.stop_of.result c.stop_of.ensures (λ s e. c.in-Err.ensures.too_long s (ap Err e))
 
 pub returns-in-Err-clause-counts : goal.returns-in-Err-clause-counts
-returns-in-Err-clause-counts g c = catalogue_fault_counts _ c.in-Err.fault c.stop_of.result c.stop_of.ensures
+returns-in-Err-clause-counts g c = OutCounts-catalogue_fault _ c.in-Err.fault c.stop_of.result c.stop_of.ensures

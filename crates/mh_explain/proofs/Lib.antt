@@ -1,0 +1,5 @@
+pub mod ExplanationsUnique
+mod FirstWith
+mod ChosenItems
+mod ExplanationParts
+mod SentenceOrder

@@ -1,0 +1,4 @@
+pub mod Explanations
+pub mod FirstSentences
+pub mod StateActions
+pub mod code

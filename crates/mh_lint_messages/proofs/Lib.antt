@@ -1,0 +1,5 @@
+pub mod DecidesLine
+pub mod DecidesEntries
+pub mod MissingTexts
+pub mod ErrorTextUnique
+pub mod IsFaultless

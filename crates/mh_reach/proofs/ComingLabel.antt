@@ -1,0 +1,118 @@
+-- Proves that the label of each arrival is the sentence that comes first of all that come to its state with its token
+-- next.
+use Rattle.std.proofs.Common.{◌≡◌, ℕ, ◌<◌, ◌≤◌, inl, inr, List, [], Some, None, Option, refl, sym, ap, subst, arith, ◌∙◌}
+use Rattle.std.specs.Prelude.{min}
+use Rattle.std.specs.List.{AllByRecursion}
+use Rattle.std.proofs.lemmas.Grind.{common_steps}
+use Rattle.mh_tables_core.specs.Table.{TableData}
+use Rattle.mh_tables_core.specs.Facts.{Facts}
+use Rattle.mh_tables_core.specs.Failing.{cost_of_word, max_sentence_cost, SentenceAtMost}
+use Rattle.mh_facts.specs.declared.store.FactKey.{FactKey}
+use Rattle.mh_facts.specs.declared.classes.TokenClasses.{TokenClasses}
+use Rattle.mh_reach.specs.Coming.{Comes, FirstComing, ComesWithinMaxCost}
+use Rattle.mh_facts.specs.Costs.{cap}
+use Rattle.mh_facts.specs.code.BestFirst.{Label, HasNoLater, HasNoLaterLabel, LabelsClosedBy}
+use Rattle.mh_facts.specs.code.Orders as orders
+use Rattle.mh_facts.specs.code.TokenClasses.{rep_of}
+use Rattle.mh_facts.specs.code.WordAssignment.{WordNoLater}
+use Rattle.mh_reach.proofs.Coming.{Comes-reaches, ReachesState-comes}
+use Rattle.mh_facts.proofs.LeastSentences.{closed_reached}
+use Rattle.mh_facts.proofs.SearchInvariant.{closes_all_at}
+use Rattle.mh_facts.proofs.Sound.{reaches_known}
+use Rattle.mh_facts.proofs.WordAssignment.{order_laws, option_unique, weigh_word}
+use Rattle.mh_reach_found.specs.declared.search_result.SearchResult.{SearchResult}
+use Rattle.mh_reach_found.specs.declared.arrivals.StateAndNext.{StateAndNext}
+use Rattle.mh_reach_found.specs.declared.arrivals.Arrival.{Arrival}
+use Rattle.mh_reach_found.specs.code.SearchResult.{GotoFactsIn}
+use Rattle.mh_reach_found.specs.code.Arrivals.{LabelNoLater, ArrivalList, LabelAssignment, arrival_at, labels_at, AreLeastArrivalsFor}
+use Rattle.mh_reach_found.proofs.LabelOrder.{label_laws}
+use Rattle.mh_reach.specs.Reaching.{LeastCostTo}
+use Rattle.mh_reach.specs.code.Candidates.{InOrderOr, IsComingAt, IsComingLabel, spot_of}
+
+-- Labels that are in order are in order as sentences of a catalogue, or both have the highest cost.
+pub in_order : (t : TableData) (f : Facts t) (k l : Label) → AllByRecursion (λ z. z < t.grammar.tokens) k.word → AllByRecursion (λ z. z < t.grammar.tokens) l.word → LabelNoLater t k l → InOrderOr t k.start k.word l.start l.word
+in_order t f k l a b (orders.SentenceLe.Cheaper lt) = let e = weigh_word t f k.word a in let g = weigh_word t f l.word b in inl (inl (omega (arith, e, g, lt)))
+in_order t f k l a b (orders.SentenceLe.Over x y) = let e = weigh_word t f k.word a in let g = weigh_word t f l.word b in inr (omega (arith, e, x), omega (arith, g, y))
+in_order t f k l a b (orders.SentenceLe.Sooner same lt) = inl (inr (sym (weigh_word t f k.word a) ∙ same ∙ weigh_word t f l.word b, inl lt))
+in_order t f k l a b (orders.SentenceLe.Lower same start le) = inl (inr (sym (weigh_word t f k.word a) ∙ same ∙ weigh_word t f l.word b, inr (start, le)))
+
+module _ (t : TableData) (f : Facts t) (c : TokenClasses) (found : SearchResult) (spots : ArrivalList) (h : AreLeastArrivalsFor t c found spots) where
+  abbrev rep : ℕ → ℕ → ℕ
+  rep = rep_of c
+
+  abbrev labels : StateAndNext → Option Label
+  labels = h.arrived.label_assignment.labels
+
+  abbrev words : FactKey → Option (List ℕ)
+  words = h.found_is.word_assignment.words
+
+  pub labels_closed : LabelsClosedBy t rep words (labels_at labels) (HasNoLaterLabel (LabelNoLater t) (labels_at labels))
+  labels_closed = closes_all_at t rep (WordNoLater t) (LabelNoLater t) (order_laws t) (label_laws t) words (GotoFactsIn c words found.work) (labels_at labels) (HasNoLater (WordNoLater t) words) h.found_is.closed h.arrived.closed
+
+  -- Some label comes no later than a sentence that comes to the state.
+  no_later : (s z i : ℕ) (w : List ℕ) → Comes t i w s z → z < t.grammar.tokens → HasNoLaterLabel (LabelNoLater t) (labels_at labels) s (rep s z) (record { start = i; word = w })
+  no_later s z i w comes known =
+      closed_reached t f rep (WordNoLater t) (LabelNoLater t) (order_laws t) (label_laws t) words h.found_is.complete (labels_at labels) labels_closed i s z w comes.sentence.known known (ReachesState-comes t f i w s z comes)
+
+  coming_label : (s z : ℕ) (l : Label) → z < t.grammar.tokens → labels (spot_of c s z) ≡ Some l → IsComingLabel t s z l
+  coming_label s z l known e =
+      let there = h.arrived.sound s (rep s z) l e z known refl in
+      let tokens = (reaches_known t f l.start s z l.word there.0 there.1).tokens in
+      record {
+        comes = Comes-reaches t f l.start l.word s z there.0 known there.1;
+        weighed = ap (λ (n : ℕ). min n cap) (weigh_word t f l.word tokens);
+        first = λ i w other. (
+            let k = no_later s z i w other known in
+            let same : k.0 ≡ l = option_unique _ k.0 l k.1 e in
+            let others = (reaches_known t f i s z w other.sentence.known (ReachesState-comes t f i w s z other)).tokens in
+            in_order t f l (record { start = i; word = w }) tokens others (rw same at k.2));
+      }
+
+  coming_by : (s z : ℕ) (o : Option Label) → z < t.grammar.tokens → labels (spot_of c s z) ≡ o → IsComingAt t s z o
+  coming_by s z None known e = λ i w comes. (let k = no_later s z i w comes known in let both : None ≡ Some k.0 = sym e ∙ k.1 in cc)
+  coming_by s z (Some l) known e = coming_label s z l known e
+
+  pub coming_at : (s z : ℕ) → z < t.grammar.tokens → IsComingAt t s z (labels (spot_of c s z))
+  coming_at s z known = coming_by s z (labels (spot_of c s z)) known refl
+
+-- If some sentence within the greatest cost comes to the state, the label comes before all other sentences.
+first_to : (t : TableData) (s z : ℕ) (l : Label) → IsComingLabel t s z l → ComesWithinMaxCost t s z → (i : ℕ) (w : List ℕ) → Comes t i w s z → SentenceAtMost t l.start l.word i w
+first_to t s z l h cheap i w comes = elim (h.first i w comes) [ inl order ↦ order | inr dear ↦ absurd (not_dear (h.first cheap.0 cheap.1 cheap.2) dear.0) ]
+  where
+    low : cost_of_word t cheap.1 ≤ max_sentence_cost
+    low = cheap.3
+
+    not_dear : InOrderOr t l.start l.word cheap.0 cheap.1 → cap ≤ cost_of_word t l.word → ⊥
+    not_dear (inl (inl lt)) le = let l = low in omega (arith, l, lt, le)
+    not_dear (inl (inr (e, rest))) le = let l = low in omega (arith, l, e, le)
+    not_dear (inr (a, b)) le = let l = low in omega (arith, l, b)
+
+pub coming_first : (t : TableData) (s z start : ℕ) (w : List ℕ) (l : Label) → IsComingLabel t s z l → ComesWithinMaxCost t s z → start ≡ l.start → w ≡ l.word → FirstComing t start w s z
+coming_first t s z start w l h cheap from is = rw (from, is) (record { comes = h.comes; first = first_to t s z l h cheap })
+
+pub no_dearer_to : (t : TableData) (i : ℕ) (u : List ℕ) (i' : ℕ) (v : List ℕ) → InOrderOr t i u i' v → min (cost_of_word t u) cap ≤ min (cost_of_word t v) cap
+no_dearer_to t i u i' v (inl (inl lt)) = grind (arith, common_steps, lt)
+no_dearer_to t i u i' v (inl (inr (e, rest))) = grind (arith, common_steps, e)
+no_dearer_to t i u i' v (inr (a, b)) = grind (arith, common_steps, a, b)
+
+pub least_cost_to : (t : TableData) (s z cost : ℕ) (l : Label) → IsComingLabel t s z l → cost ≡ min (cost_of_word t l.word) cap → LeastCostTo t s z (Some cost)
+least_cost_to t s z cost l h e = (
+  λ i w comes. (let le = no_dearer_to t l.start l.word i w (h.first i w comes) in omega (arith, le, e)),
+  (l.start, l.word, h.comes, e),
+)
+
+-- If some sentence comes to the state, its spot has a label.
+pub label_there : (t : TableData) (s z : ℕ) (o : Option Label) → IsComingAt t s z o → ComesWithinMaxCost t s z → (l : Label) × (o ≡ Some l) × IsComingLabel t s z l
+label_there t s z None h cheap = absurd (h cheap.0 cheap.1 cheap.2)
+label_there t s z (Some l) h cheap = (l, refl, h)
+
+-- The cost of the arrival at a spot is the least cost of a sentence that comes there. Without an arrival none comes.
+module _ (t : TableData) (words : FactKey → Option (List ℕ)) (spots : ArrivalList) (j : LabelAssignment t words spots) (k : StateAndNext) (s z : ℕ) (h : IsComingAt t s z (j.labels k)) where
+  pub none_comes : arrival_at spots k ≡ None → LeastCostTo t s z None
+  none_comes e = subst (λ (o : Option Label). IsComingAt t s z o) (j.none k e) h
+
+  pub arrival_cost : (r : Arrival) → arrival_at spots k ≡ Some r → LeastCostTo t s z (Some r.cost)
+  arrival_cost r e =
+      let labelled = j.some k r e in
+      let comes : IsComingLabel t s z labelled.label = subst (λ (o : Option Label). IsComingAt t s z o) labelled.is h in
+      least_cost_to t s z r.cost labelled.label comes (labelled.cost_is ∙ comes.weighed)

@@ -1,5 +1,0 @@
-use Rattle.mh_top_claims.proofs.WorkUnique.{run_once}
-use Rattle.mh_top_claims.proofs.laws.runs_are_one.Goals as goal
-
-pub returns : goal.returns
-returns c = run_once
