@@ -1,4 +1,4 @@
--- Proves that an item set of a grammar does not lack the list of its items.
+-- Proves, as a double negation, that an item set whose items are in range has a list of its items.
 use Rattle.std.proofs.Common.{◌≡◌, ℕ, zero, suc, ◌+◌, ◌<◌, ◌≤◌, List, [], ◌∷◌, length, refl, sym, ap, subst, ◌∙◌, arith, inl, inr}
 use Rattle.std.specs.List.{Contains, AllByRecursion}
 use Rattle.mh_grammar.specs.declared.types.Look.{Look}
@@ -12,8 +12,9 @@ use Rattle.mh_grammar_decided.specs.NotLacking.{NotLacking}
 use Rattle.mh_grammar_decided.proofs.NotLacking.{given, chain, Selected, select}
 use Rattle.mh_canon_states.proofs.ItemsOfGrammar.{looks_from, look_in, looks_rising, place, places, place_in, places_rising}
 
-abbrev pub AreWithin : PlainGrammar → ItemSet → Type 0
-AreWithin g I = (p d : ℕ) (a : Look) → I p d a → (p < production_count g) × (d ≤ length (rhs_of g p)) × IsLookBelow g.tokens a
+-- Each item of the set has a production of the grammar, a dot within its right side, and a lookahead in range.
+abbrev pub HasItemsInRange : PlainGrammar → ItemSet → Type 0
+HasItemsInRange g I = (p d : ℕ) (a : Look) → I p d a → (p < production_count g) × (d ≤ length (rhs_of g p)) × IsLookBelow g.tokens a
 
 abbrev of_items : List KernelItem → Kernel
 of_items items = record { items = items }
@@ -27,7 +28,7 @@ record Listed (g : PlainGrammar) (I : ItemSet) (U : List KernelItem) : Type 0 wh
   sound : (p d : ℕ) (a : Look) → Holds (of_items items) p d a → I p d a
   all : (p d : ℕ) (a : Look) → Contains U (place p d) → I p d a → Holds (of_items items) p d a
 
-module _ (g : PlainGrammar) (I : ItemSet) (within : AreWithin g I) where
+module _ (g : PlainGrammar) (I : ItemSet) (within : HasItemsInRange g I) where
   abbrev At : KernelItem → Type 0
   At u = Selected IsLookBefore (I u.production u.dot) (looks_from 0 g.tokens)
 

@@ -1,4 +1,5 @@
--- Proves that a kernel does not lack its closure, the symbols at its dots, and the kernels to which they move.
+-- Proves, as a double negation, that a kernel has a closure, a list of the symbols after its dots, and a kernel of the
+-- move on each of these symbols.
 use Rattle.mh_items_kernels.specs.code.KernelMoves.{IsAfterDot, IsMove}
 use Rattle.std.proofs.Common.{◌≡◌, ℕ, zero, suc, ◌+◌, ◌<◌, ◌≤◌, ◌↔◌, List, [], ◌∷◌, Some, length, drop, refl, sym, ap, subst, ◌∙◌, arith, inl, inr}
 use Rattle.std.specs.List.{slice_get, All, Contains, AllByRecursion}
@@ -18,7 +19,7 @@ use Rattle.mh_items_kernels.proofs.SymbolAtDot.{drop_tail}
 use Rattle.mh_grammar_decided.specs.NotLacking.{NotLacking}
 use Rattle.mh_grammar_decided.proofs.NotLacking.{given, chain, Selected, select}
 use Rattle.mh_canon_states.proofs.ItemsOfGrammar.{symbols_from, symbol_in, symbols_rising}
-use Rattle.mh_canon_states.proofs.ListedKernels.{AreWithin, listed}
+use Rattle.mh_canon_states.proofs.ListedKernels.{HasItemsInRange, listed}
 
 -- A closure with the symbols at its dots.
 pub record Moving (g : PlainGrammar) (k : Kernel) : Type 0 where
@@ -34,20 +35,20 @@ module _ (g : PlainGrammar) (range : IsInRange g) where
   may_below y a b l all (items.MayBegin.begins {z} f) = first_of-below g g.tokens g.nonterminals range.productions z y f all
   may_below y a b l all (items.MayBegin.passes n) = l
 
-  pub close_in : (I : ItemSet) → AreWithin g I → AreWithin g (Close g I)
+  pub close_in : (I : ItemSet) → HasItemsInRange g I → HasItemsInRange g (Close g I)
   close_in I w p d a (items.Close.given i) = w p d a i
   close_in I w q d b (items.Close.added {p} {d = d'} {y} {a} c e f m) =
       let before = close_in I w p d' a c in
       let rest : All (IsSymbolBelow g.tokens g.nonterminals) y = subst (All (IsSymbolBelow g.tokens g.nonterminals)) (drop_tail (rhs_of g p) d' _ y e) (rest_below g range p d' before.0) in
       (f.known, omega arith, may_below y a b before.2 rest m)
 
-  pub kernel_in : (k : Kernel) → IsItemList g k → AreWithin g (Holds k)
+  pub kernel_in : (k : Kernel) → IsItemList g k → HasItemsInRange g (Holds k)
   kernel_in k v p d a (item, c, e, f, look) =
       let here = recursion_contains (IsKernelItem g) k.items v.items item c in
       let dot : d ≤ length (rhs_of g item.production) = subst (λ (n : ℕ). n ≤ length (rhs_of g item.production)) f here.dot in
       (subst (λ (n : ℕ). n < production_count g) e here.production, subst (λ (n : ℕ). d ≤ length (rhs_of g n)) e dot, recursion_contains (IsLookBelow g.tokens) item.looks here.looks a look)
 
-  moved_in : (I : ItemSet) (X : Symbol) → AreWithin g I → AreWithin g (Moved g I X)
+  moved_in : (I : ItemSet) (X : Symbol) → HasItemsInRange g I → HasItemsInRange g (Moved g I X)
   moved_in I X w p d a (items.Moved.moved {d = d'} {y} i e) =
       let before = w p d' a i in
       let l = slice_get_within (rhs_of g p) d' X (get_from_drop (rhs_of g p) d' X y e) in

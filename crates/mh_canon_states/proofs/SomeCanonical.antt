@@ -1,4 +1,5 @@
--- Proves that a grammar does not lack both a canonical automaton within a limit and more states than the limit.
+-- Proves the double negation (`NotLacking`) of: a grammar has a canonical automaton within a limit, or more canonical
+-- states than the limit.
 use Rattle.mh_canon_states.specs.code.FoundStates.{IsCanonicalState, AreCanonicalStates, IsStateClosure, AreStateEdges}
 use Rattle.mh_items_kernels.specs.code.KernelMoves.{IsAfterDot, IsMove}
 use Rattle.std.proofs.Common.{◌≡◌, ℕ, zero, suc, ◌+◌, ◌<◌, ◌≤◌, ◌⊎◌, List, [], ◌∷◌, ◌++◌, Some, length, refl, sym, ap, subst, ◌∙◌, append_assoc, arith, inl, inr}
@@ -91,8 +92,8 @@ module _ (g : PlainGrammar) (range : IsInRange g) (limit : ℕ) where
     | inr le ↦ given (done kernels rows b few le)
   ]
 
-pub none_lacks : (g : PlainGrammar) (limit : ℕ) → IsInRange g → length g.starts ≤ limit → NotLacking (((a : Automaton) × IsCanonical g a × (length a.kernels ≤ limit)) ⊎ CanonicalExceeds g limit)
-none_lacks g limit range few =
+pub canonical_or_exceeds : (g : PlainGrammar) (limit : ℕ) → IsInRange g → length g.starts ≤ limit → NotLacking (((a : Automaton) × IsCanonical g a × (length a.kernels ≤ limit)) ⊎ CanonicalExceeds g limit)
+canonical_or_exceeds g limit range few =
     let s = starts (length g.starts) in
     let len = s.1.len in
     collect g range limit limit s.0 [] (PartialCollection-start g s.0 s.1) (omega (arith, len)) (omega arith)

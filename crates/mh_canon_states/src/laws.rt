@@ -1,4 +1,4 @@
-//! The law that a grammar has a canonical automaton, as a call without effect whose contract other crates can use.
+//! The law that a grammar has a canonical automaton, as a function that does nothing and whose contract states the law.
 ghost use Rattle.std.specs.Prelude.{◌≤◌, ◌⊎◌, ℕ, length};
 ghost use Rattle.mh_grammar.specs.Plain.{PlainGrammar, IsInRange};
 ghost use Rattle.mh_grammar_decided.specs.NotLacking.{NotLacking};

@@ -8,10 +8,10 @@ use Rattle.std.proofs.lemmas.List.Elements.{All-get_or, Contains-push, Contains-
 use Rattle.mh_grammar.proofs.Lists.{recursion_contains, recursion-push, recursion-weaker, rising-push, below_next}
 use Rattle.mh_grammar.specs.Costs.{IsCost}
 use Rattle.mh_tables_core.specs.Table.{TableData, cost_of_token}
-use Rattle.mh_tables_core.specs.Failing.{CatalogueRow as TableRow, IsRowBefore, FailsFirst, FailsWithinMaxCost, Failing, TooLongAt, Catalogue, SentenceAtMost, cost_of_word, max_sentence_cost}
+use Rattle.mh_tables_core.specs.Failing.{CatalogueRow, IsRowBefore, FailsFirst, FailsWithinMaxCost, Failing, TooLongAt, Catalogue, SentenceAtMost, cost_of_word, max_sentence_cost}
 use Rattle.mh_tables_core.specs.Facts.{Facts}
 use Rattle.mh_facts.specs.Costs.{cap}
-use Rattle.mh_facts.proofs.Complete.{IsRefusedSentence-fails}
+use Rattle.mh_facts.proofs.Complete.{failing_is_refused}
 use Rattle.mh_facts.proofs.Sound.{reaches_known}
 use Rattle.mh_reach.specs.Reaching.{LeastCost}
 use Rattle.mh_catalogue_rows.specs.declared.rows.CatalogueFault.{CatalogueFault}
@@ -22,7 +22,7 @@ use Rattle.mh_catalogue.specs.code.RowsBelow.{RowsBelow}
 
 pub rows_push : (rows : List Row) (r : Row) → rows_of (rows ++ r ∷ []) ≡ rows_of rows ++ row_of r ∷ []
 rows_push [] r = refl
-rows_push (x ∷ rows) r = ap (λ (l : List TableRow). row_of x ∷ l) (rows_push rows r)
+rows_push (x ∷ rows) r = ap (λ (l : List CatalogueRow). row_of x ∷ l) (rows_push rows r)
 
 pub RowsBelow-start : (t : TableData) → RowsBelow t 0 []
 RowsBelow-start t = record { rising = tt; each = tt; below = tt; are_short = tt; complete = λ s lt h. absurd (let l : ⊥ = omega (arith, lt) in l); failing_are_cheap = λ s lt h. absurd (let l : ⊥ = omega (arith, lt) in l) }
@@ -58,14 +58,15 @@ FailsWithinMaxCost-least t s c least le = ((least.1).0, (least.1).1, (least.1).2
     within : (c n : ℕ) → c ≡ min n cap → c ≤ max_sentence_cost → n ≤ max_sentence_cost
     within c n e le = grind (arith, common_steps, e, le)
 
--- The rows of one more state.
+-- The rows of all states below n, with the row of the state n if a sentence fails in it, are the rows of all states
+-- below n + 1.
 
-module _ (t : TableData) (n : ℕ) (rows : List TableRow) (h : RowsBelow t n rows) where
+module _ (t : TableData) (n : ℕ) (rows : List CatalogueRow) (h : RowsBelow t n rows) where
   pub RowsBelow-skip : LeastCost t n None → RowsBelow t (n + 1) rows
   RowsBelow-skip none = record {
     rising = h.rising;
     each = h.each;
-    below = recursion-weaker (λ (row : TableRow). row.state < n) (λ row. row.state < n + 1) (λ row l. omega arith) rows h.below;
+    below = recursion-weaker (λ (row : CatalogueRow). row.state < n) (λ row. row.state < n + 1) (λ row l. omega arith) rows h.below;
     are_short = h.are_short;
     complete = λ s lt fails. elim (below_next s n lt) [ inl less ↦ h.complete s less fails | inr is ↦ absurd (none (rw is at fails)) ];
     failing_are_cheap = λ s lt fails. elim (below_next s n lt) [ inl less ↦ h.failing_are_cheap s less fails | inr is ↦ absurd (none (rw is at fails)) ];
@@ -73,12 +74,12 @@ module _ (t : TableData) (n : ℕ) (rows : List TableRow) (h : RowsBelow t n row
 
   pub RowsBelow-row : (f : Facts t) (start : ℕ) (w : List ℕ) → FailsFirst t start w n → FailsWithinMaxCost t n → RowsBelow t (n + 1) (rows ++ record { state = n; start = start; sentence = w } ∷ [])
   RowsBelow-row f start w first cheap =
-      let r : TableRow = record { state = n; start = start; sentence = w } in
+      let r : CatalogueRow = record { state = n; start = start; sentence = w } in
       record {
-        rising = rising-push IsRowBefore rows r h.rising (λ x c. recursion_contains (λ (row : TableRow). row.state < n) rows h.below x c);
-        each = recursion-push (λ (row : TableRow). FailsFirst t row.start row.sentence row.state) rows r h.each first;
-        below = recursion-push (λ (row : TableRow). row.state < n + 1) rows r (recursion-weaker (λ (row : TableRow). row.state < n) (λ row. row.state < n + 1) (λ row l. omega arith) rows h.below) (omega arith);
-        are_short = recursion-push (λ (row : TableRow). length row.sentence ≤ max_sentence_cost) rows r h.are_short (first_short t f start w n first cheap);
+        rising = rising-push IsRowBefore rows r h.rising (λ x c. recursion_contains (λ (row : CatalogueRow). row.state < n) rows h.below x c);
+        each = recursion-push (λ (row : CatalogueRow). FailsFirst t row.start row.sentence row.state) rows r h.each first;
+        below = recursion-push (λ (row : CatalogueRow). row.state < n + 1) rows r (recursion-weaker (λ (row : CatalogueRow). row.state < n) (λ row. row.state < n + 1) (λ row l. omega arith) rows h.below) (omega arith);
+        are_short = recursion-push (λ (row : CatalogueRow). length row.sentence ≤ max_sentence_cost) rows r h.are_short (first_short t f start w n first cheap);
         complete = λ s lt fails. elim (below_next s n lt) [
           | inl less ↦ (let c = h.complete s less fails in (c.0, Contains-append_left rows (r ∷ []) c.0 c.1, c.2))
           | inr is ↦ (r, Contains-push rows r, sym is)
@@ -90,7 +91,7 @@ module _ (t : TableData) (n : ℕ) (rows : List TableRow) (h : RowsBelow t n row
   pub rows_added : (f : Facts t) (old new : List Row) → rows_of old ≡ rows → (r : Row) → r.state ≡ n → FailsFirst t r.start r.sentence n → FailsWithinMaxCost t n → new ≡ old ++ r ∷ [] → RowsBelow t (n + 1) (rows_of new)
   rows_added f old new are r at first cheap is =
       let same : rows_of new ≡ rows ++ record { state = n; start = r.start; sentence = r.sentence } ∷ [] =
-      ap rows_of is ∙ rows_push old r ∙ ap (λ (l : List TableRow). l ++ row_of r ∷ []) are ∙ ap (λ (s : ℕ). rows ++ record { state = s; start = r.start; sentence = r.sentence } ∷ []) at in
+      ap rows_of is ∙ rows_push old r ∙ ap (λ (l : List CatalogueRow). l ++ row_of r ∷ []) are ∙ ap (λ (s : ℕ). rows ++ record { state = s; start = r.start; sentence = r.sentence } ∷ []) at in
       subst (RowsBelow t (n + 1)) (sym same) (RowsBelow-row f r.start r.sentence first cheap)
 
   pub too_long : (c : ℕ) → LeastCost t n (Some c) → max_sentence_cost < c → TooLongAt t n
@@ -103,12 +104,12 @@ module _ (t : TableData) (n : ℕ) (rows : List TableRow) (h : RowsBelow t n row
       over : (c n : ℕ) → c ≤ min n cap → max_sentence_cost < c → max_sentence_cost < n
       over c n le lt = grind (arith, common_steps, le, lt)
 
--- The rows of all states.
+-- The rows of all states are the catalogue, and no state has only sentences that are too long.
 
-module _ (t : TableData) (f : Facts t) (rows : List TableRow) (h : RowsBelow t (length t.states) rows) where
+module _ (t : TableData) (f : Facts t) (rows : List CatalogueRow) (h : RowsBelow t (length t.states) rows) where
   -- Each state in which a sentence fails is a state of the table.
   known : (s : ℕ) → Failing t s → s < length t.states
-  known s fails = let r = IsRefusedSentence-fails t f fails.0 fails.1 s fails.2 in (reaches_known t f fails.0 s r.last r.before r.start r.reaches).state
+  known s fails = let r = failing_is_refused t f fails.0 fails.1 s fails.2 in (reaches_known t f fails.0 s r.last r.before r.start r.reaches).state
 
   pub is_catalogue : Catalogue t rows
   is_catalogue = record { rising = h.rising; each = h.each; complete = λ s fails. h.complete s (known s fails) fails }
@@ -120,7 +121,7 @@ module _ (t : TableData) (f : Facts t) (rows : List TableRow) (h : RowsBelow t (
       let le = cheap.3 in
       omega arith
 
--- The result: the catalogue, or the fault.
+-- The rows of all states are a result, and so is the fault of a state whose sentences are too long.
 module _ (t : TableData) where
   pub made : Facts t → (n : ℕ) → n ≡ length t.states → (rows : Vec Row Global) → RowsBelow t n (rows_of rows.items) → IsCatalogueResult t (Ok rows)
   made f n all rows below =

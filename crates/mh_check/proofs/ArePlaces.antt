@@ -22,7 +22,7 @@ use Rattle.mh_msgfile.specs.Messages.{IsSentenceOf}
 use Rattle.mh_check.specs.Checks.{FailsIn, Sound, SoundnessFault, NotRefusedAt, RefusedEarlyAt, SharedBy, IsNoRefusal, Accepts, Overshoots, BreaksSoundness, NotRefused, RefusedEarly, Shared, FirstFault}
 use Rattle.mh_check.specs.Compiling.{ReportsCheckFault}
 use Rattle.mh_check.specs.code.Places.{EntrySentence, without_entries, place_of, ArePlaces}
-use Rattle.mh_tables_core.proofs.RefusingState.{state_refused}
+use Rattle.mh_tables_core.proofs.RefusingState.{refusing_state_known}
 use Rattle.mh_check.proofs.FailsOnce.{fails_once}
 
 -- If a sentence is in the list with entries, it is in the list without entries.
@@ -48,7 +48,7 @@ item_at (z ∷ done) (suc k) y is = item_there z done y (item_at done k y is)
 item_of : (done : List EntrySentence) (y : MsgSentence) → Contains (without_entries done) y → SentenceWithEntry done y
 item_of done y c = let at = at_contains (without_entries done) y c in item_at done at.0 y at.1
 
--- ---- More sentences after the first fault.
+-- ---- If more sentences follow, the first fault is the same.
 
 pub split-append : (xs ys before later : List MsgSentence) (x : MsgSentence) → xs ≡ before ++ x ∷ later → xs ++ ys ≡ before ++ x ∷ (later ++ ys)
 split-append xs ys before later x order = ap (λ (l : List MsgSentence). l ++ ys) order ∙ append_assoc before (x ∷ later) ys
@@ -60,7 +60,7 @@ ReportsCheckFault-weaker (faults.SharedState first second state) P Q more told =
 ReportsCheckFault-weaker faults.Memory P Q more told = tt
 
 module _ (t : TableData) where
-  -- ---- One more sound sentence.
+  -- ---- One more sentence, which fails in a state of its own, keeps the sentences sound.
 
   sound_more : (xs : List MsgSentence) (x : MsgSentence) (s : ℕ) → Sound t xs → FailsIn t x s → ((y : MsgSentence) → Contains xs y → FailsIn t y s → ⊥) → Sound t (xs ++ x ∷ [])
   sound_more xs x s sound fails free = record {
@@ -196,7 +196,7 @@ module _ (t : TableData) (x : MsgSentence) (ts : List ℕ) (same : ts ≡ x.toke
       }
 
   pub known_by : Facts t → (v : Verdict) (at s : ℕ) → IsSentenceOf (length t.grammar.starts) t.grammar.tokens x → v ≡ verdicts.Reject at s → VerdictOf t x.start ts (ending_for v) → s < length t.states
-  known_by f v at s of is verdict = state_refused t f x.start x.tokens at s of.start (verdict_is v (verdicts.Reject at s) is verdict)
+  known_by f v at s of is verdict = refusing_state_known t f x.start x.tokens at s of.start (verdict_is v (verdicts.Reject at s) is verdict)
 
   pub early_by : (v : Verdict) (at s : ℕ) → v ≡ verdicts.Reject at s → (at + 1 ≡ length ts → ⊥) → VerdictOf t x.start ts (ending_for v) → (earlier : List MsgSentence) → BreaksSoundness t earlier x (RefusedEarlyAt x.line at)
   early_by v at s is other verdict earlier =

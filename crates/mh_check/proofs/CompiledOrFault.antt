@@ -20,7 +20,7 @@ use Rattle.mh_check.specs.declared.places.SentencePlace.{SentencePlace}
 use Rattle.mh_check.specs.Checks.{FailsIn, SoundnessFault, NotRefusedAt, RefusedEarlyAt, SharedBy, Accepts, Overshoots, NotRefused, RefusedEarly, FirstFault, sentences_of}
 use Rattle.mh_check.specs.Compiling.{IsCompiled}
 use Rattle.mh_check.specs.code.Places.{EntrySentence, sentences_of_entry, sentences_of_entries, without_entries, place_of, ArePlaces}
-use Rattle.mh_tables_core.proofs.RefusingState.{state_refused}
+use Rattle.mh_tables_core.proofs.RefusingState.{refusing_state_known}
 use Rattle.mh_check.proofs.ArePlaces.{placed_more, placed_replicate, shares, breaks, first_more}
 use Rattle.mh_check.proofs.IsCompiled.{is_compiled, sentences_are}
 
@@ -28,7 +28,8 @@ module _ (t : TableData) (h : HaltingFacts t) where
   abbrev Fits : EntrySentence → Type 0
   Fits x = IsSentenceOf (length t.grammar.starts) t.grammar.tokens x.sentence
 
-  -- These sentences have places, or there is a first fault among them.
+  -- These sentences are sound, and some list has, for each state, the line and the entry of the sentence that fails
+  -- there, if one does; or there is a first fault among the sentences.
   abbrev Settled : List EntrySentence → Type 0
   Settled all = ((places : List (Option SentencePlace)) × (length places ≡ length t.states) × ArePlaces t all places) ⊎ ((f : SoundnessFault) × FirstFault t (without_entries all) f)
 
@@ -57,7 +58,7 @@ module _ (t : TableData) (h : HaltingFacts t) where
     refused at s verdict =
         elim (cases_eq (at + 1) (length x.sentence.tokens)) [
           | inl last ↦ (
-              let known : s < length t.states = state_refused t h.facts x.sentence.start x.sentence.tokens at s fits.start verdict in
+              let known : s < length t.states = refusing_state_known t h.facts x.sentence.start x.sentence.tokens at s fits.start verdict in
               let place : at ≡ length x.sentence.tokens - 1 = omega arith in
               at_place s (slice_get places s) (record {
                 sentence = record { known = fits.start; tokens = recursion_from_All (λ z. z < t.grammar.tokens) x.sentence.tokens fits.known };

@@ -82,7 +82,7 @@ entry_split es i e lt is =
     count : 0 + length (take i es) ≡ i
     count = let l : length (take i es) ≡ i = length-take-le i es (omega arith) in omega (arith, l)
 
--- ---- The sentences of a file.
+-- ---- The sentences with their entries, taken without the entries, are the sentences of the file.
 
 sentences_of_items : (entry : ℕ) (xs : List MsgSentence) → without_entries (sentences_of_entry entry xs) ≡ xs
 sentences_of_items entry [] = refl

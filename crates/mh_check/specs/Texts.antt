@@ -38,13 +38,14 @@ check_line name (NotRefusedAt line how) = place_text name line ++ ending_text ho
 check_line name (RefusedEarlyAt line at) = place_text name line ++ early_text at
 check_line name (SharedBy first second state) = place_text name second ++ shared_state_text state first
 
-unfoldable pub state_text : ℕ → ℕ → Text
-state_text state size = codes "state " ++ decimal state ++ codes " " ++ decimal size ++ codes "\n"
+-- The first line of the text of a state: `state`, its number, and the size of its message in bytes.
+unfoldable pub state_header_text : ℕ → ℕ → Text
+state_header_text state size = codes "state " ++ decimal state ++ codes " " ++ decimal size ++ codes "\n"
 
 -- The text of a state: its number, the size of its message in bytes, and the message.
 abbrev pub message_text : ℕ → Option Text → Text
 message_text state None = []
-message_text state (Some message) = state_text state (length message) ++ message
+message_text state (Some message) = state_header_text state (length message) ++ message
 
 -- The texts of the states from `state` on, in ascending order.
 abbrev pub compiled_from : ℕ → List (Option Text) → Text

@@ -27,7 +27,8 @@ impl Model for Compiled {
     ghost invariant = { λ c. length (map (message_of_place c.messages.items) c.places.items) ≤ 2 ^ 32 };
 }
 
-/// Combines the places of the states with the messages of the entries.
+/// Makes a compiled file of two lists: for each state the place (line and entry) of the sentence that fails there, if
+/// there is one, and for each entry its message.
 pub(crate) fn compiled_of(
     places: Vec<Option<SentencePlace>>,
     messages: Vec<Sequence<u8>>,
@@ -38,7 +39,7 @@ pub(crate) fn compiled_of(
     Compiled { places, messages }
 }
 
-/// The place of the sentence that fails in a state, if there is one.
+/// The place (line and entry) of the sentence that fails in a state, if there is one.
 fn place_at(places: &[Option<SentencePlace>], state: u32) -> Option<SentencePlace>
     ensures { result ≡ place_in places.now state }
 {
@@ -48,7 +49,7 @@ fn place_at(places: &[Option<SentencePlace>], state: u32) -> Option<SentencePlac
     }
 }
 
-/// The message of the entry of a place.
+/// The message of the entry in which the sentence at this place is.
 fn message_at_place(messages: &[Sequence<u8>], place: SentencePlace) -> Option<&[u8]>
     ensures { MatchOption result (slice_get messages.now place.entry ≡ None) (λ message. slice_get messages.now place.entry ≡ Some message.now) }
 {

@@ -14,7 +14,7 @@ use mh_run::{Verdict, verdict};
 use mh_tables_core::{Halting, Table};
 use std::alloc::Global;
 
-/// The place in the file of the sentence that fails in a state.
+/// The place in the file (line and entry) of the sentence that fails in a state.
 #[derive(Clone, Copy)]
 pub struct SentencePlace {
     /// The number of its line, from 1.

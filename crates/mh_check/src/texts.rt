@@ -3,7 +3,7 @@ ghost use Rattle.std.specs.Prelude.{◌≡◌, ◌≤◌, ◌^◌, ◌++◌, len
 ghost use Rattle.mh_run.specs.Verdicts.{ending_for};
 ghost use Rattle.mh_msgfile.specs.Messages.{ReportsFault as ReportsFileFault};
 ghost use Rattle.mh_check.specs.Compiling.{ReportsCheckFault, message_at};
-ghost use Rattle.mh_check.specs.Texts.{place_text, file_line, ending_text as ending_line, early_text, shared_state_text, check_line, state_text, message_text, compiled_text as compiled_lines};
+ghost use Rattle.mh_check.specs.Texts.{place_text, file_line, ending_text as ending_line, early_text, shared_state_text, check_line, state_header_text, message_text, compiled_text as compiled_lines};
 
 use crate::compiled::Compiled;
 use crate::compiling::CheckFault;
@@ -161,9 +161,9 @@ pub fn check_fault_line(alloc: Global, name: &[u8], fault: &CheckFault) -> Resul
     Ok(text)
 }
 
-#[tactic(auto, unfolding(crate::specs::Texts::state_text))]
+#[tactic(auto, unfolding(crate::specs::Texts::state_header_text))]
 fn write_state(alloc: Global, text: &mut Vec<u8>, state: usize, size: usize) -> Result<(), Memory>
-    ensures { OnOk result (text.new.items ≡ text.old.items ++ state_text state size) }
+    ensures { OnOk result (text.new.items ≡ text.old.items ++ state_header_text state size) }
 {
     text.extend_from_slice(b"state ")?;
     write_number(alloc, text, state)?;

@@ -8,3 +8,7 @@ pub mod Resumed
 pub mod StepsOfRun
 pub mod SettleLoop
 pub mod StackSplit
+pub mod IsFed
+pub mod Walks
+pub mod FedTokens
+pub mod StackSymbols

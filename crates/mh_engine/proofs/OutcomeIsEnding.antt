@@ -88,8 +88,9 @@ module _ (t : TableData) (f : Facts t) (start : ℕ) (w : List ℕ) (lt : start 
     move_is : run_move_of t (top_of run.stack) run.left ≡ m
     move_is = ap (λ (s : List ℕ). run_move_of t (top_of s) run.left) (sym states_are) ∙ ap (λ (l : List ℕ). run_move_of t (top_of r.position.pairs.states) l) (sym left_is) ∙ ap (λ (u : TableData). run_move_of u (top_of r.position.pairs.states) r.position.left) (sym table_is) ∙ at
 
-    pub ends : step t run ≡ step_by t run m
-    ends = step_moves t run m move_is
+    -- The move m is the next move at the reached position, so the next step of the run makes m.
+    pub step_is_by_move : step t run ≡ step_by t run m
+    step_is_by_move = step_moves t run m move_is
 
     -- No step of this run makes too many pairs or too high a tree.
     pub fits : IsTooDeep t start w → ⊥
@@ -134,21 +135,21 @@ pub run_ending : (t : TableData) (f : Facts t) (start : ℕ) (w : List ℕ) → 
 run_ending t f start w lt (outcomes.Accept read tree) a =
     let r = a.reaches in
     let m = accepted_moves r.position r.phase_is in
-    let end = ends t f start w lt phases.Accepted read r Accepting m accepts ∙ ap (λ (n : ℕ). Ends (Accepted n)) (read_is t f start w lt phases.Accepted read r Accepting m accepts) in
+    let end = step_is_by_move t f start w lt phases.Accepted read r Accepting m accepts ∙ ap (λ (n : ℕ). Ends (Accepted n)) (read_is t f start w lt phases.Accepted read r Accepting m accepts) in
     let one : trees_after t r.steps (initial start w) [] ≡ tree ∷ [] = sym (trees_are t f start w lt phases.Accepted read r Accepting m accepts) ∙ a.one_tree in (
       subst (IsTreeOfRead t start w read) (ap (λ (ts : List SyntaxTree). get_or ts 0 (Leaf 0)) one) (accepted_derives t f start w read r.steps lt end),
       fits t f start w lt phases.Accepted read r Accepting m accepts,
     )
 run_ending t f start w lt (outcomes.Overshoot state) r =
     let m = asking r.position state r.phase_is in (
-      (r.steps, ends t f start w lt (phases.InputNeeded state) (length w) r Asks m.0 asks ∙ ap (λ (s : ℕ). Ends (Overshot s)) (sym (top_is t f start w lt (phases.InputNeeded state) (length w) r Asks m.0 asks) ∙ m.1)),
+      (r.steps, step_is_by_move t f start w lt (phases.InputNeeded state) (length w) r Asks m.0 asks ∙ ap (λ (s : ℕ). Ends (Overshot s)) (sym (top_is t f start w lt (phases.InputNeeded state) (length w) r Asks m.0 asks) ∙ m.1)),
       fits t f start w lt (phases.InputNeeded state) (length w) r Asks m.0 asks,
     )
 run_ending t f start w lt (outcomes.Reject at state) r =
     let m = error_phase_refuses r.position state r.phase_is in (
       (
         r.steps,
-        ends t f start w lt (phases.HandlingError state) at r Refuses m.0 refuses ∙ ap (λ (n : ℕ). Ends (Rejected n (top_of (after t r.steps (initial start w)).stack))) (read_is t f start w lt (phases.HandlingError state) at r Refuses m.0 refuses)
+        step_is_by_move t f start w lt (phases.HandlingError state) at r Refuses m.0 refuses ∙ ap (λ (n : ℕ). Ends (Rejected n (top_of (after t r.steps (initial start w)).stack))) (read_is t f start w lt (phases.HandlingError state) at r Refuses m.0 refuses)
             ∙ ap (λ (s : ℕ). Ends (Rejected at s)) (sym (top_is t f start w lt (phases.HandlingError state) at r Refuses m.0 refuses) ∙ m.1),
       ),
       fits t f start w lt (phases.HandlingError state) at r Refuses m.0 refuses,

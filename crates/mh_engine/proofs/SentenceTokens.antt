@@ -81,7 +81,7 @@ deep_rest zs a d =
     let all = after_rest zs d.steps a d.can_step in
     record { steps = d.steps; can_step = all.0; deep = ap (λ (p : Position). too_deep p.pairs.trees) all.1 ∙ d.deep }
 
-deep_join : (n : ℕ) (a b : Position) → StepsLeadTo n a b → SettlesTooDeep b → SettlesTooDeep a
+pub deep_join : (n : ℕ) (a b : Position) → StepsLeadTo n a b → SettlesTooDeep b → SettlesTooDeep a
 deep_join n a b l d = record {
   steps = n + d.steps;
   can_step = can_add n d.steps a l.can_step (subst (CanMakeSteps d.steps) (sym l.reaches) d.can_step);
@@ -215,7 +215,7 @@ shifting_where : (b : Bool) (c : Position) (q z : ℕ) → phase_if_refused b c 
 shifting_where true c q z e = cc
 shifting_where false c q z e = shifting_by (next_move c) (top_of c.pairs.states) c.left q z e
 
-shifting : (c : Position) (q z : ℕ) → phase_of c ≡ phases.Shifting q z → (j : ℕ) × (next_move c ≡ Shifts j)
+pub shifting : (c : Position) (q z : ℕ) → phase_of c ≡ phases.Shifting q z → (j : ℕ) × (next_move c ≡ Shifts j)
 unfolding phase_of
 shifting c q z e = shifting_where c.refused c q z e
 

@@ -93,7 +93,7 @@ SettleInvariant-start first floor k e = record {
 }
 
 -- A step that does not make the tree too deep is appended to the steps so far.
-leads_more : (n : ℕ) (first now : Position) → StepsLeadTo n first now → CanResume (phase_of now) → too_deep (resumed now).pairs.trees ≡ false → StepsLeadTo (suc n) first (resumed now)
+pub leads_more : (n : ℕ) (first now : Position) → StepsLeadTo n first now → CanResume (phase_of now) → too_deep (resumed now).pairs.trees ≡ false → StepsLeadTo (suc n) first (resumed now)
 leads_more n first now l g fits =
     let there : after_steps (suc n) first ≡ resumed now = after_steps-suc n first ∙ ap resumed l.reaches in
     record {

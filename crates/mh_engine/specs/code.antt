@@ -6,3 +6,4 @@ pub mod ManySteps
 pub mod Settling
 pub mod SentenceOutcomes
 pub mod BelowIsShorter
+pub mod FedTokens

@@ -1,5 +1,5 @@
 //! Checkpoints: immutable positions of a run.
-ghost use Rattle.std.specs.Prelude.{◌≡◌, ◌<◌, ◌∷◌, [], length, true, false, IfOk, IfErr, IfSome, IfNone, OnOk};
+ghost use Rattle.std.specs.Prelude.{◌≡◌, ◌↔◌, ◌<◌, ◌∷◌, [], length, true, false, IsTrue, IfOk, IfErr, IfSome, IfNone, OnOk};
 ghost use Rattle.mh_tables_core.specs.Run.{IsRunStack, Shifts, Reduces};
 ghost use Rattle.mh_tables_core.specs.NextActions.{move_for};
 ghost use Rattle.mh_tables_core.specs.TooDeep.{too_deep};
@@ -7,6 +7,7 @@ ghost use Rattle.mh_engine.specs.code.CanReduce.{CanReduce};
 ghost use Rattle.mh_engine.specs.Phases.{next_move, phase_of, CanOffer, CanResume};
 ghost use Rattle.mh_engine.specs.Branches.{Branch, HasPosition, new_branch, with_token, with_step};
 ghost use Rattle.mh_engine.specs.code.Settling.{CheckpointFacts};
+ghost use Rattle.mh_engine.specs.StackSymbols.{stack_symbols};
 ghost use Rattle.mh_engine.specs.Steps.{initial_position, offered, refused_position, resumed};
 ghost use Rattle.mh_engine.specs.declared.phase.Phase.TheVariants as phases;
 ghost use Rattle.mh_engine.specs.declared.fault.ResumeFault.TheVariants as faults;
@@ -14,7 +15,8 @@ ghost use Rattle.mh_engine.specs.declared.fault.ResumeFault.TheVariants as fault
 use crate::fault::ResumeFault;
 use crate::phase::Phase;
 use crate::stack::Stack;
-use mh_grammar::{Memory, Token};
+use crate::symbols::symbols_between;
+use mh_grammar::{Memory, Symbol, Token};
 use mh_tables_core::{Halting, NextAction, choose};
 use mh_tree::{Tree, can_be_children, leaf, node};
 use std::alloc::Global;
@@ -79,6 +81,13 @@ impl<'t> Checkpoint<'t> {
         self.stack.count()
     }
 
+    /// True if each token that was offered is shifted.
+    pub(crate) fn is_shifted(&self) -> bool
+        ensures { IsTrue result ↔ (self.now.left ≡ []) }
+    {
+        self.pending.is_none()
+    }
+
     /// The states of the run's stack from the start state: a path of edges of the table. Fails only if memory runs out.
     pub fn states(&self, alloc: Global) -> Result<Vec<u32>, Memory>
         ensures states { IfOk result (λ states. states.items ≡ self.now.pairs.states) }
@@ -86,6 +95,14 @@ impl<'t> Checkpoint<'t> {
     {
         let _table = self.table;
         self.stack.states(alloc)
+    }
+
+    /// The symbols on the run's stack, the lowest first. Fails only if memory runs out.
+    pub fn symbols(&self, alloc: Global) -> Result<Vec<Symbol>, Memory>
+        ensures { IfOk result (λ symbols. symbols.items ≡ stack_symbols self.now) }
+    {
+        let states = self.states(alloc)?;
+        symbols_between(alloc, self.table.table(), states.as_slice())
     }
 
     /// The next move of the run.

@@ -3,12 +3,15 @@
 
 mod checkpoint;
 mod fault;
+mod feeding;
 mod phase;
 mod reductions;
 mod sentence;
 mod stack;
+mod symbols;
 
 pub use checkpoint::{Checkpoint, begin};
 pub use fault::ResumeFault;
+pub use feeding::Fed;
 pub use phase::Phase;
 pub use sentence::{TreeOutcome, run_with_trees};

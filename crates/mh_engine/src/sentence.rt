@@ -136,7 +136,7 @@ fn feed<'t>(
 }
 
 /// The checkpoint with the token offered; it replaces the checkpoint `asking`.
-fn offer_to<'t>(asking: Checkpoint<'t>, token: Token) -> Result<Checkpoint<'t>, Memory>
+pub(crate) fn offer_to<'t>(asking: Checkpoint<'t>, token: Token) -> Result<Checkpoint<'t>, Memory>
     requires can_offer { CanOffer (phase_of asking) }
     requires token { token < asking.table.grammar.tokens }
     ensures { IfOk result (λ c. c ≡ offered asking.entry token) }
@@ -145,7 +145,10 @@ fn offer_to<'t>(asking: Checkpoint<'t>, token: Token) -> Result<Checkpoint<'t>, 
 }
 
 /// The checkpoint after the next step; it replaces the checkpoint `from`.
-fn resume_from<'t>(alloc: Global, from: Checkpoint<'t>) -> Result<Checkpoint<'t>, ResumeFault>
+pub(crate) fn resume_from<'t>(
+    alloc: Global,
+    from: Checkpoint<'t>,
+) -> Result<Checkpoint<'t>, ResumeFault>
     requires { CanResume (phase_of from) }
     ensures value { IfOk result (λ c. c ≡ resumed from.entry) }
     ensures fits { OnOk result (too_deep (resumed from.entry).pairs.trees ≡ false) }

@@ -169,7 +169,7 @@ impl Stack {
         ensures below { IfOk result (λ r. r.0 ≡ without_last count self.now) }
         ensures trees { IfOk result (λ r. r.1.items ≡ drop (length self.now.trees - count) self.now.trees) }
     {
-        let mut trees = Vec::new(alloc);
+        let mut trees = Vec::with_capacity(alloc, count)?;
         let mut below = self;
         for _ in 0..count {
             match &below.link {

@@ -187,7 +187,7 @@ arity_fault j before t most (Some n) instance count within is =
     rw (sym here, within.0) (expansion.IsFault.count count)
 arity_fault j before t most None instance count within is = let no : None ≡ Some instance = is in cc
 
--- A fault that satisfies P satisfies Q, if P implies Q.
+-- If P implies Q, then "P, or memory ran out" implies "Q, or memory ran out".
 pub IsMemoryOr-weaker : (P Q : ExpandFault → Type 0) → ((e : ExpandFault) → P e → Q e) → (e : ExpandFault) → IsMemoryOr P e → IsMemoryOr Q e
 IsMemoryOr-weaker P Q h (Arity n) c = h (Arity n) c
 IsMemoryOr-weaker P Q h (Expansion n) c = h (Expansion n) c

@@ -97,7 +97,8 @@ module _ (j : Joined) (e : Expanded) (w : IsExpanded j e) (ready : IsJoinedReady
   reached_fits t (expansion.IsReached.start c) = found_fits t (Contains-append_left (start_terms j) (flat_map (producers_of j) w.terms) t c)
   reached_fits x (expansion.IsReached.producer {t} r c i) = found_fits x (Contains-append_right (start_terms j) (flat_map (producers_of j) w.terms) x (contains_flat_map (producers_of j) w.terms t x ((w.exact t).1 r) c))
 
-  -- The rule of an instance.
+  -- An instance with the right number of arguments has a rule with this number of formals, and the numbers of tokens
+  -- and rules in it are in range (`IsRuleReady`).
   fit_rule : (t : Term) → IsInstance t → HasRightArity j t → (q : JoinedRule) × (rule_of j t ≡ Some q) × (q.formals ≡ length (arguments t)) × IsRuleReady tokens rules q
   unfolding tokens rules
   fit_rule t i f = go (head_of t) refl i f

@@ -38,7 +38,7 @@ term_at-slice_get ts n t e = ap (λ o. unwrap_or o (term_at [] n)) e
 pub node_term-kept : (ts us : List Term) (n : Application) → IsExtendedBy ts us → All (λ a. a < length ts) n.args → node_term us n ≡ node_term ts n
 node_term-kept ts us n g a = ap (apply_all (Atom n.head)) (terms_at-kept ts us n.args g a)
 
--- The terms built from nodes begin with the terms given.
+-- If the terms of the nodes `ns` are appended to the list `ts`, the new list begins with `ts`.
 from-grows : (ts : List Term) (ns : List Application) → IsExtendedBy ts (terms_from ts ns)
 from-grows ts [] = ([], sym (append-nil ts))
 from-grows ts (n ∷ ns) =

@@ -1,5 +1,5 @@
--- Terms: a token, rule or formal applied to a list of terms (Menhir manual, parameterized rules; the choice is a rule
--- of this project).
+-- Terms: a token, rule or formal applied to a list of terms (Menhir manual, parameterized rules, of which this project
+-- supports a part).
 use Rattle.std.specs.Prelude.{ℕ, List, [], ◌∷◌, ◌++◌, slice_get}
 use Rattle.std.specs.Option.{option_map, unwrap_or}
 use Rattle.mh_grammar.specs.declared.types.TokenInfo.{TokenInfo}

@@ -12,7 +12,7 @@ pub(crate) struct Application {
 }
 
 impl Application {
-    /// A copy. A formal without arguments is replaced by a copy of its term. Fails only if memory runs out.
+    /// Returns a copy of this application. Fails only if memory runs out.
     pub(crate) fn copied(&self) -> Result<Application, Memory>
         ensures { IfOk result (λ n. n ≡ self.now) }
     {

@@ -214,7 +214,7 @@ fn expand_instance(
     }
 }
 
-/// The rule at a head.
+/// The rule that a head names.
 fn rule_of(joined: &Joined, head: Head) -> &JoinedRule
     requires { IsSome (rule_at joined.now head) }
     ensures { rule_at joined.now head ≡ Some result.now }

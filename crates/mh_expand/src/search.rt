@@ -4,7 +4,7 @@ ghost use Rattle.mh_grammar.specs.Placed.{Placed};
 ghost use Rattle.mh_expand.specs.Terms.{Term, head_of, head_name, text};
 ghost use Rattle.mh_expand.specs.Expansion.{IsInstance, HasRightArity, IsFault, IsMemoryOr};
 ghost use Rattle.mh_expand.specs.code.SharedTerms.{terms_of, term_at};
-ghost use Rattle.mh_expand.specs.code.InstanceSearch.{FindsTermAfterAny, IsFaultAfterAny};
+ghost use Rattle.mh_expand.specs.code.InstanceSearch.{FindsTermForAllBefore, IsMemoryOrFaultForAllBefore};
 ghost use Rattle.mh_rules.specs.Limits.{max_instances};
 ghost use Rattle.mh_expand.specs.Limits.{max_name};
 
@@ -34,8 +34,8 @@ pub(crate) fn find(
     requires number { number < length (terms_of terms.now.nodes.keys) }
     requires few { length found.old.keys ≤ max_instances }
     ensures few { IfOk result (λ _. length found.new.keys ≤ max_instances) }
-    ensures ok { IfOk result (FindsTermAfterAny joined.now (terms_of terms.now.nodes.keys) (term_at (terms_of terms.now.nodes.keys) number) found.old.keys found.new.keys) }
-    ensures err { IfErr result (IsFaultAfterAny joined.now (terms_of terms.now.nodes.keys) (term_at (terms_of terms.now.nodes.keys) number) found.old.keys) }
+    ensures ok { IfOk result (FindsTermForAllBefore joined.now (terms_of terms.now.nodes.keys) (term_at (terms_of terms.now.nodes.keys) number) found.old.keys found.new.keys) }
+    ensures err { IfErr result (IsMemoryOrFaultForAllBefore joined.now (terms_of terms.now.nodes.keys) (term_at (terms_of terms.now.nodes.keys) number) found.old.keys) }
 {
     let node = terms.at(number);
     match node.head {
@@ -61,8 +61,8 @@ pub(crate) fn find_instance(
     requires few { length found.old.keys ≤ max_instances }
     requires rule { head_of (term_at (terms_of terms.now.nodes.keys) number) ≡ Head.Rule rule }
     ensures few { IfOk result (λ _. length found.new.keys ≤ max_instances) }
-    ensures ok { IfOk result (λ p. FindsTermAfterAny joined.now (terms_of terms.now.nodes.keys) (term_at (terms_of terms.now.nodes.keys) number) found.old.keys found.new.keys (Part.Instance p)) }
-    ensures err { IfErr result (IsFaultAfterAny joined.now (terms_of terms.now.nodes.keys) (term_at (terms_of terms.now.nodes.keys) number) found.old.keys) }
+    ensures ok { IfOk result (λ p. FindsTermForAllBefore joined.now (terms_of terms.now.nodes.keys) (term_at (terms_of terms.now.nodes.keys) number) found.old.keys found.new.keys (Part.Instance p)) }
+    ensures err { IfErr result (IsMemoryOrFaultForAllBefore joined.now (terms_of terms.now.nodes.keys) (term_at (terms_of terms.now.nodes.keys) number) found.old.keys) }
 {
     let count = terms.at(number).args.len();
     match joined.rules.get(rule as usize) {
@@ -95,8 +95,8 @@ fn add_instance(
     requires fits { HasRightArity joined.now (term_at (terms_of terms.now.nodes.keys) number) }
     requires rule { rule.now ≡ head_name joined.now (head_of (term_at (terms_of terms.now.nodes.keys) number)) }
     ensures few { IfOk result (λ _. length found.new.keys ≤ max_instances) }
-    ensures ok { IfOk result (λ p. FindsTermAfterAny joined.now (terms_of terms.now.nodes.keys) (term_at (terms_of terms.now.nodes.keys) number) found.old.keys found.new.keys (Part.Instance p)) }
-    ensures err { IfErr result (IsFaultAfterAny joined.now (terms_of terms.now.nodes.keys) (term_at (terms_of terms.now.nodes.keys) number) found.old.keys) }
+    ensures ok { IfOk result (λ p. FindsTermForAllBefore joined.now (terms_of terms.now.nodes.keys) (term_at (terms_of terms.now.nodes.keys) number) found.old.keys found.new.keys (Part.Instance p)) }
+    ensures err { IfErr result (IsMemoryOrFaultForAllBefore joined.now (terms_of terms.now.nodes.keys) (term_at (terms_of terms.now.nodes.keys) number) found.old.keys) }
 {
     let known = found.len();
     let at = place(found, number)?;

@@ -30,9 +30,9 @@ pub(crate) fn text_within(
     Ok(Some(from_bytes(alloc, text.as_slice())?))
 }
 
-/// Appends the text of a term, as far as there is room. The recursion is at most `MAX_DEPTH` deep for an actual. A term
-/// that replaces a formal is less deep than `MAX_DEPTH`: each level takes bytes of the name of the instance, and the
-/// length of this name is checked.
+/// Appends the text of a term, as far as there is room. The depth of the recursion is bounded: an actual is at most
+/// `MAX_DEPTH` deep, and a term that replaces a formal in the actual is an argument of an instance. The name of an
+/// instance has at most `MAX_NAME` bytes, and each level of an argument takes at least one of them.
 fn write_term(
     text: &mut Vec<u8>,
     room: usize,

@@ -18,14 +18,14 @@ asks_or (Shifts j) = inr (λ e. cc)
 asks_or (Reduces p) = inr (λ e. cc)
 
 -- A configuration that a run reaches is also reached, with more tokens left, by the run on more tokens.
-pub longer_to : (t : TableData) (v : List ℕ) (n : ℕ) (c c' : Config) → after t n c ≡ c' → (m : ℕ) × (after t m (longer v c) ≡ longer v c')
-longer_to t v zero c c' e = (0, ap (longer v) e)
-longer_to t v (suc n) c c' e =
+pub after-longer : (t : TableData) (v : List ℕ) (n : ℕ) (c c' : Config) → after t n c ≡ c' → (m : ℕ) × (after t m (longer v c) ≡ longer v c')
+after-longer t v zero c c' e = (0, ap (longer v) e)
+after-longer t v (suc n) c c' e =
     elim (asks_or (run_move_of t (top_of c.stack) c.left)) [
       | inl here ↦ (0, ap (longer v) (sym (after_ended t (suc n) c (Overshot (top_of c.stack)) (step_moves t c Asks here)) ∙ e))
       | inr on ↦ (
           let next : next_of (longer v c) (step t (longer v c)) ≡ longer v (next_of c (step t c)) = ap (next_of (longer v c)) (same_step t v c.stack c.read c.left on) ∙ next_longer v c (step t c) in
-          let rest = longer_to t v n (next_of c (step t c)) c' e in
+          let rest = after-longer t v n (next_of c (step t c)) c' e in
           (suc rest.0, ap (after t rest.0) next ∙ rest.1))
     ]
 
@@ -53,7 +53,7 @@ module _ (t : TableData) (start : ℕ) (u stack : List ℕ) (a : AsksOn t start 
 
   -- The run on the tokens and one more token reaches the same stack, with this token left.
   asked : (n : ℕ) × (after t n first ≡ at stack a.read (z ∷ []))
-  asked = longer_to t (z ∷ []) a.steps (initial start u) (at stack a.read []) a.reaches
+  asked = after-longer t (z ∷ []) a.steps (initial start u) (at stack a.read []) a.reaches
 
   settled : (new : List ℕ) (m : RunMove) → Settles t (Some z) stack new m → (n : ℕ) × (after t n first ≡ at new a.read (z ∷ []))
   settled new m s = (asked.0 + s.count, after-add t asked.0 s.count first ∙ ap (after t s.count) asked.1 ∙ s.leads.reaches a.read [])

@@ -6,8 +6,8 @@ use Rattle.std.proofs.Math.ListN.{get_or-append}
 use Rattle.mh_tables_core.specs.Run.{top_of}
 
 -- The overlay that keeps the whole base and has no own states is the base.
-pub all_of : (base above : List ℕ) (kept : ℕ) → kept ≡ length base → above ≡ [] → take kept base ++ above ≡ base
-all_of base above kept e none = rw (e, none) (append-nil (take (length base) base) ∙ take_all (length base) base (omega arith))
+pub overlay_of_whole_base : (base above : List ℕ) (kept : ℕ) → kept ≡ length base → above ≡ [] → take kept base ++ above ≡ base
+overlay_of_whole_base base above kept e none = rw (e, none) (append-nil (take (length base) base) ∙ take_all (length base) base (omega arith))
 
 module _ (base above : List ℕ) (kept : ℕ) (within : kept ≤ length base) where
   abbrev low : List ℕ

@@ -9,13 +9,13 @@ use Rattle.mh_tables_core.proofs.RefusalIsCut.{verdict_cut}
 use Rattle.mh_tables_core.proofs.RunEnds.{has_verdict, ending_unique, step_moves}
 use Rattle.mh_tables_core.proofs.RefusalStays.{longer, same_step, step_longer, verdict_longer}
 use Rattle.mh_expected.specs.Expected.{Overshoots}
-use Rattle.mh_expected.proofs.ExpectedTokens.{longer_to}
+use Rattle.mh_expected.proofs.ExpectedTokens.{after-longer}
 
 -- An accepted sentence is accepted with any tokens after its own.
 accepted_longer : (t : TableData) (start : ℕ) (w v : List ℕ) (read : ℕ) → VerdictOf t start w (Accepted read) → VerdictOf t start (w ++ v) (Accepted read)
 accepted_longer t start w v read (n, e) =
     let c : Config = after t n (initial start w) in
-    let there = longer_to t v n (initial start w) c refl in
+    let there = after-longer t v n (initial start w) c refl in
     let on : run_move_of t (top_of c.stack) c.left ≡ Asks → ⊥ = λ m. let both : Ends (Accepted read) ≡ Ends (Overshot (top_of c.stack)) = sym e ∙ step_moves t c Asks m in cc in
     (there.0, ap (step t) there.1 ∙ same_step t v c.stack c.read c.left on ∙ ap (step_longer v) e)
 

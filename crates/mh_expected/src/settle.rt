@@ -35,25 +35,6 @@ pub(crate) fn settle(
     ensures base { stack.new.base ≡ stack.old.base }
     ensures settled { IfOk result (λ choice. Settles table.now look stack.old.stack stack.new.stack (move_for choice)) }
 {
-    // Most tokens that are tried need no reduction, so the loop is not entered for them.
-    let _rows = table.table();
-    match choose(table.table(), stack.top(), look) {
-        NextAction::Reduce(_) => reduce_all(table, stack, look),
-        settled => Ok(settled),
-    }
-}
-
-/// Makes all reductions before the next token, and returns the choice after them.
-fn reduce_all(
-    table: &Halting,
-    stack: &mut Overlay<'_>,
-    look: Option<Token>,
-) -> Result<NextAction, Memory>
-    requires run { IsRunStack table.now stack.old.stack }
-    requires look { IsLook table.now look }
-    ensures base { stack.new.base ≡ stack.old.base }
-    ensures settled { IfOk result (λ choice. Settles table.now look stack.old.stack stack.new.stack (move_for choice)) }
-{
     let _rows = table.table();
     // The loop ends: a reduction that removes the state at index `floor` lowers `floor`, and at most `MAX_REDUCTIONS`
     // reductions in a row keep this state. `count` serves this proof alone.

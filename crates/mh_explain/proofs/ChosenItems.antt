@@ -48,9 +48,9 @@ module _ (g : Grammar) (a : Automaton) (s : ℕ) (closed : Kernel) (list : IsIte
   reduction_from : (look : Look) (x : Place) → IsReductionItem g (closure_of (plain_of g) a s) look x → (item : KernelItem) × Contains closed.items item × (core_item_of item ≡ x) × IsCompleteOn g look item
   reduction_from look x (c, whole) = let h = (same x.production x.dot look).1 c in (h.0, h.1, (λ i. record { production = h.2 i; dot = h.3 i }), (rw (h.2, h.3) whole, h.4))
 
-  -- The lines of the actions by the listed items are those of the state.
-  pub actions_of : (look : Look) (text : Text) → AreItemActions g closed.items (edges_at a s) look text → AreActionLines g a s look text
-  actions_of look text h = record {
+  -- The action lines that are computed from the listed items are the action lines of the state.
+  pub item_actions_are_lines : (look : Look) (text : Text) → AreItemActions g closed.items (edges_at a s) look text → AreActionLines g a s look text
+  item_actions_are_lines look text h = record {
     shifts = h.shifts;
     are_shifts = record { rising = h.are_shifts.rising; exact = λ x. ((λ c. shift_to look x ((h.are_shifts.exact x).0 c)), (λ is. (h.are_shifts.exact x).1 (shift_from look x is))) };
     reductions = h.reductions;
@@ -58,9 +58,10 @@ module _ (g : Grammar) (a : Automaton) (s : ℕ) (closed : Kernel) (list : IsIte
     is = h.is;
   }
 
-  -- The lines of the actions by the listed items and by the edges are appended.
+  -- If the lines that are computed from the listed items and the edges are appended, the action lines of the state are
+  -- appended.
   pub appends_actions : (edges : List Edge) → edges_at a s ≡ edges → (look : Look) (old new : Text) → AppendsText (AreItemActions g closed.items edges look) old new → AppendsText (AreActionLines g a s look) old new
-  appends_actions edges e look old new (text, is, written) = (text, actions_of look text (subst (λ (es : List Edge). AreItemActions g closed.items es look text) (sym e) is), written)
+  appends_actions edges e look old new (text, is, written) = (text, item_actions_are_lines look text (subst (λ (es : List Edge). AreItemActions g closed.items es look text) (sym e) is), written)
 
   -- The lines on the next token are appended: the actions, and then the action of the table.
   pub appends_next : (t : TableData) (edges : List Edge) → edges_at a s ≡ edges → (z : ℕ) (old middle new : Text) → AppendsText (AreItemActions g closed.items edges (Token z)) old middle → new ≡ middle ++ taken_line g (run_move_of t s (z ∷ [])) → AppendsText (AreNextLines g a t s (Some z)) old new
@@ -86,7 +87,8 @@ before_last R (z ∷ xs) y rise x c = elim (contains_cases z xs x c) [
   | inr l ↦ before_last R xs y rise.1 x l
 ]
 
--- A property of the elements of a list is one of the elements of a front of the list; a front of a rising list rises.
+-- If all elements of a list have a property, all elements of each prefix have the property. A prefix of a rising list
+-- rises.
 recursion_front : {X : Type 0} (P : X → Type 0) (xs ys : List X) → AllByRecursion P (xs ++ ys) → AllByRecursion P xs
 recursion_front P [] ys all = tt
 recursion_front P (x ∷ xs) ys all = (all.0, recursion_front P xs ys all.1)
@@ -131,7 +133,7 @@ module _ (Is : KernelItem → Type 0) (items : List KernelItem) (item : KernelIt
     );
   }
 
--- One more item of a rising list is chosen, or is not chosen.
+-- The loop step: the next item of a rising list is chosen, or is not chosen.
 module _ (Is : KernelItem → Type 0) (all : List KernelItem) (i : ℕ) (item : KernelItem) (lt : i < length all) (is : item ≡ get_or all i item) where
   pub item_chosen : (places new : List Place) → Is item → IsRising IsItemBefore all → AreChosen Is (take i all) places → new ≡ places ++ core_item_of item ∷ [] → AreChosen Is (take (i + 1) all) new
   item_chosen places new chosen rise h written =
@@ -140,8 +142,8 @@ module _ (Is : KernelItem → Type 0) (all : List KernelItem) (i : ℕ) (item : 
       let rises = rising_front IsItemBefore front (drop (suc i) all) (subst (IsRising IsItemBefore) parts rise) in
       subst (λ (l : List KernelItem). AreChosen Is l new) (sym (take_step all i item lt is)) (subst (AreChosen Is front) (sym written) (chosen_more Is (take i all) item places chosen rises h))
 
-  pub item_left : (places : List Place) → (Is item → ⊥) → AreChosen Is (take i all) places → AreChosen Is (take (i + 1) all) places
-  item_left places not h = subst (λ (l : List KernelItem). AreChosen Is l places) (sym (take_step all i item lt is)) (chosen_not Is (take i all) item places not h)
+  pub item_not_chosen : (places : List Place) → (Is item → ⊥) → AreChosen Is (take i all) places → AreChosen Is (take (i + 1) all) places
+  item_not_chosen places not h = subst (λ (l : List KernelItem). AreChosen Is l places) (sym (take_step all i item lt is)) (chosen_not Is (take i all) item places not h)
 
 pub chosen_all : (Is : KernelItem → Type 0) (all : List KernelItem) (i : ℕ) (places : List Place) → length all ≤ i → AreChosen Is (take i all) places → AreChosen Is all places
 chosen_all Is all i places le h = subst (λ (l : List KernelItem). AreChosen Is l places) (take_all i all le) h

@@ -72,7 +72,7 @@ explanation_written g a t s look kind found is old t1 t2 t3 t4 new line sentence
 
 -- ---- The loop over the conflicts.
 
--- A conflict is explained if levels do not solve it.
+-- Exactly the conflicts that precedence levels do not solve are explained.
 pub is_unsolved : (kind : ConflictKind) → is_explained kind ≡ true → kind ≢ Solved
 is_unsolved Solved is = absurd (true≢false (sym is))
 is_unsolved Unsolved is = λ e. cc

@@ -28,7 +28,8 @@ order_trans t i u j v k w (inr (e, inl a)) (inr (g, inr b)) = let same = b.0 in 
 order_trans t i u j v k w (inr (e, inr a)) (inr (g, inl b)) = let same = a.0 in inr (e ∙ g, inl (omega (arith, b, same)))
 order_trans t i u j v k w (inr (e, inr a)) (inr (g, inr b)) = inr (e ∙ g, inr (a.0 ∙ b.0, lex_trans u v w a.1 b.1))
 
--- The same sentences come with both families of tokens.
+-- If the same sentences come to the state with a next token in P as with a next token in Q, the search for P and the
+-- search for Q have the same result.
 module _ (t : TableData) (s : ℕ) (P Q : ℕ → Type 0) (to : (i : ℕ) (w : List ℕ) (z : ℕ) → ComesWith t s P i w z → ComesWith t s Q i w z) (back : (i : ℕ) (w : List ℕ) (z : ℕ) → ComesWith t s Q i w z → ComesWith t s P i w z) where
   pub same_found : (f : FoundSentence) → IsFoundWith t s P f → IsFoundWith t s Q f
   same_found NoSentence h = λ i w z c. h i w z (back i w z c)
@@ -63,14 +64,14 @@ module _ (t : TableData) (s : ℕ) (look : Look) (n : ℕ) where
   still : (i : ℕ) (w : List ℕ) (z : ℕ) → ComesWith t s Below i w z → ComesWith t s Next i w z
   still i w z c = record { comes = c.comes; shown = record { below = (let l = c.shown.below in omega (arith, l)); shown = c.shown.shown } }
 
-  -- A sentence with a token below n + 1 has a token below n, or the token n.
+  -- A sentence that comes with a next token below n + 1 comes with a next token below n, or with the next token n.
   split : (i : ℕ) (w : List ℕ) (z : ℕ) → ComesWith t s Next i w z → ComesWith t s Below i w z ⊎ ((z ≡ n) × IsShownWith t s look n × Comes t i w s n)
   split i w z c = elim (below_next z n c.shown.below) [
     | inl l ↦ inl (record { comes = c.comes; shown = record { below = l; shown = c.shown.shown } })
     | inr e ↦ inr (e, subst (IsShownWith t s look) e c.shown.shown, subst (λ (y : ℕ). Comes t i w s y) e c.comes)
   ]
 
-  -- If no sentence has the token n, what was found stays.
+  -- If no sentence comes with the next token n, the result of the search stays.
   none_with : ((i : ℕ) (w : List ℕ) → IsShownWith t s look n → Comes t i w s n → ⊥) → (f : FoundSentence) → IsFoundWith t s Below f → IsFoundWith t s Next f
   none_with none = same_found t s Below Next still (λ i w z c. elim (split i w z c) [ inl l ↦ l | inr r ↦ absurd (none i w r.1 r.2) ])
 
@@ -80,7 +81,7 @@ module _ (t : TableData) (s : ℕ) (look : Look) (n : ℕ) where
   pub none_comes : LeastCostTo t s n None → (f : FoundSentence) → IsFoundWith t s Below f → IsFoundWith t s Next f
   none_comes none = none_with (λ i w shown c. none i w c)
 
-  -- If all sentences with the token n come later than the first one, the first one stays.
+  -- If no sentence with the next token n comes before the best sentence so far, the best sentence stays.
   first_stays : (c : ℕ) (x : Sentence) (z : ℕ) → ((i : ℕ) (w : List ℕ) → Comes t i w s n → SentenceAtMost t x.start x.tokens i w) → IsFoundWith t s Below (First c x z) → IsFoundWith t s Next (First c x z)
   first_stays c x z later h = (
     record {
@@ -138,7 +139,8 @@ module _ (t : TableData) (s : ℕ) (look : Look) (n : ℕ) where
     here : ComesWith t s Next x.start x.tokens n
     here = record { comes = first.comes; shown = record { below = omega arith; shown = shown } }
 
-    -- If the sentence comes strictly before all sentences with lower tokens, it is the first one.
+    -- If the sentence comes strictly before all sentences with a next token below n, the sentence is the first of those
+    -- with a next token below n + 1.
     becomes : ((i : ℕ) (w : List ℕ) (z : ℕ) → ComesWith t s Below i w z → SentenceAtMost t x.start x.tokens i w) → ((z : ℕ) → ComesWith t s Below x.start x.tokens z → ⊥) → IsFoundWith t s Next (First c x n)
     becomes before new = (
       record {
@@ -150,7 +152,7 @@ module _ (t : TableData) (s : ℕ) (look : Look) (n : ℕ) where
       cheap,
     )
 
-    -- A sentence of the same cost is before another by the order of their numbers.
+    -- Two sentences of the same cost are in the order of their starts, and then of their tokens.
     by_numbers : (y : Sentence) → cost_of_word t x.tokens ≡ cost_of_word t y.tokens → LexLe (numbers_of x) (numbers_of y) → SentenceAtMost t x.start x.tokens y.start y.tokens
     by_numbers y e le = inr (e, le)
 

@@ -55,7 +55,8 @@ by_start x y Less lt differ = (inl lt, λ s. (let same : x.start ≡ y.start = c
 by_start x y Equal e differ = absurd (differ refl)
 by_start x y Greater gt differ = inl gt
 
--- A sentence of the same cost comes before the best one so far if its numbers do.
+-- A sentence that costs as much as the best one so far comes before the best one exactly if its start and tokens do
+-- (the order `IsSentenceOrder`).
 pub sooner_by_order : (cost least : ℕ) (x y : Sentence) (z : ℕ) (r : Ordering) → cost ≡ least → IsSentenceOrder x y r → MatchBool (ordering_index r == 0) (IsSooner cost x (First least y z)) (IsNoSooner cost x (First least y z))
 sooner_by_order cost least x y z Less e h = inr (e, h)
 sooner_by_order cost least x y z Equal e h = inr (sym e, subst (LexLe (numbers_of y)) (sym h) (lex_refl (numbers_of y)))

@@ -23,7 +23,7 @@ use Rattle.mh_tables_core.specs.Run.{RunMove, Accepts, Asks, Refuses, Shifts, Re
 abbrev pub IsPlaceBefore : Place → Place → Type 0
 IsPlaceBefore x y = (x.production < y.production) ⊎ ((x.production ≡ y.production) × (x.dot < y.dot))
 
--- The list of all such items, rising.
+-- The list has exactly the items with the property `Is`, in rising order.
 pub record AreItems (Is : Place → Type 0) (places : List Place) : Type 0 where
   pub rising : IsRising IsPlaceBefore places
   pub exact : (x : Place) → Contains places x ↔ Is x

@@ -9,7 +9,7 @@ ghost use Rattle.mh_items_kernels.specs.Kernels.{IsItemList, IsKernelItem};
 ghost use Rattle.mh_resolve_cells.specs.States.{shift_on as shift_of};
 ghost use Rattle.mh_tables_core.specs.Run.{run_move_of};
 ghost use Rattle.mh_explain.specs.StateActions.{place_text, reduction_lines, reduction_title, reduction_line, shift_line, shift_lines, taken_line};
-ghost use Rattle.mh_explain.specs.code.ChosenItems.{AreChosen, AreItemActions, IsBeforeLook, IsCompleteOn, IsPlaceIn};
+ghost use Rattle.mh_explain.specs.code.ChosenItems.{AreChosen, AreItemActions, GivesAction, IsBeforeLook, IsCompleteOn, IsPlaceIn};
 ghost use Rattle.mh_explain.specs.code.Searched.{AppendsText};
 
 use mh_grammar::{Edge, Grammar, Look, Memory, Symbol, Token, find_edge};
@@ -17,6 +17,13 @@ use mh_grammar_texts::{write_between, write_production, write_sides};
 use mh_items_kernels::{KernelItem, symbol_at};
 use mh_tables_core::{NextAction, Place, Table, choose};
 use std::alloc::Global;
+
+/// The kinds of raw actions of a state on a look.
+#[derive(Clone, Copy)]
+pub(crate) enum RawAction {
+    Shift,
+    Reduce,
+}
 
 /// True if the dot of the item is before the look; never at the end of the stream.
 fn is_before<const W: usize>(grammar: &Grammar, item: &KernelItem<W>, look: Look) -> bool
@@ -53,41 +60,40 @@ fn place_of<const W: usize>(item: &KernelItem<W>) -> Place
     }
 }
 
-/// The items whose dot is before the look, in order.
-fn items_before<const W: usize>(
-    alloc: Global,
+/// True if a closure with the item gives a raw action of this kind on the look.
+fn has_action<const W: usize>(
     grammar: &Grammar,
-    items: &[KernelItem<W>],
+    item: &KernelItem<W>,
     look: Look,
-) -> Result<Vec<Place>, Memory>
+    kind: RawAction,
+) -> bool
     requires fits { FitsSets W grammar.now }
-    requires items { IsItemList (plain_of grammar.now) (record { items = items.now }) }
-    ensures { IfOk result (λ places. AreChosen (IsBeforeLook grammar.now look) items.now places.items) }
+    requires item { IsKernelItem (plain_of grammar.now) item.now }
+    requires look { IsLookBelow (length grammar.now.tokens) look }
+    ensures { MatchBool result (GivesAction kind grammar.now look item.now) (GivesAction kind grammar.now look item.now → ⊥) }
 {
-    let mut places = Vec::new(alloc);
-    for item in items {
-        if is_before(grammar, item, look) {
-            places.push(place_of(item))?;
-        }
+    match kind {
+        RawAction::Shift => is_before(grammar, item, look),
+        RawAction::Reduce => is_complete_on(grammar, item, look),
     }
-    Ok(places)
 }
 
-/// The complete items with the look, in order.
-fn items_complete<const W: usize>(
+/// The items that give a raw action of this kind on the look, in order.
+fn items_for<const W: usize>(
     alloc: Global,
     grammar: &Grammar,
     items: &[KernelItem<W>],
     look: Look,
+    kind: RawAction,
 ) -> Result<Vec<Place>, Memory>
     requires fits { FitsSets W grammar.now }
     requires items { IsItemList (plain_of grammar.now) (record { items = items.now }) }
     requires look { IsLookBelow (length grammar.now.tokens) look }
-    ensures { IfOk result (λ places. AreChosen (IsCompleteOn grammar.now look) items.now places.items) }
+    ensures { IfOk result (λ places. AreChosen (GivesAction kind grammar.now look) items.now places.items) }
 {
     let mut places = Vec::new(alloc);
     for item in items {
-        if is_complete_on(grammar, item, look) {
+        if has_action(grammar, item, look, kind) {
             places.push(place_of(item))?;
         }
     }
@@ -201,9 +207,9 @@ pub(crate) fn write_actions<const W: usize>(
     requires look { IsLookBelow (length grammar.now.tokens) look }
     ensures { OnOk result (AppendsText (AreItemActions grammar.now items.now edges.now look) text.old.items text.new.items) }
 {
-    let shifts = items_before(alloc, grammar, items, look)?;
+    let shifts = items_for(alloc, grammar, items, look, RawAction::Shift)?;
     write_shifts(alloc, text, grammar, shift_on(edges, look), &shifts)?;
-    let reductions = items_complete(alloc, grammar, items, look)?;
+    let reductions = items_for(alloc, grammar, items, look, RawAction::Reduce)?;
     write_reductions(text, grammar, &reductions)
 }
 

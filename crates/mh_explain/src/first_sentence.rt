@@ -15,7 +15,7 @@ use std::cmp::Ordering;
 /// The greatest cost of a sentence that is written.
 const MAX_SENTENCE_COST: u32 = 1_000_000;
 
-/// The sentences that come to the state of a conflict.
+/// What was found of the sentences that come to the state of a conflict.
 #[derive(Drop)]
 pub enum FoundSentence {
     /// No sentence comes to the state.
@@ -30,8 +30,8 @@ pub enum FoundSentence {
     },
 }
 
-/// True if a conflict of the state on this look is shown with the token next: the look is the token, or the look is the
-/// end of the stream and the state does not refuse the token.
+/// True if a sentence that comes to this state runs into the conflict on this look when this token comes next: the look
+/// is the token, or the look is the end of the stream and the state does not refuse the token.
 fn is_shown_with(table: &Table, state: u32, look: Look, token: Token) -> bool
     requires state { state < length table.now.states }
     requires token { token < table.now.grammar.tokens }
@@ -53,7 +53,7 @@ fn order(left: &Sentence, right: &Sentence) -> Ordering
     }
 }
 
-/// True if the best sentence so far costs less than this.
+/// True if the best sentence so far costs less than the given cost.
 fn costs_more(cost: u32, best: &FoundSentence) -> bool
     ensures { IsTrue result ↔ IsCostlier cost best.now }
 {
@@ -81,7 +81,7 @@ fn is_sooner(cost: u32, sentence: &Sentence, best: &FoundSentence) -> bool
     }
 }
 
-/// Takes the sentence of this cost in place of the best one so far, if it comes before that.
+/// Replaces the best sentence so far by the given sentence of this cost, if the given sentence comes before the best.
 fn take_sooner(best: &mut FoundSentence, cost: u32, sentence: Sentence, next: Token)
     ensures { TakesSooner cost sentence next best.old best.new }
 {
@@ -94,7 +94,7 @@ fn take_sooner(best: &mut FoundSentence, cost: u32, sentence: Sentence, next: To
     }
 }
 
-/// Notes that a sentence comes to the state that is too long.
+/// Notes that some sentence comes to the state, but costs too much.
 fn note_too_long(best: &mut FoundSentence)
     ensures { best.new ≡ with_too_long best.old }
 {
@@ -103,7 +103,8 @@ fn note_too_long(best: &mut FoundSentence)
     }
 }
 
-/// Compares the best sentence so far with the first sentence that has this token next, which has this cost.
+/// Compares the best sentence so far with the first sentence that comes to the state with this token next. The cost is
+/// the cost of that first sentence.
 fn add_sentence(
     alloc: Global,
     reach: &Reach<'_>,
@@ -126,8 +127,8 @@ fn add_sentence(
     Ok(())
 }
 
-/// Compares the best sentence so far with the first sentence that has this token next. Tokens are given in rising
-/// order, so that of equal sentences the one with the lowest token stays.
+/// Compares the best sentence so far with the first sentence that comes to the state with this token next. The tokens
+/// are tried in rising order, so for equal sentences the lowest next token is kept.
 fn add_token(
     alloc: Global,
     reach: &Reach<'_>,
@@ -151,9 +152,9 @@ fn add_token(
     }
 }
 
-/// Finds the first sentence that runs into a conflict of a state. For a conflict on a token, this token comes next; for
-/// a conflict with the end of the stream, a token that the state does not refuse, and of these the lowest. Fails for
-/// want of memory alone.
+/// Finds the first sentence that runs into a conflict of a state. For a conflict on a token, this token comes next. For
+/// a conflict with the end of the stream, the lowest possible token that the state does not refuse comes next. Fails
+/// only if memory runs out.
 pub(crate) fn first_sentence(
     alloc: Global,
     reach: &Reach<'_>,

@@ -187,6 +187,6 @@ refused_from t f i (x ∷ w) s n start all lt h =
     refused_at t i (x ∷ w) s (after t n (initial i (x ∷ w))) start all (StackIsBuilt-after t f i (x ∷ w) n (initial i (x ∷ w)) (StackIsBuilt-start t i [] x w) (refusal_left t _ _ h.move)) h
 
 -- For each failing sentence the rules of the search derive that it is refused.
-pub IsRefusedSentence-fails : (t : TableData) (f : Facts t) (i : ℕ) (w : List ℕ) (s : ℕ) → Fails t i w s → IsRefusedSentence t i w s
-IsRefusedSentence-fails t f i w s h =
+pub failing_is_refused : (t : TableData) (f : Facts t) (i : ℕ) (w : List ℕ) (s : ℕ) → Fails t i w s → IsRefusedSentence t i w s
+failing_is_refused t f i w s h =
     refused_from t f i w s h.verdict.0 h.sentence.known h.sentence.tokens h.some_token (refusal t _ _ _ h.verdict.1)

@@ -4,7 +4,7 @@ use Rattle.std.proofs.lemmas.Grind.{common_steps}
 use Rattle.std.proofs.lemmas.List.Sums.{fold_push}
 use Rattle.mh_facts.specs.declared.store.FactKey.{FactKey}
 use Rattle.mh_facts.specs.declared.store.Fact.{Fact}
-use Rattle.mh_facts.specs.Stored.{Facts, same_fact}
+use Rattle.mh_facts.specs.Stored.{StoredFacts, same_fact}
 use Rattle.mh_facts.proofs.StoreEntries.{same_fact_is}
 use Rattle.mh_facts.specs.code.WordAssignment.{with_size, sizes_of}
 use Rattle.mh_facts.proofs.AssociationLists.{AreKeys}
@@ -18,5 +18,5 @@ fact_same k = rw (number_same k.from, number_same k.production, number_same k.do
 pub fact_keys : AreKeys same_fact
 fact_keys = record { equal = same_fact_is; agree = fact_same }
 
-pub sizes_more : (facts : Facts) (e : FactKey × Fact) → sizes_of (facts ++ e ∷ []) ≡ with_size (sizes_of facts) e
+pub sizes_more : (facts : StoredFacts) (e : FactKey × Fact) → sizes_of (facts ++ e ∷ []) ≡ with_size (sizes_of facts) e
 sizes_more facts e = fold_push (λ sizes e. with_size sizes e) (λ k. 0) facts e

@@ -12,8 +12,8 @@ use Rattle.mh_facts.specs.Search as rules
 use Rattle.mh_facts.specs.declared.store.FactKey.{FactKey}
 use Rattle.mh_facts.specs.code.BestFirst.{IsPathEnd, WordOrderLaws, key, HasNoLater, ClosedBy, SoundGoto, Label, extended_label, LabelOrderLaws, HasNoLaterLabel, LabelsClosedBy, SoundLabel, Complete, Candidate}
 use Rattle.mh_facts.proofs.StackBuilt.{leading_token-derives}
-use Rattle.mh_facts.proofs.Sound.{derives_known, reaches_known, shift_known, Fails-refused}
-use Rattle.mh_facts.proofs.Complete.{IsRefusedSentence-fails}
+use Rattle.mh_facts.proofs.Sound.{derives_known, reaches_known, shift_known, refused_is_failing}
+use Rattle.mh_facts.proofs.Complete.{failing_is_refused}
 use Rattle.mh_facts.proofs.LowerBound.{bound, derives_end, leading_token_in_range}
 
 -- A store that is closed under the rules is complete.
@@ -78,7 +78,7 @@ pub candidate_fails : (t : TableData) (f : Facts t) (rep : ℕ → ℕ → ℕ) 
     → (s z : ℕ) (l : Label) → Candidate t rep reached s z l → Fails t l.start (l.word ++ z ∷ []) s
 candidate_fails t f rep reached sound s z l h =
     let there = sound s (rep s z) l h.reached_at z h.known refl in
-    Fails-refused t f l.start (l.word ++ z ∷ []) s (record { start = there.0; last = z; known = h.known; before = l.word; word = refl; reaches = there.1; refuses = h.refuses })
+    refused_is_failing t f l.start (l.word ++ z ∷ []) s (record { start = there.0; last = z; known = h.known; before = l.word; word = refl; reaches = there.1; refuses = h.refuses })
 
 module _ (t : TableData) (f : Facts t) (rep : ℕ → ℕ → ℕ) (Le : List ℕ → List ℕ → Type 0) (LeAt : Label → Label → Type 0) (laws : WordOrderLaws Le) (at_laws : LabelOrderLaws Le LeAt) (reached : ℕ → ℕ → Option Label)
     (all : (i s z : ℕ) (v : List ℕ) → i < length t.grammar.starts → z < t.grammar.tokens → ReachesState t i s z v → HasNoLaterLabel LeAt reached s (rep s z) (record { start = i; word = v })) where
@@ -90,7 +90,7 @@ module _ (t : TableData) (f : Facts t) (rep : ℕ → ℕ → ℕ) (Le : List �
 
   -- For each failing sentence there is a candidate that is no later.
   pub fails_candidate : (i s : ℕ) (w : List ℕ) → Fails t i w s → (z : ℕ) × (l : Label) × Candidate t rep reached s z l × LeAt (extended_label l (z ∷ [])) (record { start = i; word = w })
-  fails_candidate i s w h = refused_candidate i s w (IsRefusedSentence-fails t f i w s h)
+  fails_candidate i s w h = refused_candidate i s w (failing_is_refused t f i w s h)
 
 -- A second search that is closed under its rules is complete.
 pub closed_reached : (t : TableData) (f : Facts t) (rep : ℕ → ℕ → ℕ) (Le : List ℕ → List ℕ → Type 0) (LeAt : Label → Label → Type 0) (laws : WordOrderLaws Le) (at_laws : LabelOrderLaws Le LeAt) (store : FactKey → Option (List ℕ)) (complete : Complete t rep Le store)

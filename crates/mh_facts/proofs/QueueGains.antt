@@ -4,7 +4,7 @@ use Rattle.std.specs.Global.{Vec}
 use Rattle.std.proofs.lemmas.Bool.{cases_lt}
 use Rattle.std.proofs.lemmas.List.{get_or_default}
 use Rattle.mh_facts.proofs.FirstElements.{OfFirst, of_none, of_more, of_fewer, of_all, of_some}
-use Rattle.mh_facts.specs.code.Queues.{QueueGains, IsOne, Among, Below}
+use Rattle.mh_facts.specs.code.Queues.{QueueGains, IsSameQueueEntry, Among, Below}
 
 module _ {Y : Type 0} where
   pub gains_none : (P : ℕ → Y → Type 0) (q : List (Vec Y)) → ((c : ℕ) (o : Y) → P c o → ⊥) → QueueGains P q q
@@ -47,5 +47,5 @@ module _ {X Y : Type 0} (rule : X → ℕ → Y → Type 0) (xs : List X) where
   pub first_all : (n : ℕ) (old new : List (Vec Y)) → n ≡ length xs → QueueGains (First rule xs n) old new → QueueGains (Among rule xs) old new
   first_all n old new e g = gains_by (First rule xs n) (Among rule xs) old new (λ c o. of_all (λ p. rule p c o) xs n e) (λ c o. of_some (λ p. rule p c o) xs n e) g
 
-pub gains_only : {Y : Type 0} (P : ℕ → Y → Type 0) (cost : ℕ) (i : Y) (old new : List (Vec Y)) → P cost i × ((c : ℕ) (o : Y) → P c o → IsOne cost i c o) → QueueGains (IsOne cost i) old new → QueueGains P old new
-gains_only P cost i old new one g = gains_by (IsOne cost i) P old new (λ c o e. rw (e.0, e.1) one.0) one.1 g
+pub gains_only : {Y : Type 0} (P : ℕ → Y → Type 0) (cost : ℕ) (i : Y) (old new : List (Vec Y)) → P cost i × ((c : ℕ) (o : Y) → P c o → IsSameQueueEntry cost i c o) → QueueGains (IsSameQueueEntry cost i) old new → QueueGains P old new
+gains_only P cost i old new one g = gains_by (IsSameQueueEntry cost i) P old new (λ c o e. rw (e.0, e.1) one.0) one.1 g

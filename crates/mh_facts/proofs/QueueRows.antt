@@ -6,7 +6,7 @@ use Rattle.std.proofs.lemmas.List.Elements.{Contains-append_left}
 use Rattle.std.specs.Prelude.{slice_set, option_to_list, IsSome}
 use Rattle.std.specs.Global.{Vec}
 use Rattle.mh_grammar.proofs.Lists.{contains_last, contains_none, contains_push}
-use Rattle.mh_facts.specs.code.Queues.{row_of, AddsToRow, QueueGains, IsOne, TakesItem, TakesNothing, TakesFromQueue}
+use Rattle.mh_facts.specs.code.Queues.{row_of, AddsToRow, QueueGains, IsSameQueueEntry, TakesItem, TakesNothing, TakesFromQueue}
 
 module _ {X : Type 0} where
   -- An empty row that is appended changes no row.
@@ -102,7 +102,7 @@ module _ {X : Type 0} where
         }
 
   -- An item that is added to one row of a queue is the only item that the queue gains.
-  pub QueueGains-added : (old mid new : List (Vec X)) (k : ℕ) (p : X) → ((n : ℕ) → row_of mid n ≡ row_of old n) → AddsToRow mid new k p → QueueGains (IsOne k p) old new
+  pub QueueGains-added : (old mid new : List (Vec X)) (k : ℕ) (p : X) → ((n : ℕ) → row_of mid n ≡ row_of old n) → AddsToRow mid new k p → QueueGains (IsSameQueueEntry k p) old new
   QueueGains-added old mid new k p same f = record {
     kept = λ n q h. f.kept n q (rw (same n) h);
     all = λ n q is. rw (is.0, is.1) f.added;

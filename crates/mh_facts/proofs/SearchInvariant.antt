@@ -19,10 +19,11 @@ pub IsPending-up : (Le : List ℕ → List ℕ → Type 0) (laws : WordOrderLaws
 IsPending-up Le laws store queue k u w (inl h) le = inl (HasNoLater-up Le laws store k u w h le)
 IsPending-up Le laws store queue k u w (inr h) le = inr (h.0, h.1, laws.transitive h.0 u w h.2 le)
 
--- A store that is closed under the rules on goto facts is closed under the rules on single productions.
-pub closes_all : (t : TableData) (rep : ℕ → ℕ → ℕ) (Le : List ℕ → List ℕ → Type 0) (laws : WordOrderLaws Le) (store : FactKey → Option (List ℕ)) (goto_words : (from nonterminal first next : ℕ) → List ℕ → Type 0) (H : FactKey → List ℕ → Type 0) → GoesUp Le H → ClosedByGotos t rep Le store goto_words H
+-- `ClosedByGotos` implies `ClosedBy`: if every path is joined with the goto facts of its next nonterminal, it is also
+-- joined with each complete path of a production of this nonterminal.
+pub closed_if_closed_by_gotos : (t : TableData) (rep : ℕ → ℕ → ℕ) (Le : List ℕ → List ℕ → Type 0) (laws : WordOrderLaws Le) (store : FactKey → Option (List ℕ)) (goto_words : (from nonterminal first next : ℕ) → List ℕ → Type 0) (H : FactKey → List ℕ → Type 0) → GoesUp Le H → ClosedByGotos t rep Le store goto_words H
     → ClosedBy t rep store H
-closes_all t rep Le laws store goto_words H up h = record {
+closed_if_closed_by_gotos t rep Le laws store goto_words H up h = record {
   begins = h.begins;
   shifts = h.shifts;
   reduces = λ r p d a y z q s e g u v path end symbol inner end' move edge lt.
@@ -30,10 +31,10 @@ closes_all t rep Le laws store goto_words H up h = record {
       up (key r p (suc d) a (rep g z)) (u ++ way.0) (u ++ v) (h.joins r p d a y s (lhs_of t.grammar q) (rep g z) u way.0 path end symbol way.1) (laws.monotone u u way.0 v (laws.reflexive u) way.2);
 }
 
--- The labels of states are closed under the rule on single productions if they are closed under the rule on goto facts.
-pub closes_all_at : (t : TableData) (rep : ℕ → ℕ → ℕ) (Le : List ℕ → List ℕ → Type 0) (LeAt : Label → Label → Type 0) (laws : WordOrderLaws Le) (at_laws : LabelOrderLaws Le LeAt) (store : FactKey → Option (List ℕ)) (goto_words : (from nonterminal first next : ℕ) → List ℕ → Type 0) (reached : ℕ → ℕ → Option Label)
+-- The same for the labels of states: with `ClosedByGotos`, `LabelsClosedByGotos` implies `LabelsClosedBy`.
+pub labels_closed_if_closed_by_gotos : (t : TableData) (rep : ℕ → ℕ → ℕ) (Le : List ℕ → List ℕ → Type 0) (LeAt : Label → Label → Type 0) (laws : WordOrderLaws Le) (at_laws : LabelOrderLaws Le LeAt) (store : FactKey → Option (List ℕ)) (goto_words : (from nonterminal first next : ℕ) → List ℕ → Type 0) (reached : ℕ → ℕ → Option Label)
     (G : FactKey → List ℕ → Type 0) → ClosedByGotos t rep Le store goto_words G → LabelsClosedByGotos t rep goto_words reached (HasNoLaterLabel LeAt reached) → LabelsClosedBy t rep store reached (HasNoLaterLabel LeAt reached)
-closes_all_at t rep Le LeAt laws at_laws store goto_words reached G first h = record {
+labels_closed_if_closed_by_gotos t rep Le LeAt laws at_laws store goto_words reached G first h = record {
   begins = h.begins;
   shifts = h.shifts;
   reduces = λ s y z q e g l v there inner end move edge lt.
@@ -55,10 +56,11 @@ module _ (t : TableData) (f : Facts t) (rep : ℕ → ℕ → ℕ) (Le : List �
       }
 
   pub empty_complete : ((k : FactKey) (u : List ℕ) → queue k u → ⊥) → Complete t rep Le store
-  empty_complete none = closed_complete t f rep Le laws store (closes_all t rep Le laws store goto_words (HasNoLater Le store) (HasNoLater-up Le laws store) (empty_closed none))
+  empty_complete none = closed_complete t f rep Le laws store (closed_if_closed_by_gotos t rep Le laws store goto_words (HasNoLater Le store) (HasNoLater-up Le laws store) (empty_closed none))
 
   module _ (new : FactKey → Option (List ℕ)) (over : (from nonterminal first next : ℕ) → List ℕ → Type 0) (later : FactKey → List ℕ → Type 0) (k : FactKey) (m : List ℕ) (waited : queue k m) (turn : SettlingStep t rep Le store new goto_words over queue later k m) where
-    -- A step keeps every key and word that is pending.
+    -- After a step, each word that was pending for a key still is: the new store or the new queue has a word for the
+    -- key that comes no later.
     held_on : (other : FactKey) (w : List ℕ) → IsPending Le store queue other w → IsPending Le new later other w
     held_on other w (inl there) = inl (there.0, turn.kept other there.0 there.1, there.2)
     held_on other w (inr waits) =

@@ -60,7 +60,7 @@ pub record RunsAlong (t : TableData) (r p d : ℕ) (stack : List ℕ) (read : �
   pub last : get_or (r ∷ above) d 0 ≡ s
   pub edges : (k : ℕ) (x : Symbol) → k < d → slice_get (rhs_of t.grammar p) k ≡ Some x → edge_of t (get_or (r ∷ above) k 0) x ≡ Some (get_or (r ∷ above) (k + 1) 0)
 
--- The tokens after the first token of v, z and `rest`.
+-- The list `v ++ z ∷ rest` without its first token, which is the first of v, or z if v is empty.
 abbrev pub rest_after_first : List ℕ → ℕ → List ℕ → List ℕ
 rest_after_first [] z rest = rest
 rest_after_first (x ∷ v) z rest = v ++ z ∷ rest
@@ -220,9 +220,9 @@ reaches_known t f i g z w lt (rules.ReachesState.Goes {s = s} {y = y} {e = e} {u
     let two = derives_known t f s q (length (rhs_of t.grammar q)) y z v e one.state inner in
     record { state = f.each_target s (N (lhs_of t.grammar q)) g edge; tokens = rw word (recursion-append (λ (z : ℕ). z < t.grammar.tokens) u v one.tokens two.tokens) }
 
--- Each sentence that the rules of the search refuse fails.
-pub Fails-refused : (t : TableData) (f : Facts t) (i : ℕ) (w : List ℕ) (s : ℕ) → IsRefusedSentence t i w s → Fails t i w s
-Fails-refused t f i w s h =
+-- If the rules of the search derive that a sentence is refused in a state, the run on the sentence fails in this state.
+pub refused_is_failing : (t : TableData) (f : Facts t) (i : ℕ) (w : List ℕ) (s : ℕ) → IsRefusedSentence t i w s → Fails t i w s
+refused_is_failing t f i w s h =
     let k = reaches_known t f i s h.last h.before h.start h.reaches in
     let ran = RunsToState-reaches t f i s h.last h.before h.reaches [] in
     let len : length w ≡ length h.before + 1 = length_more w h.before h.last h.word in

@@ -6,14 +6,14 @@ use Rattle.std.proofs.lemmas.Bool.{and_parts}
 use Rattle.mh_facts.specs.declared.store.FactKey.{FactKey}
 use Rattle.mh_facts.specs.declared.store.Fact.{Fact}
 use Rattle.mh_facts.specs.Ordered.{index_in}
-use Rattle.mh_facts.specs.Stored.{Facts, same_fact, fact_at, highest_cost, IsIndexOf}
+use Rattle.mh_facts.specs.Stored.{StoredFacts, same_fact, fact_at, highest_cost, IsIndexOf}
 use Rattle.mh_facts.proofs.OrderedEntries.{place_at, no_place_none, none_no_place}
 
-last_more : (e c : ℕ) (es : Facts) (k : FactKey) (f : Fact) → f.cost ≡ c → max e (highest_cost es) ≤ c → highest_cost (es ++ (k, f) ∷ []) ≡ c → max e (highest_cost (es ++ (k, f) ∷ [])) ≡ c
+last_more : (e c : ℕ) (es : StoredFacts) (k : FactKey) (f : Fact) → f.cost ≡ c → max e (highest_cost es) ≤ c → highest_cost (es ++ (k, f) ∷ []) ≡ c → max e (highest_cost (es ++ (k, f) ∷ [])) ≡ c
 last_more e c es k f is le h = rw h (grind (arith, common_steps))
 
 -- The highest cost after a fact is stored is the cost of that fact.
-pub highest_cost-push : (es : Facts) (k : FactKey) (f : Fact) → highest_cost es ≤ f.cost → highest_cost (es ++ (k, f) ∷ []) ≡ f.cost
+pub highest_cost-push : (es : StoredFacts) (k : FactKey) (f : Fact) → highest_cost es ≤ f.cost → highest_cost (es ++ (k, f) ∷ []) ≡ f.cost
 highest_cost-push [] k f le = grind (arith, common_steps)
 highest_cost-push (e ∷ es) k f le = last_more e.1.cost f.cost es k f refl le (highest_cost-push es k f (grind (arith, common_steps)))
 
@@ -38,12 +38,12 @@ same_fact_is x y e =
     whole
 
 -- At the index of a key there is the key's entry.
-pub place_found : (es : Facts) (k : FactKey) (o : Option ℕ) → o ≡ index_in (same_fact k) es → IfSome o (IsIndexOf es k)
+pub place_found : (es : StoredFacts) (k : FactKey) (o : Option ℕ) → o ≡ index_in (same_fact k) es → IfSome o (IsIndexOf es k)
 place_found es k None e = tt
 place_found es k (Some n) e =
     let at = place_at (same_fact k) es n (sym e) in
     let same : k ≡ at.0 = same_fact_is k at.0 at.3 in
     (at.1, at.2 ∙ ap (λ (l : FactKey). Some (l, at.1)) (sym same), at.4)
 
-pub place_none : (es : Facts) (k : FactKey) (o : Option ℕ) → o ≡ index_in (same_fact k) es → (o ≡ None) ↔ (fact_at es k ≡ None)
+pub place_none : (es : StoredFacts) (k : FactKey) (o : Option ℕ) → o ≡ index_in (same_fact k) es → (o ≡ None) ↔ (fact_at es k ≡ None)
 place_none es k o e = (λ n. no_place_none (same_fact k) es (sym e ∙ n), λ n. e ∙ none_no_place (same_fact k) es n)

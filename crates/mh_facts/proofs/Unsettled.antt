@@ -5,7 +5,7 @@ use Rattle.std.specs.Prelude.{◌^◌}
 use Rattle.std.specs.Map.{lookup}
 use Rattle.mh_facts.specs.declared.store.FactKey.{FactKey}
 use Rattle.mh_facts.specs.declared.store.Fact.{Fact}
-use Rattle.mh_facts.specs.Stored.{Facts, fact_at}
+use Rattle.mh_facts.specs.Stored.{StoredFacts, fact_at}
 use Rattle.mh_facts.specs.code.BestFirst.{key}
 use Rattle.mh_facts.proofs.AssociationLists.{AreKeys, at_kept, at_last}
 use Rattle.mh_facts.proofs.FactKeys.{fact_keys}
@@ -58,10 +58,10 @@ wide = 2 ^ 32
 abbrev pub narrow : ℕ
 narrow = 2 ^ 16
 
-unfoldable pub unsettled : Facts → ℕ
+unfoldable pub unsettled : StoredFacts → ℕ
 unsettled facts = sum_below wide (λ r. sum_below wide (λ p. sum_below wide (λ d. sum_below narrow (λ a. sum_below narrow (λ z. one_if_absent (fact_at facts (key r p d a z)))))))
 
-module _ (facts : Facts) (k : FactKey) (f : Fact) where
+module _ (facts : StoredFacts) (k : FactKey) (f : Fact) where
   pub unsettled_less : fact_at facts k ≡ None → k.from < 2 ^ 32 → k.production < 2 ^ 32 → k.dot < 2 ^ 32 → k.first < 2 ^ 16 → k.next < 2 ^ 16 → unsettled (facts ++ (k, f) ∷ []) < unsettled facts
   unfolding unsettled
   unsettled_less fresh r p d a z =

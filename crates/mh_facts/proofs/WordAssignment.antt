@@ -13,7 +13,7 @@ use Rattle.mh_facts.specs.declared.store.FactKey.{FactKey}
 use Rattle.mh_facts.specs.declared.store.Fact.{Fact}
 use Rattle.mh_facts.specs.declared.store.Back.{Back}
 use Rattle.mh_facts.specs.declared.store.Back.TheVariants as backs
-use Rattle.mh_facts.specs.Stored.{Facts, fact_at, highest_cost, same_fact}
+use Rattle.mh_facts.specs.Stored.{StoredFacts, fact_at, highest_cost, same_fact}
 use Rattle.mh_facts.specs.code.BestFirst.{WordOrderLaws, LabelOrderLaws}
 use Rattle.mh_facts.specs.code.Orders.{CostLe, CostLexLe}
 use Rattle.mh_facts.specs.Costs.{cap}
@@ -122,7 +122,7 @@ first_than : (m n : ℕ) → m ≤ max m n
 first_than m n = grind (arith, common_steps)
 
 -- Each fact costs at most the highest cost of the store.
-pub cost_at_most_highest : (a : Facts) (q : FactKey) (g : Fact) → fact_at a q ≡ Some g → g.cost ≤ highest_cost a
+pub cost_at_most_highest : (a : StoredFacts) (q : FactKey) (g : Fact) → fact_at a q ≡ Some g → g.cost ≤ highest_cost a
 cost_at_most_highest [] q g e = absurd (let y : None ≡ Some g = e in cc)
 cost_at_most_highest (x ∷ a) q g e = by (same_fact q x.0) e (cost_at_most_highest a q g)
   where
@@ -131,7 +131,7 @@ cost_at_most_highest (x ∷ a) q g e = by (same_fact q x.0) e (cost_at_most_high
     by false e go = more_than x.1.cost (highest_cost a) g.cost (go e)
 
 -- A key that has a word has a stored fact.
-pub fact_of_word : (t : TableData) (facts : Facts) (word_assignment : WordAssignment t facts) (k : FactKey) (v : List ℕ) → word_assignment.words k ≡ Some v → (f : Fact) × (fact_at facts k ≡ Some f)
+pub fact_of_word : (t : TableData) (facts : StoredFacts) (word_assignment : WordAssignment t facts) (k : FactKey) (v : List ℕ) → word_assignment.words k ≡ Some v → (f : Fact) × (fact_at facts k ≡ Some f)
 fact_of_word t facts word_assignment k v e = by (fact_at facts k) refl
   where
     by : (o : Option Fact) → fact_at facts k ≡ o → (f : Fact) × (fact_at facts k ≡ Some f)
@@ -139,7 +139,7 @@ fact_of_word t facts word_assignment k v e = by (fact_at facts k) refl
     by (Some f) is = (f, is)
 
 -- A fact is added to a store with a word assignment.
-module _ (t : TableData) (facts : Facts) (word_assignment : WordAssignment t facts) (k : FactKey) (f : Fact) (w : List ℕ) (fresh : fact_at facts k ≡ None) (by : WordBy t word_assignment.words k f.back w) (cost_is : f.cost ≡ cost_up_to_cap t w) (short : f.cost ≡ 0 → w ≡ []) where
+module _ (t : TableData) (facts : StoredFacts) (word_assignment : WordAssignment t facts) (k : FactKey) (f : Fact) (w : List ℕ) (fresh : fact_at facts k ≡ None) (by : WordBy t word_assignment.words k f.back w) (cost_is : f.cost ≡ cost_up_to_cap t w) (short : f.cost ≡ 0 → w ≡ []) where
   abbrev pub new_words : FactKey → Option (List ℕ)
   new_words = with_value word_assignment.words k (Some w)
 
@@ -229,7 +229,7 @@ same_by t words other sizes n more k (backs.Reduced path inner) v w le a b =
     let whole : b.0 ++ b.1 ≡ a.0 ++ a.1 = rw (one, two) refl in
     b.4 ∙ whole ∙ sym a.4
 
-one_word : (t : TableData) (facts : Facts) (a b : WordAssignment t facts) (n : ℕ) (k : FactKey) (u : List ℕ) → sizes_of facts k ≤ n → a.words k ≡ Some u → b.words k ≡ Some u
+one_word : (t : TableData) (facts : StoredFacts) (a b : WordAssignment t facts) (n : ℕ) (k : FactKey) (u : List ℕ) → sizes_of facts k ≤ n → a.words k ≡ Some u → b.words k ≡ Some u
 one_word t facts a b zero k u le e =
     let f = fact_of_word t facts a k u e in
     let told = a.some k f.0 f.1 in
@@ -243,5 +243,5 @@ one_word t facts a b (suc n) k u le e =
     y.is ∙ ap (λ (w : List ℕ). Some w) (same ∙ one)
 
 -- The word assignment of a store is unique.
-pub one_word_assignment : (t : TableData) (facts : Facts) (a b : WordAssignment t facts) (k : FactKey) (u : List ℕ) → a.words k ≡ Some u → b.words k ≡ Some u
+pub one_word_assignment : (t : TableData) (facts : StoredFacts) (a b : WordAssignment t facts) (k : FactKey) (u : List ℕ) → a.words k ≡ Some u → b.words k ≡ Some u
 one_word_assignment t facts a b k u e = one_word t facts a b (sizes_of facts k) k u (omega arith) e

@@ -1,6 +1,6 @@
 //! A queue of items by cost.
 ghost use Rattle.std.specs.Prelude.{◌≡◌, [], OnOk};
-ghost use Rattle.mh_facts.specs.code.Queues.{QueueGains, IsOne, TakesFromQueue};
+ghost use Rattle.mh_facts.specs.code.Queues.{QueueGains, IsSameQueueEntry, TakesFromQueue};
 
 use mh_grammar::Memory;
 use std::alloc::Global;
@@ -22,7 +22,7 @@ pub fn empty_queue<T>(alloc: Global) -> Queue<T>
 
 /// Adds an item with its cost. Fails for want of memory alone.
 pub fn push<T: Drop>(alloc: Global, queue: &mut Queue<T>, cost: u32, item: T) -> Result<(), Memory>
-    ensures { OnOk result (QueueGains (IsOne cost item) queue.old.buckets.items queue.new.buckets.items) }
+    ensures { OnOk result (QueueGains (IsSameQueueEntry cost item) queue.old.buckets.items queue.new.buckets.items) }
 {
     'buckets: while queue.buckets.len() <= cost as usize {
         queue.buckets.push(Vec::new(alloc))?;

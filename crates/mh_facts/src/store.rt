@@ -53,9 +53,9 @@ pub struct FactStore {
 
 impl Model for FactStore {
     ghost use Rattle.std.specs.Prelude.{◌≡◌};
-    ghost use Rattle.mh_facts.specs.Stored.{Facts, highest_cost};
+    ghost use Rattle.mh_facts.specs.Stored.{StoredFacts, highest_cost};
 
-    ghost Value = { Facts };
+    ghost Value = { StoredFacts };
 
     ghost view = { λ s. s.facts };
 

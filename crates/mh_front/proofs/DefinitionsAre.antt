@@ -38,41 +38,41 @@ no_error true false e f g p q = let bad : f ∷ [] ≡ [] = q in cc
 no_error false true e f g p q = refl
 no_error false false e f g p q = let bad : e ∷ [] ≡ [] = p in cc
 
-ref_stands : (meant : Ref → Option Head) (r : Ref) → undefined true meant r ≡ [] → error_token r ≡ [] → undefined false meant r ≡ []
-ref_stands meant r p q = no_error (is_error r) (is_some (meant r)) (faults.Undefined (text_of r)) faults.ErrorToken (faults.Undefined (text_of r)) p q
+ref_resolves : (meant : Ref → Option Head) (r : Ref) → undefined true meant r ≡ [] → error_token r ≡ [] → undefined false meant r ≡ []
+ref_resolves meant r p q = no_error (is_error r) (is_some (meant r)) (faults.Undefined (text_of r)) faults.ErrorToken (faults.Undefined (text_of r)) p q
 
-actual_stands : (meant : Ref → Option Head) (a : Actual) → undefined_in_actual true meant a ≡ [] → errors_in_actual a ≡ [] → undefined_in_actual false meant a ≡ []
-actual_stands meant a = nil_by_two (undefined true meant) error_token (undefined false meant) (ref_stands meant) (refs a)
+actual_resolves : (meant : Ref → Option Head) (a : Actual) → undefined_in_actual true meant a ≡ [] → errors_in_actual a ≡ [] → undefined_in_actual false meant a ≡ []
+actual_resolves meant a = nil_by_two (undefined true meant) error_token (undefined false meant) (ref_resolves meant) (refs a)
 
-alternative_stands : (aliased : Text → Option Text) (meant : Ref → Option Head) (a : Alternative) → undefined_in_alternative aliased meant a ≡ [] → errors_in_alternative a ≡ [] → unresolved meant a ≡ []
-alternative_stands aliased meant a p q =
-    nil_by_two (undefined_in_actual true meant) errors_in_actual (undefined_in_actual false meant) (actual_stands meant) a.producers
+alternative_resolves : (aliased : Text → Option Text) (meant : Ref → Option Head) (a : Alternative) → undefined_in_alternative aliased meant a ≡ [] → errors_in_alternative a ≡ [] → unresolved meant a ≡ []
+alternative_resolves aliased meant a p q =
+    nil_by_two (undefined_in_actual true meant) errors_in_actual (undefined_in_actual false meant) (actual_resolves meant) a.producers
     (nil_parts (flat_map (undefined_in_actual true meant) a.producers) (undefined_prec aliased a.prec) p).0 q
 
 module _ (w : Meanings) where
-  rule_stands : (k : ℕ) (r : Rule) → undefined_in_rule w k r ≡ [] → errors_in_rule r ≡ [] → unresolved_in_rule w k r ≡ []
-  rule_stands k r = nil_by_two (undefined_in_alternative w.aliased (meant_by w k (formal_number r.formals))) errors_in_alternative (unresolved (meant_by w k (formal_number r.formals))) (alternative_stands w.aliased (meant_by w k (formal_number r.formals))) r.alternatives
+  rule_resolves : (k : ℕ) (r : Rule) → undefined_in_rule w k r ≡ [] → errors_in_rule r ≡ [] → unresolved_in_rule w k r ≡ []
+  rule_resolves k r = nil_by_two (undefined_in_alternative w.aliased (meant_by w k (formal_number r.formals))) errors_in_alternative (unresolved (meant_by w k (formal_number r.formals))) (alternative_resolves w.aliased (meant_by w k (formal_number r.formals))) r.alternatives
 
-  pub file_stands : (f : ℕ × Module) → undefined_in_file w f ≡ [] → errors_in_file f.1 ≡ [] → unresolved_in_file w f ≡ []
-  file_stands f p q =
-      nil_by_two (undefined_in_rule w f.0) errors_in_rule (unresolved_in_rule w f.0) (rule_stands f.0) f.1.rules
+  pub file_resolves : (f : ℕ × Module) → undefined_in_file w f ≡ [] → errors_in_file f.1 ≡ [] → unresolved_in_file w f ≡ []
+  file_resolves f p q =
+      nil_by_two (undefined_in_rule w f.0) errors_in_rule (unresolved_in_rule w f.0) (rule_resolves f.0) f.1.rules
       (nil_parts (undefined_in_declarations w f.0 f.1) (flat_map (undefined_in_rule w f.0) f.1.rules) p).1 q
 
-  pub on_error_stands : (f : ℕ × Module) → undefined_in_file w f ≡ [] → unresolved_on_error w f ≡ []
-  on_error_stands f p =
+  pub on_error_resolves : (f : ℕ × Module) → undefined_in_file w f ≡ [] → unresolved_on_error w f ≡ []
+  on_error_resolves f p =
       let declared = (nil_parts (undefined_in_declarations w f.0 f.1) (flat_map (undefined_in_rule w f.0) f.1.rules) p).0 in
       (nil_parts (flat_map (undefined_in_level w) f.1.levels) (flat_map (undefined_in_on_error (meant_by w f.0 (formal_number []))) f.1.on_error)
       (nil_parts (flat_map (undefined_start w) f.1.starts) (flat_map (undefined_in_level w) f.1.levels ++ flat_map (undefined_in_on_error (meant_by w f.0 (formal_number []))) f.1.on_error) declared).1).1
 
-  pub starts_stand : (f : ℕ × Module) → undefined_in_file w f ≡ [] → flat_map (undefined_start w) f.1.starts ≡ []
-  starts_stand f p =
+  pub starts_are_defined : (f : ℕ × Module) → undefined_in_file w f ≡ [] → flat_map (undefined_start w) f.1.starts ≡ []
+  starts_are_defined f p =
       (nil_parts (flat_map (undefined_start w) f.1.starts) (flat_map (undefined_in_level w) f.1.levels ++ flat_map (undefined_in_on_error (meant_by w f.0 (formal_number []))) f.1.on_error)
       (nil_parts (undefined_in_declarations w f.0 f.1) (flat_map (undefined_in_rule w f.0) f.1.rules) p).0).0
 
--- If a function gives nothing for the items of two lists, it gives nothing for their union.
-pub kept_nil : {B : Type 0} (f : Text → List B) (ks xs : List Text) → flat_map f ks ≡ [] → flat_map f xs ≡ [] → flat_map f (insert_all same ks xs) ≡ []
-kept_nil f ks [] p q = p
-kept_nil {B = B} f ks (x ∷ xs) p q = kept_nil f (insert_key same ks x) xs (go (list_any (same x) ks)) (nil_parts (f x) (flat_map f xs) q).1
+-- If f gives the empty list for each element of ks and of xs, f gives the empty list for each element of their union.
+pub flat_map-insert_all_nil : {B : Type 0} (f : Text → List B) (ks xs : List Text) → flat_map f ks ≡ [] → flat_map f xs ≡ [] → flat_map f (insert_all same ks xs) ≡ []
+flat_map-insert_all_nil f ks [] p q = p
+flat_map-insert_all_nil {B = B} f ks (x ∷ xs) p q = flat_map-insert_all_nil f (insert_key same ks x) xs (go (list_any (same x) ks)) (nil_parts (f x) (flat_map f xs) q).1
   where
     go : (b : Bool) → flat_map f (if b then ks else ks ++ x ∷ []) ≡ []
     go true = p

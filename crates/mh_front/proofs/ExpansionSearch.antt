@@ -88,7 +88,7 @@ module _ (j : Joined) where
   abbrev Onward : ℕ → Type 0
   Onward m = (instances before after : List Term) → SearchState j instances before after → 20001 ≤ length instances + m → Ends
 
-  -- The result for a term with the right number of arguments.
+  -- If the next term has the right number of arguments, the search still ends with all instances or a first fault.
   one : (m : ℕ) → Onward m → (instances before rest : List Term) (t : Term) → SearchState j instances before (t ∷ rest) → 20000 ≤ length instances + m → HasRightArity j t → Decided (IsInstance t) → Decided (Contains instances t) → (SearchState j instances (before ++ t ∷ []) rest → Ends) → Ends
   one m go instances before rest t s l fits (inr wrong) d same = same (onward instances before rest t s fits (λ i. absurd (wrong i)))
   one m go instances before rest t s l fits (inl i) (inl c) same = same (onward instances before rest t s fits (λ i. c))

@@ -25,7 +25,8 @@ use Rattle.mh_expand.proofs.InstancesInRange.{IsExpandedReady-expanded}
 use Rattle.mh_expand.proofs.HasSameSentences.{has_same_sentences}
 use Rattle.mh_inline.specs.declared.fault.InlineFault.{InlineFault}
 use Rattle.mh_inline.specs.Kept.{nonterminal_number}
-use Rattle.mh_inline.specs.Faults.{IsGrammarOf, IsFault}
+use Rattle.mh_inline.specs.GrammarOfInstances.{IsGrammarOf}
+use Rattle.mh_inline.specs.Faults.{IsFault}
 use Rattle.mh_inline.proofs.UniqueGrammar as only
 use Rattle.mh_inline.proofs.Ranges as ranges
 use Rattle.mh_inline.proofs.Sentences.{keeps_sentences}
@@ -89,7 +90,7 @@ module _ (j : Joined) where
 
 -- Lemmas on modules.
 
--- A fault of joining.
+-- The fault f of a grammar is the first fault of joining the modules `ms`.
 record FromJoining (p : Bool) (ms : List Module) (f : GrammarFault) : Type 0 where
   fault : JoinFault
   is_first : first (join_faults p ms) ≡ Some fault

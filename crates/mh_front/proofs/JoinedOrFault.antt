@@ -15,25 +15,25 @@ use Rattle.mh_join_names.specs.declared.fault.JoinFault.TheVariants as faults
 use Rattle.mh_join_names.specs.Prelude.{prelude_rules}
 use Rattle.mh_join_names.specs.Names.{files, Definition, definitions, definitions_in, prelude_definitions, start_names, is_elsewhere, rules}
 use Rattle.mh_join_names.specs.Faults.{Meanings, meanings, undefined_start, undefined_in_file, duplicates, unless, has_some, errors_in_file, unlevelled_in_file, many_tokens, other_faults, faults_by, join_faults, first}
-use Rattle.mh_join_names.specs.Joining.{Joins, IsJoined, AreRules, alternatives_for, rule_without, without_alternatives, token_info, on_error_in}
+use Rattle.mh_join_names.specs.Joining.{Joins, IsJoined, AreRules, alternatives_for, rule_of_outline, without_alternatives, token_info, on_error_in}
 use Rattle.mh_join_names.proofs.Resolved.{known_unless}
 use Rattle.mh_join_parts.specs.code.CanJoin.{unresolved_in_rules, unresolved_in_file, unresolved_on_error}
 use Rattle.mh_join.proofs.CanJoin.{nil_by, nil_by_two}
 use Rattle.mh_join.proofs.PreludeResolved.{number_known, prelude_resolved}
-use Rattle.mh_front.proofs.DefinitionsAre.{numbered, file_stands, on_error_stands, starts_stand, kept_nil, flat_starts}
+use Rattle.mh_front.proofs.DefinitionsAre.{numbered, file_resolves, on_error_resolves, starts_are_defined, flat_map-insert_all_nil, flat_starts}
 use Rattle.mh_front.proofs.NamesResolve.{HaveValues, HasValue-some, HaveValues-append, HaveValues-map, HaveValues-flat_map, rules_have_values, files_have_values, on_error_has_values}
 
 -- The rules of outlines from index i up, if their alternatives are resolved.
 record Ruled (w : Meanings) (elsewhere : ℕ → Text → Bool) (ds : List Definition) (n : ℕ) (outlines : List Outline) : Type 0 where
   made : List JoinedRule
-  same : map without_alternatives made ≡ map (rule_without elsewhere) outlines
+  same : map without_alternatives made ≡ map (rule_of_outline elsewhere) outlines
   each : (i : ℕ) (r : JoinedRule) → slice_get made i ≡ Some r → map Some r.alternatives ≡ flat_map (alternatives_for w (n + i)) ds
 
 abbrev with_alternatives : (ℕ → Text → Bool) → Outline → List JoinedAlternative → JoinedRule
-with_alternatives elsewhere o alternatives = record (rule_without elsewhere o) { alternatives = alternatives }
+with_alternatives elsewhere o alternatives = record (rule_of_outline elsewhere o) { alternatives = alternatives }
 
 more : (w : Meanings) (elsewhere : ℕ → Text → Bool) (ds : List Definition) (n : ℕ) (o : Outline) (outlines : List Outline) → HaveValues (flat_map (alternatives_for w n) ds) → Ruled w elsewhere ds (suc n) outlines → Ruled w elsewhere ds n (o ∷ outlines)
-more w elsewhere ds n o outlines alternatives rest = record { made = with_alternatives elsewhere o alternatives.0 ∷ rest.made; same = ap (λ rs. rule_without elsewhere o ∷ rs) rest.same; each = at }
+more w elsewhere ds n o outlines alternatives rest = record { made = with_alternatives elsewhere o alternatives.0 ∷ rest.made; same = ap (λ rs. rule_of_outline elsewhere o ∷ rs) rest.same; each = at }
   where
     at : (i : ℕ) (r : JoinedRule) → slice_get (with_alternatives elsewhere o alternatives.0 ∷ rest.made) i ≡ Some r → map Some r.alternatives ≡ flat_map (alternatives_for w (n + i)) ds
     at zero r e =
@@ -57,26 +57,26 @@ module _ (p : Bool) (ms : List Module) (none : join_faults p ms ≡ []) where
   later = (nil_parts (unless (has_some w.starts) faults.NoStart) (flat_map errors_in_file ms ++ (flat_map (unlevelled_in_file w) ms ++ many_tokens (length w.tokens)))
       (nil_parts (duplicates w ms) (other_faults w ms) (nil_parts (flat_map (undefined_in_file w) (files ms)) (duplicates w ms ++ other_faults w ms) none).1).1).1
 
-  rules_stand : flat_map (unresolved_in_file w) (files ms) ≡ []
-  rules_stand = nil_by_two (undefined_in_file w) (λ (f : ℕ × Module). errors_in_file f.1) (unresolved_in_file w) (file_stands w) (files ms) undefined_none
+  rules_resolve : flat_map (unresolved_in_file w) (files ms) ≡ []
+  rules_resolve = nil_by_two (undefined_in_file w) (λ (f : ℕ × Module). errors_in_file f.1) (unresolved_in_file w) (file_resolves w) (files ms) undefined_none
       (numbered errors_in_file 1 ms ∙ (nil_parts (flat_map errors_in_file ms) (flat_map (unlevelled_in_file w) ms ++ many_tokens (length w.tokens)) later).0)
 
-  prelude_stand : unresolved_in_rules w 0 (prelude_rules p) ≡ []
-  prelude_stand = prelude_resolved p w (number_known p ms)
+  prelude_resolve : unresolved_in_rules w 0 (prelude_rules p) ≡ []
+  prelude_resolve = prelude_resolved p w (number_known p ms)
 
-  starts_stand_all : flat_map (undefined_start w) w.starts ≡ []
-  starts_stand_all = kept_nil (undefined_start w) [] (flat_map (λ m. m.starts) ms) refl (sym (flat_starts (undefined_start w) ms) ∙ sym (numbered (λ (m : Module). flat_map (undefined_start w) m.starts) 1 ms) ∙ nil_by (undefined_in_file w) (λ (f : ℕ × Module). flat_map (undefined_start w) f.1.starts) (starts_stand w) (files ms) undefined_none)
+  all_starts_are_defined : flat_map (undefined_start w) w.starts ≡ []
+  all_starts_are_defined = flat_map-insert_all_nil (undefined_start w) [] (flat_map (λ m. m.starts) ms) refl (sym (flat_starts (undefined_start w) ms) ∙ sym (numbered (λ (m : Module). flat_map (undefined_start w) m.starts) 1 ms) ∙ nil_by (undefined_in_file w) (λ (f : ℕ × Module). flat_map (undefined_start w) f.1.starts) (starts_are_defined w) (files ms) undefined_none)
 
   alternatives : (i : ℕ) → HaveValues (flat_map (alternatives_for w i) (definitions p ms))
   alternatives i =
       subst HaveValues (sym (flat_map-append (alternatives_for w i) (flat_map (definitions_in (start_names ms)) (files ms)) (prelude_definitions (prelude_rules p))))
-      (HaveValues-append (flat_map (alternatives_for w i) (flat_map (definitions_in (start_names ms)) (files ms))) (flat_map (alternatives_for w i) (prelude_definitions (prelude_rules p))) (files_have_values w i (start_names ms) (files ms) rules_stand) (rules_have_values w i (λ x. Some 0) 0 0 (prelude_rules p) prelude_stand))
+      (HaveValues-append (flat_map (alternatives_for w i) (flat_map (definitions_in (start_names ms)) (files ms))) (flat_map (alternatives_for w i) (prelude_definitions (prelude_rules p))) (files_have_values w i (start_names ms) (files ms) rules_resolve) (rules_have_values w i (λ x. Some 0) 0 0 (prelude_rules p) prelude_resolve))
 
   start_numbers : HaveValues (map (w.numbers.rule None) w.starts)
-  start_numbers = HaveValues-map (w.numbers.rule None) (undefined_start w) (λ x e. HasValue-some (w.numbers.rule None x) (known_unless (is_some (w.numbers.rule None x)) (faults.Undefined x) e)) w.starts starts_stand_all
+  start_numbers = HaveValues-map (w.numbers.rule None) (undefined_start w) (λ x e. HasValue-some (w.numbers.rule None x) (known_unless (is_some (w.numbers.rule None x)) (faults.Undefined x) e)) w.starts all_starts_are_defined
 
   on_errors : HaveValues (flat_map (on_error_in w) (files ms))
-  on_errors = HaveValues-flat_map (on_error_in w) (unresolved_on_error w) (on_error_has_values w) (files ms) (nil_by (undefined_in_file w) (unresolved_on_error w) (on_error_stands w) (files ms) undefined_none)
+  on_errors = HaveValues-flat_map (on_error_in w) (unresolved_on_error w) (on_error_has_values w) (files ms) (nil_by (undefined_in_file w) (unresolved_on_error w) (on_error_resolves w) (files ms) undefined_none)
 
   all_rules : Ruled w (is_elsewhere ms) (definitions p ms) 0 (rules p ms)
   all_rules = ruled w (is_elsewhere ms) (definitions p ms) alternatives 0 (rules p ms)

@@ -19,7 +19,7 @@ use Rattle.mh_rules.specs.declared.joined.JoinedAlternative.{JoinedAlternative}
 use Rattle.mh_join_names.specs.declared.fault.JoinFault.{JoinFault}
 use Rattle.mh_join_names.specs.Names.{Definition, formal_number, definitions_from, definitions_in, owner_in}
 use Rattle.mh_join_names.specs.Faults.{Meanings, meant_by, refs, undefined_in_actual, undefined_in_on_error}
-use Rattle.mh_join_names.specs.Joining.{applied_to, resolved, all_of, all_resolved, alternative_with, prec_by, alternative_by, alternatives_by, is_number, alternatives_for, on_error_in}
+use Rattle.mh_join_names.specs.Joining.{applied_to, resolved, all_of, all_resolved, alternative_with, prec_by, alternative_by, alternatives_by, has_number, alternatives_for, on_error_in}
 use Rattle.mh_join_names.proofs.Refs.{size_out}
 use Rattle.mh_join_names.proofs.Resolved.{head_resolved, args_resolved, resolved_with, all_somes}
 use Rattle.mh_join_parts.specs.code.CanJoin.{unresolved, unresolved_in_rule, unresolved_in_rules, unresolved_in_file, unresolved_on_error}
@@ -90,7 +90,7 @@ module _ (w : Meanings) where
 
   module _ (i : ℕ) where
     definition_has_values : (d : Definition) → unresolved_in_rule w d.file d.rule ≡ [] → HaveValues (alternatives_for w i d)
-    definition_has_values d e = go (is_number i (w.numbers.rule d.owner d.rule.name))
+    definition_has_values d e = go (has_number i (w.numbers.rule d.owner d.rule.name))
       where
         go : (b : Bool) → HaveValues (if b then alternatives_by w d else [])
         go true = numbered_have_values d.file (meant_by w d.file (formal_number d.rule.formals)) d.place d.rule.alternatives e

@@ -1,4 +1,4 @@
--- Proves that modules in range do not lack both a grammar and a first fault.
+-- Proves, as a double negation, that modules in range have a grammar or a first fault.
 use Rattle.std.proofs.Common.{◌⊎◌, inl, inr, Bool, List, Ok}
 use Rattle.mh_grammar.specs.declared.types.Grammar.{Grammar}
 use Rattle.mh_grammar_decided.specs.NotLacking.{NotLacking}

@@ -1,4 +1,4 @@
--- Proves that an expansion does not lack both a grammar and a first fault.
+-- Proves the double negation (`NotLacking`) of: an expansion has a grammar or a first fault.
 use Rattle.mh_inline.specs.Kept.{IsOrigin, is_kept, nonterminal_of, nonterminal_number}
 use Rattle.std.proofs.Common.{◌≡◌, ℕ, zero, suc, ◌+◌, ◌<◌, ◌≤◌, ◌⊎◌, inl, inr, Bool, true, false, List, [], ◌∷◌, ◌++◌, Some, length, map, refl, sym, ap, subst, ◌∙◌, arith}
 use Rattle.std.specs.Prelude.{filter}
@@ -24,11 +24,12 @@ use Rattle.mh_inline.specs.declared.fault.InlineFault.TheVariants.{InlineCycle, 
 use Rattle.mh_inline.specs.Inlined as inlined
 use Rattle.mh_inline.specs.Inlined.{production_of, AreProductions, IsInlined}
 use Rattle.mh_inline_unfold.specs.Unfoldings.{with_own_prec}
-use Rattle.mh_inline.specs.Faults.{HasNoInlineStart, IsWithinLimits, ExceedsLimits, IsGrammarOf, IsFault, IsNotMemory}
+use Rattle.mh_inline.specs.GrammarOfInstances.{HasNoInlineStart, IsWithinLimits, IsGrammarOf}
+use Rattle.mh_inline.specs.Faults.{ExceedsLimits, IsFault, IsNotMemory}
 use Rattle.mh_grammar_decided.specs.NotLacking.{NotLacking}
 use Rattle.mh_grammar_decided.proofs.NotLacking.{given, chain, decided, Lacks, lacks_or}
 use Rattle.mh_front.proofs.InlineOrder.{origins}
-use Rattle.mh_front.proofs.SomeUnfoldings.{side_has}
+use Rattle.mh_front.proofs.SomeUnfoldings.{right_side_has_unfoldings}
 
 module _ (e : Expanded) (ready : IsExpandedReady e) where
   abbrev is : List Instance
@@ -42,7 +43,7 @@ module _ (e : Expanded) (ready : IsExpandedReady e) where
   productions acyclic [] each = given ([], inlined.AreProductions.none)
   productions acyclic (s ∷ os) each =
       let o = each s (contains_here s os) in
-      chain (side_has is acyclic o.production.rhs) (λ us. chain (productions acyclic os (λ t c. each t (contains_there s os t c))) (λ ps. given (
+      chain (right_side_has_unfoldings is acyclic o.production.rhs) (λ us. chain (productions acyclic os (λ t c. each t (contains_there s os t c))) (λ ps. given (
         map (λ u. production_of e.tokens is s.instance (with_own_prec o.production.prec u)) us.0 ++ ps.0,
         inlined.AreProductions.more o.alternative us.1 refl ps.1,
       )))

@@ -1,4 +1,4 @@
--- Proves that instances without a cycle have unfoldings.
+-- Proves, as a double negation, that each right side has a list of unfoldings if no instance is inlined into itself.
 use Rattle.std.proofs.Common.{◌≡◌, ℕ, zero, suc, ◌+◌, ◌<◌, ◌≤◌, ◌⊎◌, inl, inr, Bool, true, false, List, [], ◌∷◌, ◌++◌, Some, length, map, refl, sym, ap, subst, ◌∙◌, arith}
 use Rattle.std.specs.List.{slice_get, All, Contains}
 use Rattle.std.proofs.lemmas.Option.{none-some}
@@ -84,5 +84,6 @@ module _ (is : List Instance) where
         let m = length-numbers (length is) in
         omega arith)
 
-    pub side_has : (Xs : List Part) → NotLacking ((us : List Unfolding) × Unfolds is Xs us)
-    side_has Xs = side Xs (λ j m e i lacks. none_bad m (record { inlined = i; lacks = lacks }))
+    -- Each right side has a list of unfoldings.
+    pub right_side_has_unfoldings : (Xs : List Part) → NotLacking ((us : List Unfolding) × Unfolds is Xs us)
+    right_side_has_unfoldings Xs = side Xs (λ j m e i lacks. none_bad m (record { inlined = i; lacks = lacks }))

@@ -1,5 +1,5 @@
 -- The grammar of several files and their faults, stage by stage: joining, expansion, inlining (Menhir manual on
--- grammars split into files, parameterized rules and inline rules; the choice is a rule of this project).
+-- grammars split into files, parameterized rules and inline rules, of which this project supports a part).
 use Rattle.std.specs.Prelude.{◌≡◌, Bool, List, Some, Ok}
 use Rattle.mh_grammar.specs.declared.types.Grammar.{Grammar}
 use Rattle.mh_rules.specs.declared.modules.Module.{Module}
@@ -14,11 +14,10 @@ use Rattle.mh_rules.specs.declared.instances.Expanded.{Expanded}
 use Rattle.mh_expand.specs.Expansion.{IsExpanded, IsFirstFault}
 use Rattle.mh_inline.specs.declared.fault.InlineFault.{InlineFault}
 use Rattle.mh_inline.specs.declared.fault.InlineFault.TheVariants as inlining
-use Rattle.mh_inline.specs.Faults.{IsGrammarOf, IsFault, IsNotMemory}
+use Rattle.mh_inline.specs.GrammarOfInstances.{IsGrammarOf}
+use Rattle.mh_inline.specs.Faults.{IsFault, IsNotMemory}
 use Rattle.mh_front.specs.declared.fault.GrammarFault.{GrammarFault}
 use Rattle.mh_front.specs.declared.fault.GrammarFault.TheVariants.{Join, Expand, Inline, Memory}
-
--- The faults of the stages as faults of all stages together. Lack of memory is one fault, whatever the stage.
 
 -- The faults of the stages as faults of all stages together. Lack of memory is one fault for all stages.
 abbrev pub of_join : JoinFault → GrammarFault

@@ -7,7 +7,8 @@ ghost use Rattle.mh_join_names.specs.declared.fault.JoinFault.{JoinFault};
 ghost use Rattle.mh_join_names.specs.Joining.{Joins};
 ghost use Rattle.mh_join_names.specs.Faults.{first, join_faults};
 ghost use Rattle.mh_inline.specs.declared.fault.InlineFault.{InlineFault};
-ghost use Rattle.mh_inline.specs.Faults.{IsFault, IsGrammarOf, IsNotMemory};
+ghost use Rattle.mh_inline.specs.GrammarOfInstances.{IsGrammarOf};
+ghost use Rattle.mh_inline.specs.Faults.{IsFault, IsNotMemory};
 ghost use Rattle.mh_grammar_decided.specs.NotLacking.{NotLacking};
 ghost use Rattle.mh_grammar.specs.declared.types.Grammar.{Grammar as GrammarOf};
 ghost use Rattle.mh_expand.specs.declared.fault.ExpandFault.{ExpandFault};
@@ -45,7 +46,7 @@ pub fn is_one_fault(modules: &[Module], prelude: bool, left: &GrammarFault, righ
 }
 
 /// Law: modules with a grammar have no fault.
-pub fn is_grammar_or_fault(modules: &[Module], prelude: bool, grammar: &Grammar)
+pub fn grammar_excludes_fault(modules: &[Module], prelude: bool, grammar: &Grammar)
     requires { IsGrammarOfModules prelude modules.now grammar.now }
     ensures { (fault : GrammarFault) → IsGrammarFault prelude modules.now fault → ⊥ }
 {
@@ -54,8 +55,8 @@ pub fn is_grammar_or_fault(modules: &[Module], prelude: bool, grammar: &Grammar)
     let _grammar = grammar;
 }
 
-/// Law: modules are joined or have a first fault, and joined rules are expanded or have a first fault. An expansion does
-/// not lack both a grammar and a first fault, and so modules in range do not lack both.
+/// Law: modules are joined or have a first fault, and joined rules are expanded or have a first fault. An expansion has
+/// a grammar or a first fault, and so do modules in range. The last two clauses are double negations (`NotLacking`).
 pub fn some_grammar_or_fault()
     ensures joined { (prelude : Bool) (modules : List ModuleOf) →
         ((joined : Joined) × Joins prelude modules (Ok joined)) ⊎ ((fault : JoinFault) × (first (join_faults prelude modules) ≡ Some fault)) }

@@ -56,9 +56,9 @@ module _ {X : Type 0} (states : List X) where
 -- If more items than a limit are reached, no numbering has at most as many items as the limit.
 pub IsNumbering-few : {X : Type 0} (Next : X → List X → Type 0) (starts states : List X) (targets : List (List ℕ)) (limit : ℕ) → IsNumbering Next starts states targets → length states ≤ limit → ReachesMoreThan Next starts limit → ⊥
 IsNumbering-few Next starts states targets limit n l o =
-    let le = length-distinct_in states o.some o.distinct (λ x c. (n.reached x).1 (rw c.2 at (o.reached c.0 x c.1))) in
+    let le = length-distinct_in states o.items o.distinct (λ x c. (n.reached x).1 (rw c.2 at (o.reached c.0 x c.1))) in
     omega (arith, o.exceeds)
 
 -- A list of more distinct reached items than the limit proves that more are reached.
 pub ReachesMoreThan-walk : {X : Type 0} (Next : X → List X → Type 0) (starts states : List X) (limit : ℕ) → All (Reached Next starts) states → AreDistinct states → limit < length states → ReachesMoreThan Next starts limit
-ReachesMoreThan-walk Next starts states limit r d o = record { some = states; reached = r; distinct = d; exceeds = o }
+ReachesMoreThan-walk Next starts states limit r d o = record { items = states; reached = r; distinct = d; exceeds = o }

@@ -31,7 +31,7 @@ pub record AreSound (tokens : Bool) (ps : List Production) (marks : List Bool) :
 pub record AreClosed (tokens : Bool) (ps : List Production) (marks : List Bool) : Type 0 where
   pub closed : (k : ℕ) (p : Production) → slice_get ps k ≡ Some p → all_marked tokens marks p.rhs ≡ true → slice_index_or marks p.lhs false ≡ true
 
--- Exactly the nonterminals of the least set that the productions mark (`Marked`) have a mark.
+-- A nonterminal has a mark exactly if it is in `Marked`, the least set closed under the productions.
 abbrev pub AreMarks : Bool → List Production → List Bool → Type 0
 AreMarks tokens ps marks = (n : ℕ) → (slice_index_or marks n false ≡ true) ↔ Marked tokens ps (N n)
 

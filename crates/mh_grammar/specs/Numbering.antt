@@ -1,4 +1,5 @@
--- Breadth-first numbering of the items that some starts reach, for any relation `Next`: kernels, rules, instances.
+-- Breadth-first numbering of the items that some starts reach, for any relation `Next`. The states of an automaton are
+-- numbered in this way.
 use Rattle.std.specs.Prelude.{◌≡◌, ◌<◌, ◌+◌, ◌↔◌, ◌⊎◌, ℕ, List, [], ◌∷◌, Some, length, take, slice_get}
 use Rattle.std.specs.List.{All, AllZip, Contains, concat}
 
@@ -37,9 +38,9 @@ pub record IsNumbering {X : Type 0} (Next : X → List X → Type 0) (starts : L
   pub rows : (i : ℕ) (x : X) (row : List ℕ) → slice_get states i ≡ Some x → slice_get targets i ≡ Some row → IsTargetRow Next states x row
   pub order : InFirstSightOrder (length starts) (concat targets) (length states)
 
--- The starts reach more items than the limit.
+-- The starts reach more items than the limit: `items` are distinct reached items, and are more than the limit.
 pub record ReachesMoreThan {X : Type 0} (Next : X → List X → Type 0) (starts : List X) (limit : ℕ) : Type 0 where
-  pub some : List X
-  pub reached : All (Reached Next starts) some
-  pub distinct : AreDistinct some
-  pub exceeds : limit < length some
+  pub items : List X
+  pub reached : All (Reached Next starts) items
+  pub distinct : AreDistinct items
+  pub exceeds : limit < length items

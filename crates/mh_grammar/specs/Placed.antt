@@ -7,7 +7,8 @@ pub record Placed {X : Type 0} (old new : List X) (x : X) (n : ℕ) : Type 0 whe
   pub at : slice_get new n ≡ Some x
   pub grown : ((new ≡ old) × (n < length old)) ⊎ ((new ≡ old ++ x ∷ []) × (n ≡ length old) × (Contains old x → ⊥))
 
--- The items of a list were placed one after the other (`Placed`), each with the index in the second list.
+-- The items of a list are placed one after the other (`Placed`), which turns the list `old` into `new`. The numbers are
+-- the indices of the items in `new`.
 abbrev pub AllPlaced : {X : Type 0} → List X → List X → List X → List ℕ → Type 0
 AllPlaced old new [] [] = new ≡ old
 AllPlaced old new [] (n ∷ ns) = ⊥

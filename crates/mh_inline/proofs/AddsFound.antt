@@ -14,7 +14,7 @@ use Rattle.mh_inline.specs.declared.cycles.FoundInstances.{FoundInstances}
 use Rattle.mh_inline_unfold.specs.Instances.{inline_number}
 use Rattle.mh_inline_unfold.specs.code.UsedInstances.{OccursInProducers, OccursInAlternatives, UsesInline}
 use Rattle.mh_inline.specs.code.FoundInstances.{FlagsMatchQueue, AddsFound, IsFoundTable, IsEqualTo}
-use Rattle.mh_inline_unfold.proofs.Occurrences.{among_one, one_among, kept_none, among_cases, among_front, among_last, in_cases, in_front, in_last, occurs_if_used, used_if_occurs}
+use Rattle.mh_inline_unfold.proofs.Occurrences.{number_if_occurs, occurs_if_number, no_occurrence_without_number, among_cases, among_front, among_last, in_cases, in_front, in_last, occurs_if_used, used_if_occurs}
 
 pub AddsFound-none : (P : ℕ → Type 0) (f : FoundInstances) → FlagsMatchQueue f → ((m : ℕ) → P m → ⊥) → AddsFound P f f
 AddsFound-none P f q none = record { len = refl; sets = q; measure = refl; kept = λ i m e. e; origin = λ m c. inl c; added = λ m p. absurd (none m p) }
@@ -86,10 +86,10 @@ IsFoundTable-after is P old new t a = record { len = a.len ∙ t.len; sets = a.s
 
 module _ (is : List Instance) where
   pub part_inline : (X : Part) (n : ℕ) (old new : FoundInstances) → inline_number is X ≡ Some n → AddsFound (IsEqualTo n) old new → AddsFound (OccursInProducers is (X ∷ [])) old new
-  part_inline X n old new e a = AddsFound-same (IsEqualTo n) (OccursInProducers is (X ∷ [])) old new a (λ m x. among_one is X n m e x) (λ m s. one_among is X n m e s)
+  part_inline X n old new e a = AddsFound-same (IsEqualTo n) (OccursInProducers is (X ∷ [])) old new a (λ m x. number_if_occurs is X n m e x) (λ m s. occurs_if_number is X n m e s)
 
   pub part_kept : (X : Part) (f : FoundInstances) → inline_number is X ≡ None → FlagsMatchQueue f → AddsFound (OccursInProducers is (X ∷ [])) f f
-  part_kept X f e q = AddsFound-none (OccursInProducers is (X ∷ [])) f q (λ m x. kept_none is X m e x)
+  part_kept X f e q = AddsFound-none (OccursInProducers is (X ∷ [])) f q (λ m x. no_occurrence_without_number is X m e x)
 
   pub side_step : (Xs : List Part) (i : ℕ) (d : Part) (a b c : FoundInstances) → i < length Xs → AddsFound (OccursInProducers is (take i Xs)) a b → AddsFound (OccursInProducers is (get_or Xs i d ∷ [])) b c → AddsFound (OccursInProducers is (take (i + 1) Xs)) a c
   side_step Xs i d a b c l h k =

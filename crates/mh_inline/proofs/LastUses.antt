@@ -15,15 +15,15 @@ use Rattle.mh_inline_unfold.specs.Instances.{is_inlined}
 use Rattle.mh_inline_unfold.specs.Unfoldings.{UnfoldsPart}
 use Rattle.mh_inline_unfold.specs.code.Sizes.{AreSmall, IsSizeTable}
 use Rattle.mh_inline_unfold.specs.code.UsedInstances.{UsesInline}
-use Rattle.mh_inline.specs.code.LastUses.{KeptUses, RaisesLastUse, AreLastUses, DropsUnneeded, KnowsNeeded, KnowsUsed}
+use Rattle.mh_inline.specs.code.LastUses.{NoninlineUses, RaisesLastUse, AreLastUses, DropsUnneeded, KnowsNeeded, KnowsUsed}
 use Rattle.mh_inline_unfold.proofs.InlineProducers.{inline_instance}
 
--- Each element of the order of sizes is an instance.
-pub ordered_within : (is : List Instance) (s : SizeTable) → IsSizeTable is s → (k n : ℕ) → slice_get s.order.items k ≡ Some n → n < length is
-ordered_within is s z k n at = (inline_instance is n (z.ordered k n at).inlined).within
+-- Each element of the list `order` of the size table is the number of an instance.
+pub order_within-slice_get : (is : List Instance) (s : SizeTable) → IsSizeTable is s → (k n : ℕ) → slice_get s.order.items k ≡ Some n → n < length is
+order_within-slice_get is s z k n at = (inline_instance is n (z.ordered k n at).inlined).within
 
-pub order_within : (is : List Instance) (s : SizeTable) (order : List ℕ) → order ≡ s.order.items → IsSizeTable is s → (k d : ℕ) → k < length order → get_or order k d < length is
-order_within is s order e z k d l = ordered_within is s z k (get_or order k d) (ap (λ x. slice_get x k) (sym e) ∙ slice_get-get_or order k d l)
+pub order_within-get_or : (is : List Instance) (s : SizeTable) (order : List ℕ) → order ≡ s.order.items → IsSizeTable is s → (k d : ℕ) → k < length order → get_or order k d < length is
+order_within-get_or is s order e z k d l = order_within-slice_get is s z k (get_or order k d) (ap (λ x. slice_get x k) (sym e) ∙ slice_get-get_or order k d l)
 
 -- Raising one last use makes no last use smaller.
 set_later : (last : List ℕ) (n value m : ℕ) → n < length last → get_or last n 0 ≤ value → get_or last m 0 ≤ get_or (set last n value) m 0
@@ -46,7 +46,8 @@ RaisesLastUse-more numbers i n place value old last lt at within grows reaches p
 }
 
 module _ (is : List Instance) (order : List ℕ) where
-  -- The last uses are right for the first elements of the order and for the first instances that are not inline.
+  -- The conditions of `AreLastUses` hold for the uses by the first `done` elements of the order, and for the uses by
+  -- the noninline instances below `number`.
   pub record AreLastUsesTo (done number : ℕ) (last : List ℕ) : Type 0 where
     pub len : length last ≡ length is
     pub inline : (i n m : ℕ) → i < done → slice_get order i ≡ Some n → UsesInline is n m → i ≤ get_or last m 0
@@ -65,7 +66,7 @@ module _ (is : List Instance) (order : List ℕ) where
     kept = λ k m l e x. absurd (omega arith);
   }
 
-  pub AreLastUsesTo-kept : (done number : ℕ) (old new : List ℕ) → RaisesLastUse (KeptUses is number) (length order) old new → AreLastUsesTo done number old → AreLastUsesTo done (number + 1) new
+  pub AreLastUsesTo-kept : (done number : ℕ) (old new : List ℕ) → RaisesLastUse (NoninlineUses is number) (length order) old new → AreLastUsesTo done number old → AreLastUsesTo done (number + 1) new
   AreLastUsesTo-kept done number old new p h = record {
     len = p.len ∙ h.len;
     inline = λ i k m l e x. let r = h.inline i k m l e x in let s = p.later m in omega arith;

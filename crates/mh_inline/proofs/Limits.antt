@@ -25,7 +25,8 @@ use Rattle.mh_inline.specs.Inlined as inlined
 use Rattle.mh_inline.specs.Kept.{is_kept, nonterminal_of, nonterminal_number, IsOrigin, AreOrigins}
 use Rattle.mh_inline.specs.Inlined.{production_of, AreProductions, IsInlined}
 use Rattle.mh_inline.specs.code.ProductionParts.{longest_side, IsOriginKnown, IsOriginsSize, AreOriginsSmall}
-use Rattle.mh_inline.specs.Faults.{IsWithinLimits, ExceedsLimits}
+use Rattle.mh_inline.specs.GrammarOfInstances.{IsWithinLimits}
+use Rattle.mh_inline.specs.Faults.{ExceedsLimits}
 use Rattle.mh_inline_unfold.proofs.Monoid.{append_same}
 use Rattle.mh_inline_unfold.proofs.UniqueUnfoldings.{unfolds_same, small_part, some_ready}
 use Rattle.mh_inline.proofs.MadeProductions.{longest_side-append, longest_side-made}

@@ -29,7 +29,7 @@ use Rattle.mh_inline.specs.Kept.{is_kept, nonterminal_of, nonterminal_number, Is
 use Rattle.mh_inline.specs.Inlined.{symbol_of, production_of, AreProductions, IsInlined}
 use Rattle.mh_inline.specs.Cycles.{HasNoCycle}
 use Rattle.mh_inline.specs.code.ProductiveMarks.{IsFirstUnmarked, HasEmptyStart}
-use Rattle.mh_inline.specs.Faults.{HasNoInlineStart, IsWithinLimits}
+use Rattle.mh_inline.specs.GrammarOfInstances.{HasNoInlineStart, IsWithinLimits}
 use Rattle.mh_inline.proofs.MadeProductions.{AreBelow, below_ready, each_of_side}
 use Rattle.mh_inline.proofs.IsCyclic.{numbers_below, length-numbers, numbers_at}
 

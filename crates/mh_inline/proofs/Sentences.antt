@@ -32,7 +32,7 @@ use Rattle.mh_inline_unfold.specs.FileRanks.{rank_of}
 use Rattle.mh_inline.specs.Inlined.{symbol_of, production_of, AreProductions, IsInlined}
 use Rattle.mh_rules.specs.Sentences.{IsTokenPart, PartProduces}
 use Rattle.mh_inline.specs.Sentences.{KeepsSentences}
-use Rattle.mh_inline.specs.Faults.{HasNoInlineStart}
+use Rattle.mh_inline.specs.GrammarOfInstances.{HasNoInlineStart}
 use Rattle.mh_inline.proofs.Limits.{alternative_unique}
 use Rattle.mh_inline.proofs.MadeProductions.{below_ready}
 use Rattle.mh_inline.proofs.Ranges.{IsNonterminal, IsKeptAndBelow, number_apart, side_kept_and_below, start_at, start_nonterminal}

@@ -19,7 +19,8 @@ use Rattle.mh_inline_unfold.specs.Instances.{is_inlined}
 use Rattle.mh_inline.specs.Kept.{nonterminal_number, IsOriginBefore}
 use Rattle.mh_inline.specs.Inlined.{AreProductions, IsInlined}
 use Rattle.mh_inline.specs.Cycles.{IsFirstCyclicAt}
-use Rattle.mh_inline.specs.Faults.{HasNoInlineStart, IsFault, IsFirstInlineStartAt, IsFirstEmptyAt, IsGrammarOf, IsInstanceNamed, IsNotMemory, ExceedsLimits, IsWithinLimits}
+use Rattle.mh_inline.specs.GrammarOfInstances.{HasNoInlineStart, IsWithinLimits, IsGrammarOf}
+use Rattle.mh_inline.specs.Faults.{IsFault, IsFirstInlineStartAt, IsFirstEmptyAt, IsInstanceNamed, IsNotMemory, ExceedsLimits}
 use Rattle.mh_inline.proofs.Limits.{productions_unique}
 
 before_once : (x y : Origin) → IsOriginBefore x y → IsOriginBefore y x → ⊥

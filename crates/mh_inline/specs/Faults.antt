@@ -1,7 +1,7 @@
 -- The faults for which instances have no grammar, in the order in which they are reported (Menhir manual, `%inline`;
 -- the order and the limits are this project's own).
-use Rattle.std.specs.Prelude.{◌≡◌, ◌<◌, ◌≤◌, ◌⊎◌, ℕ, true, false, List, Some, length, slice_get}
-use Rattle.std.specs.List.{All, Any}
+use Rattle.std.specs.Prelude.{◌≡◌, ◌<◌, ◌⊎◌, ℕ, true, false, List, Some, length, slice_get}
+use Rattle.std.specs.List.{Any}
 use Rattle.mh_grammar.specs.declared.types.Production.{Production}
 use Rattle.mh_grammar.specs.declared.types.Grammar.{Grammar}
 use Rattle.mh_grammar.specs.Plain.{plain_of, IsProductive}
@@ -14,6 +14,7 @@ use Rattle.mh_inline_unfold.specs.Instances.{is_inlined}
 use Rattle.mh_inline.specs.Cycles.{IsFirstCyclicAt, HasNoCycle}
 use Rattle.mh_inline.specs.Kept.{nonterminal_number}
 use Rattle.mh_inline.specs.Inlined.{IsInlined}
+use Rattle.mh_inline.specs.GrammarOfInstances.{HasNoInlineStart, IsWithinLimits}
 
 -- The instance n has this name.
 pub record IsInstanceNamed (e : Expanded) (n : ℕ) (name : List ℕ) : Type 0 where
@@ -39,14 +40,6 @@ pub record IsFirstInlineStart (e : Expanded) (name : List ℕ) : Type 0 where
   pub named : IsInstanceNamed e number name
   pub first : IsFirstInlineStartAt e number
 
-abbrev pub HasNoInlineStart : Expanded → Type 0
-HasNoInlineStart e = All (λ s. is_inlined e.instances s ≡ false) e.starts
-
--- The grammar is within the limits.
-pub record IsWithinLimits (g : Grammar) : Type 0 where
-  pub few : length g.productions ≤ max_productions
-  pub short : All (λ (p : Production). length p.rhs ≤ max_symbols) g.productions
-
 -- The grammar exceeds a limit.
 abbrev pub ExceedsLimits : Grammar → Type 0
 ExceedsLimits g = (max_productions < length g.productions) ⊎ Any (λ (p : Production). max_symbols < length p.rhs) g.productions
@@ -62,14 +55,6 @@ pub record IsFirstEmpty (e : Expanded) (g : Grammar) (name : List ℕ) : Type 0 
   pub number : ℕ
   pub named : IsInstanceNamed e number name
   pub first : IsFirstEmptyAt e g number
-
--- The grammar of the instances, if they have no fault.
-pub record IsGrammarOf (e : Expanded) (g : Grammar) : Type 0 where
-  pub acyclic : HasNoCycle e
-  pub kept : HasNoInlineStart e
-  pub inlined : IsInlined e g
-  pub within_limits : IsWithinLimits g
-  pub productive : All (IsProductive (plain_of g)) g.starts
 
 -- The first fault of the instances: each case requires that no earlier case holds; `Memory` is always allowed.
 abbrev pub IsFault : Expanded → InlineFault → Type 0

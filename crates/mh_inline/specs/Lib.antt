@@ -3,4 +3,5 @@ pub mod code
 pub mod Kept
 pub mod Faults
 pub mod Inlined
+pub mod GrammarOfInstances
 pub mod Sentences

@@ -32,8 +32,8 @@ pub struct DepthSearch {
     pub stack: Vec<Visit>,
     /// The instances that have been entered and have no rank yet, in the order of entering.
     pub open: Vec<usize>,
-    /// The instances that have been left, in the order of leaving.
-    pub left: Vec<usize>,
+    /// The instances whose visit is complete, in the order in which the search left them.
+    pub finished: Vec<usize>,
 }
 
 fn visits_to_all(alloc: Global, count: usize) -> Result<Vec<Visit>, Memory>
@@ -58,7 +58,7 @@ fn new_search(alloc: Global, count: usize) -> Result<DepthSearch, Memory>
         ranks: vec![in alloc; 0; count]?,
         stack: visits_to_all(alloc, count)?,
         open: Vec::new(alloc),
-        left: Vec::new(alloc),
+        finished: Vec::new(alloc),
     })
 }
 
@@ -144,14 +144,14 @@ fn leave(
     requires search { IsDepthSearch (length expanded.now.instances) search.old }
     ensures { OnOk result (IsDepthSearch (length expanded.now.instances) search.new) }
 {
-    search.left.push(number)?;
+    search.finished.push(number)?;
     let made_of = inlined_in(alloc, expanded, number)?;
     let own = search.lowest[number];
     let least = least_of(search, made_of.as_slice(), own);
     if least < own {
         search.lowest[number] = least;
     } else {
-        let rank = search.left.len();
+        let rank = search.finished.len();
         close(search, number, rank);
     }
     Ok(())

@@ -11,7 +11,8 @@ ghost use Rattle.mh_inline.specs.code.NumbersAndOrigins.{AreNumbers};
 ghost use Rattle.mh_inline.specs.code.ProductionParts.{AreOriginsSmall};
 ghost use Rattle.mh_inline.specs.Cycles.{HasNoCycle, IsFirstCyclicAt};
 ghost use Rattle.mh_inline.specs.code.ProductiveMarks.{IsFirstUnmarked, HasEmptyStart};
-ghost use Rattle.mh_inline.specs.Faults.{HasNoInlineStart, IsFault, IsFirstInlineStartAt, IsGrammarOf, IsInstanceNamed, IsWithinLimits};
+ghost use Rattle.mh_inline.specs.GrammarOfInstances.{HasNoInlineStart, IsWithinLimits, IsGrammarOf};
+ghost use Rattle.mh_inline.specs.Faults.{IsFault, IsFirstInlineStartAt, IsInstanceNamed};
 ghost use Rattle.mh_inline.specs.code.DepthFirst.{IsDepthSearch};
 ghost use Rattle.mh_inline.specs.Sentences.{KeepsSentences};
 
@@ -240,7 +241,7 @@ fn inline_searched(
     ensures grammar { IfOk result (IsGrammarOf expanded.now) }
     ensures fault { IfErr result (IsFault expanded.now) }
 {
-    let sizing = inline_sizes(alloc, expanded, search.left.as_slice())?;
+    let sizing = inline_sizes(alloc, expanded, search.finished.as_slice())?;
     let cyclic = first_cyclic(alloc, expanded, &sizing, search.ranks.as_slice())?;
     inline_unless_cyclic(alloc, expanded, &sizing, cyclic)
 }

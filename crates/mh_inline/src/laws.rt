@@ -1,7 +1,8 @@
 //! Laws of the definitions. Each is the contract of an empty function.
 ghost use Rattle.std.specs.Prelude.{◌≡◌};
 ghost use Rattle.mh_inline.specs.Inlined.{IsInlined};
-ghost use Rattle.mh_inline.specs.Faults.{IsFault, IsGrammarOf, IsNotMemory};
+ghost use Rattle.mh_inline.specs.GrammarOfInstances.{IsGrammarOf};
+ghost use Rattle.mh_inline.specs.Faults.{IsFault, IsNotMemory};
 
 use crate::fault::InlineFault;
 use mh_grammar::Grammar;
@@ -19,7 +20,7 @@ pub fn is_one_grammar(expanded: &Expanded, left: &Grammar, right: &Grammar)
 }
 
 /// Law: if instances have a grammar, then the only fault that may be reported is that memory ran out.
-pub fn is_grammar_or_fault(expanded: &Expanded, grammar: &Grammar, fault: &InlineFault)
+pub fn grammar_excludes_fault(expanded: &Expanded, grammar: &Grammar, fault: &InlineFault)
     requires grammar { IsGrammarOf expanded.now grammar.now }
     requires fault { IsFault expanded.now fault.now }
     ensures { IsNotMemory fault.now → ⊥ }

@@ -22,4 +22,4 @@ mod uses;
 
 pub use fault::InlineFault;
 pub use inlining::inline_rules;
-pub use laws::{is_grammar_or_fault, is_one_fault, is_one_grammar};
+pub use laws::{grammar_excludes_fault, is_one_fault, is_one_grammar};

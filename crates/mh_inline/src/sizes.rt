@@ -127,7 +127,8 @@ fn size_once(expanded: &Expanded, sizing: &mut SizeTable) -> Result<bool, Memory
     Ok(changed)
 }
 
-/// Computes the sizes of the instances in this order, where those that they use have sizes.
+/// Goes through the instances in this order, and computes the size of each inline instance without a size if all inline
+/// instances that it uses have sizes.
 fn size_in_order(expanded: &Expanded, sizing: &mut SizeTable, order: &[usize]) -> Result<(), Memory>
     requires ready { IsExpandedReady expanded.now }
     requires sizing { IsSizeTable expanded.now.instances sizing.old }
@@ -154,8 +155,9 @@ fn size_all(expanded: &Expanded, sizing: &mut SizeTable) -> Result<(), Memory>
     Ok(())
 }
 
-/// The sizes of the inline instances; instances that reach a cycle have none. If each instance comes in the order after
-/// those that it uses, then one pass after the order finds nothing left to do. Fails only if memory runs out.
+/// The sizes of the inline instances; instances that reach a cycle have none. If the order lists each instance after
+/// those that it uses, one walk along it computes all sizes, and the pass that follows computes none. Fails only if
+/// memory runs out.
 pub(crate) fn inline_sizes(
     alloc: Global,
     expanded: &Expanded,

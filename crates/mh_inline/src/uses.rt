@@ -2,7 +2,7 @@
 ghost use Rattle.std.specs.Prelude.{◌≡◌, ◌<◌, length, IfOk, OnOk};
 ghost use Rattle.std.specs.List.{All, Contains};
 ghost use Rattle.mh_inline_unfold.specs.code.UsedInstances.{UsesInline};
-ghost use Rattle.mh_inline.specs.code.LastUses.{AreLastUses, DropsUnneeded, KeptUses, RaisesLastUse};
+ghost use Rattle.mh_inline.specs.code.LastUses.{AreLastUses, DropsUnneeded, NoninlineUses, RaisesLastUse};
 
 use mh_grammar::{Memory, Sequence};
 use mh_inline_unfold::{Unfolding, inlined_in, is_inline};
@@ -47,7 +47,7 @@ fn put_off_kept(
 ) -> Result<(), Memory>
     requires number { number < length expanded.now.instances }
     requires last { length last.old.items ≡ length expanded.now.instances }
-    ensures { OnOk result (RaisesLastUse (KeptUses expanded.now.instances number) place last.old.items last.new.items) }
+    ensures { OnOk result (RaisesLastUse (NoninlineUses expanded.now.instances number) place last.old.items last.new.items) }
 {
     if is_inline(expanded, number) {
         return Ok(());

@@ -10,7 +10,7 @@ use Rattle.mh_rules.specs.declared.instances.Instance.{Instance}
 use Rattle.mh_inline_unfold.specs.Instances.{inline_number}
 use Rattle.mh_inline_unfold.specs.code.UsedInstances.{OccursInProducers, OccursInAlternatives, UsesInline, AddsToList}
 use Rattle.mh_inline_unfold.proofs.InlineProducers.{inline_instance}
-use Rattle.mh_inline_unfold.proofs.Occurrences.{among_one, one_among, kept_none, among_cases, among_front, among_last, in_cases, in_front, in_last, occurs_if_used, used_if_occurs}
+use Rattle.mh_inline_unfold.proofs.Occurrences.{number_if_occurs, occurs_if_number, no_occurrence_without_number, among_cases, among_front, among_last, in_cases, in_front, in_last, occurs_if_used, used_if_occurs}
 
 pub AddsToList-none : (P : ℕ → Type 0) (ns : List ℕ) → ((m : ℕ) → P m → ⊥) → AddsToList P ns ns
 AddsToList-none P ns none = record { kept = λ m c. c; origin = λ m c. inl c; added = λ m p. absurd (none m p) }
@@ -27,12 +27,12 @@ module _ (is : List Instance) where
   pub part_listed : (X : Part) (n : ℕ) (ns : List ℕ) → inline_number is X ≡ Some n → AddsToList (OccursInProducers is (X ∷ [])) ns (ns ++ n ∷ [])
   part_listed X n ns e = record {
     kept = λ m c. Contains-append_left ns (n ∷ []) m c;
-    origin = λ m c. elim (Contains-push_cases ns n m c) [ inl d ↦ inl d | inr s ↦ inr (one_among is X n m e (sym s)) ];
-    added = λ m x. rw (among_one is X n m e x) (Contains-push ns n);
+    origin = λ m c. elim (Contains-push_cases ns n m c) [ inl d ↦ inl d | inr s ↦ inr (occurs_if_number is X n m e (sym s)) ];
+    added = λ m x. rw (number_if_occurs is X n m e x) (Contains-push ns n);
   }
 
   pub part_passed : (X : Part) (ns : List ℕ) → inline_number is X ≡ None → AddsToList (OccursInProducers is (X ∷ [])) ns ns
-  part_passed X ns e = AddsToList-none (OccursInProducers is (X ∷ [])) ns (λ m x. kept_none is X m e x)
+  part_passed X ns e = AddsToList-none (OccursInProducers is (X ∷ [])) ns (λ m x. no_occurrence_without_number is X m e x)
 
   pub side_listed : (Xs : List Part) (i : ℕ) (d : Part) (a b c : List ℕ) → i < length Xs → AddsToList (OccursInProducers is (take i Xs)) a b → AddsToList (OccursInProducers is (get_or Xs i d ∷ [])) b c → AddsToList (OccursInProducers is (take (i + 1) Xs)) a c
   side_listed Xs i d a b c l h k =

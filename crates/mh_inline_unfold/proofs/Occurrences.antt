@@ -14,26 +14,26 @@ use Rattle.mh_inline_unfold.proofs.InlineProducers.{inline_some, inline_none}
 
 module _ (is : List Instance) where
   -- The inline instances of one producer.
-  pub among_one : (X : Part) (n m : ℕ) → inline_number is X ≡ Some n → OccursInProducers is (X ∷ []) m → m ≡ n
-  among_one X n m e x = first x.producer x.at
+  pub number_if_occurs : (X : Part) (n m : ℕ) → inline_number is X ≡ Some n → OccursInProducers is (X ∷ []) m → m ≡ n
+  number_if_occurs X n m e x = first x.producer x.at
     where
       first : (j : ℕ) → slice_get (X ∷ []) j ≡ Some (Applied m) → m ≡ n
       first zero at = let f : Applied n ≡ Applied m = sym (inline_some is X n e).same ∙ same_Some X (Applied m) at in let g : n ≡ m = cc in sym g
       first (suc j) at = absurd (none-some (Applied m) at)
 
-  pub one_among : (X : Part) (n m : ℕ) → inline_number is X ≡ Some n → m ≡ n → OccursInProducers is (X ∷ []) m
-  one_among X n m e s = let h = inline_some is X n e in record { producer = 0; at = ap Some (h.same ∙ ap Applied (sym s)); used = rw s h.inlined }
+  pub occurs_if_number : (X : Part) (n m : ℕ) → inline_number is X ≡ Some n → m ≡ n → OccursInProducers is (X ∷ []) m
+  occurs_if_number X n m e s = let h = inline_some is X n e in record { producer = 0; at = ap Some (h.same ∙ ap Applied (sym s)); used = rw s h.inlined }
 
-  pub kept_none : (X : Part) (m : ℕ) → inline_number is X ≡ None → OccursInProducers is (X ∷ []) m → ⊥
-  kept_none X m e x = first x.producer x.at
+  pub no_occurrence_without_number : (X : Part) (m : ℕ) → inline_number is X ≡ None → OccursInProducers is (X ∷ []) m → ⊥
+  no_occurrence_without_number X m e x = first x.producer x.at
     where
       first : (j : ℕ) → slice_get (X ∷ []) j ≡ Some (Applied m) → ⊥
       first zero at = let kept = subst (IsKept is) (same_Some X (Applied m) at) (inline_none is X e) in false≢true (sym kept ∙ x.used)
       first (suc j) at = none-some (Applied m) at
 
   -- The inline instances of a list of producers, extended by one producer.
-  pub side_none : (m : ℕ) → OccursInProducers is [] m → ⊥
-  side_none m x = none-some (Applied m) x.at
+  pub no_occurrence_in_empty_producers : (m : ℕ) → OccursInProducers is [] m → ⊥
+  no_occurrence_in_empty_producers m x = none-some (Applied m) x.at
 
   pub among_cases : (Xs : List Part) (X : Part) (m : ℕ) → OccursInProducers is (Xs ++ X ∷ []) m → OccursInProducers is Xs m ⊎ OccursInProducers is (X ∷ []) m
   among_cases Xs X m x = elim (get_cases Xs X x.producer (Applied m) x.at) [
@@ -52,8 +52,8 @@ module _ (is : List Instance) where
       at_end (suc j) at = absurd (none-some (Applied m) at)
 
   -- The inline instances of a list of alternatives, extended by one alternative.
-  pub each_none : (m : ℕ) → OccursInAlternatives is [] m → ⊥
-  each_none m x = none-some x.production x.at
+  pub no_occurrence_in_empty_alternatives : (m : ℕ) → OccursInAlternatives is [] m → ⊥
+  no_occurrence_in_empty_alternatives m x = none-some x.production x.at
 
   pub in_cases : (ps : List InstanceProduction) (p : InstanceProduction) (m : ℕ) → OccursInAlternatives is (ps ++ p ∷ []) m → OccursInAlternatives is ps m ⊎ OccursInProducers is p.rhs m
   in_cases ps p m x = elim (get_cases ps p x.place x.production x.at) [

@@ -58,8 +58,8 @@ add_row g old row new n h e b = (
   (λ s. elim s [ inl k ↦ (h b).1 (inl k) | inr f ↦ (h b).1 (inr ((e b).1 f)) ]),
 )
 
-pub row_of : {W : ℕ} (g : PlainGrammar) (sets : NullableAndFirst W) (n : ℕ) (row : List Look) → AreNullableAndFirst g sets → length sets.first ≡ length sets.nullable → n < length sets.nullable → row ≡ get_or sets.first n row → (b : Look) → Contains row b ↔ IsFirstLook g (N n) b
-row_of g sets n row s e l at b =
+pub row_is_first : {W : ℕ} (g : PlainGrammar) (sets : NullableAndFirst W) (n : ℕ) (row : List Look) → AreNullableAndFirst g sets → length sets.first ≡ length sets.nullable → n < length sets.nullable → row ≡ get_or sets.first n row → (b : Look) → Contains row b ↔ IsFirstLook g (N n) b
+row_is_first g sets n row s e l at b =
     let within : n < length sets.first = omega arith in
     let here = get_or_from_slice_get sets.first n row [] (slice_get_read sets.first (length sets.first) n row refl within at) in
     let f = s.first n b (omega (arith, s.nullable_len)) in

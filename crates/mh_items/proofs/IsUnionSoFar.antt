@@ -7,7 +7,7 @@ use Rattle.std.proofs.lemmas.Option.{slice_get_within, slice_get-get_or}
 use Rattle.mh_grammar.specs.declared.types.Look.{Look}
 use Rattle.mh_grammar.specs.Plain.{PlainGrammar}
 use Rattle.mh_items_kernels.specs.KernelTypes.{KernelItem, Kernel}
-use Rattle.mh_items_kernels.specs.Kernels.{Holds, IsItemList, IsKernelItem, IsItemBefore, IsJoined}
+use Rattle.mh_items_kernels.specs.Kernels.{Holds, IsItemList, IsKernelItem, IsItemBefore, HasLooksOfBoth}
 use Rattle.mh_items.specs.code.ItemUnion.{IsItemUnion, IsUnionSoFar}
 use Rattle.mh_grammar.proofs.Lists.{get_unique, contains_at, at_contains, recursion_at, rising_at}
 use Rattle.mh_items_kernels.proofs.UniqueItemList.{before_trans}
@@ -108,7 +108,7 @@ module _ (g : PlainGrammar) (left right items : List KernelItem) (i j : ℕ) (lk
   before_place x y z p d (inl l) = inl (omega arith)
   before_place x y z p d (inr l) = let e = l.1 in inr (l.0 ∙ p, omega arith)
 
-  pub IsUnionSoFar-both : (x y z : KernelItem) → slice_get left i ≡ Some x → slice_get right j ≡ Some y → x.production ≡ y.production → x.dot ≡ y.dot → IsKernelItem g z → IsJoined x y z
+  pub IsUnionSoFar-both : (x y z : KernelItem) → slice_get left i ≡ Some x → slice_get right j ≡ Some y → x.production ≡ y.production → x.dot ≡ y.dot → IsKernelItem g z → HasLooksOfBoth x y z
       → IsUnionSoFar g left (i + 1) right (j + 1) (items ++ z ∷ [])
   IsUnionSoFar-both x y z at at' p d valid joined = IsUnionSoFar-push g left right items i j (i + 1) (j + 1) z h (omega arith) (omega arith) (let l = slice_get_within left i x at in omega arith) (let l = slice_get_within right j y at' in omega arith) valid
       (λ w c. before_place w x z (sym joined.production) (sym joined.dot) (h.before_left w x i c (omega arith) at))

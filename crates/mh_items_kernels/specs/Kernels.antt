@@ -34,7 +34,7 @@ pub record IsItemList (g : PlainGrammar) (k : Kernel) : Type 0 where
   pub rising : IsRising IsItemBefore k.items
 
 -- The item z has the production and the dot of x, and the looks of both x and y.
-pub record IsJoined (x y z : KernelItem) : Type 0 where
+pub record HasLooksOfBoth (x y z : KernelItem) : Type 0 where
   pub production : z.production ≡ x.production
   pub dot : z.dot ≡ x.dot
   pub rising : IsRising IsLookBefore z.looks

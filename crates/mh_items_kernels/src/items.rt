@@ -3,7 +3,7 @@
 ghost use Rattle.std.specs.Prelude.{◌≡◌, ◌<◌, ◌+◌, ◌^◌, ◌⊎◌, ◌↔◌, true};
 ghost use Rattle.std.specs.List.{Contains};
 ghost use Rattle.mh_grammar.specs.declared.types.Look.{Look as LookOf};
-ghost use Rattle.mh_items_kernels.specs.Kernels.{IsJoined};
+ghost use Rattle.mh_items_kernels.specs.Kernels.{HasLooksOfBoth};
 
 use crate::kernels::KernelItem;
 use mh_sets::TokenSet;
@@ -33,7 +33,7 @@ pub fn copied_item<const W: usize>(item: &KernelItem<W>) -> KernelItem<W>
 
 /// The item with the looks of another item added.
 pub fn joined_item<const W: usize>(item: &KernelItem<W>, other: &KernelItem<W>) -> KernelItem<W>
-    ensures { IsJoined item.now other.now result }
+    ensures { HasLooksOfBoth item.now other.now result }
 {
     let mut looks = item.looks.copied();
     looks.union_into(&other.looks);

@@ -1,4 +1,4 @@
--- Proves that the costs of joined tokens are in range.
+-- Proves that the costs of joined tokens are within the limits of costs (`IsCost`).
 use Rattle.std.proofs.Common.{ℕ, List, [], ◌∷◌, Option, Some, None, Bool, true, false, cond, flat_map, sym, subst, arith}
 use Rattle.std.specs.Prelude.{IfSome, unwrap_or}
 use Rattle.std.specs.List.{AllByRecursion}

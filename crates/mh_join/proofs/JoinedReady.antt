@@ -1,4 +1,5 @@
--- Proves that joined files are in range, and that files have at most one joined value.
+-- Proves that the result of joining files meets the conditions of the next stage (`IsJoinedReady`), and that any two
+-- results of joining the same files are equal.
 use Rattle.std.proofs.Common.{◌≡◌, ℕ, zero, suc, ◌+◌, ◌<◌, ◌≤◌, Bool, true, false, cond, List, [], ◌∷◌, ◌++◌, Option, Some, None, length, get_or, map, refl, sym, ap, subst, ◌∙◌, ◌⊎◌, inl, inr, arith, length-append}
 use Rattle.std.specs.Prelude.{◌==◌, ◌&&◌, ◌||◌, ◌≢◌, not, nat_lt, if◌then◌else◌, Ok, Err, AllPairs, option_map, option_and_then, slice_get, IfOk, Result}
 use Rattle.std.specs.List.{All, AllByRecursion, position, list_any, list_all, flat_map, enumerate_from}
@@ -35,7 +36,7 @@ use Rattle.mh_join_names.specs.Prelude.{prelude_rules}
 use Rattle.mh_grammar.specs.Text.{Text}
 use Rattle.mh_join_names.specs.Names.{same, files, firsts, token_names, start_names, is_elsewhere, is_public, owner_in, Definition, definitions, definitions_from, definitions_in, prelude_definitions, outline_of, same_owner, is_rule, same_rule, rules, rule_number, formal_number, visible_head, user_head, rule_head, token_head, insert_all, insert_key}
 use Rattle.mh_join_names.specs.Faults.{Meanings, meanings, meant_by, unless, agrees, same_flag, same_shape, repeats, own_name, own_names, own_in_file, formals_in_file, shapes_in_file, other_shape, name_duplicates, rule_duplicates, duplicates, levels_in_file, has_some, errors_in_file, unlevelled_in_file, many_tokens, other_faults, undefined_in_file, join_faults, first}
-use Rattle.mh_join_names.specs.Joining.{all_of, applied_to, apply_step, resolved, all_resolved, prec_by, alternative_with, alternative_by, alternatives_by, is_number, alternatives_for, rule_without, without_alternatives, token_info, on_error_in, IsJoined, Joins}
+use Rattle.mh_join_names.specs.Joining.{all_of, applied_to, apply_step, resolved, all_resolved, prec_by, alternative_with, alternative_by, alternatives_by, has_number, alternatives_for, rule_of_outline, without_alternatives, token_info, on_error_in, IsJoined, Joins}
 use Rattle.mh_rules.specs.Depth.{greatest, actual_depth, actual_depth_step, applied_depth, applied_depth_step, IsActualShallow, IsAppliedShallow, AreProducersShallow}
 use Rattle.mh_rules.specs.Ready.{IsModuleReady, AreModulesReady, IsHeadBelow, IsAppliedBelow, IsRuleReady, IsJoinedReady}
 use Rattle.mh_grammar.proofs.Lists.{get_cases, at_contains, recursion-from, nil_parts}
@@ -127,7 +128,7 @@ position_below : {X : Type 0} (p : X → Bool) (xs : List X) (i : ℕ) → posit
 position_below p xs i e = let found = at_position p xs i e in slice_get_within xs i found.0 found.1
 
 module _ {X : Type 0} (eq : X → X → Bool) (self : (x : X) → eq x x ≡ true) where
-  -- Each element is equal to the element at the first position that is found for it.
+  -- The first element that `eq` accepts as equal to the element at i is the element at i itself.
   abbrev AreFirst : List X → Type 0
   AreFirst xs = (i : ℕ) (x : X) → slice_get xs i ≡ Some x → position (eq x) xs ≡ Some i
 
@@ -562,14 +563,14 @@ module _ (p : Bool) (ms : List Module) (j : Joined) (none : join_faults p ms ≡
   tokens_length = ap length joined.tokens_are ∙ length-map (token_names ms) (token_info (meanings p ms))
 
   rules_length : length j.rules ≡ count_rules
-  rules_length = sym (length-map j.rules without_alternatives) ∙ ap length joined.rules_are.outlines_are ∙ length-map (rules p ms) (rule_without (is_elsewhere ms))
+  rules_length = sym (length-map j.rules without_alternatives) ∙ ap length joined.rules_are.outlines_are ∙ length-map (rules p ms) (rule_of_outline (is_elsewhere ms))
 
   -- A joined rule has the number of formals of its outline, which is the rule without its alternatives.
   outline_at : (i : ℕ) (r : JoinedRule) → slice_get j.rules i ≡ Some r → (o : Outline) × (slice_get (rules p ms) i ≡ Some o) × (o.formals ≡ r.formals)
   outline_at i r at = go (slice_get (rules p ms) i) refl
-      (sym (slice_get-map (rule_without (is_elsewhere ms)) (rules p ms) i) ∙ ap (λ k. slice_get k i) (sym joined.rules_are.outlines_are) ∙ slice_get-map without_alternatives j.rules i ∙ ap (option_map without_alternatives) at)
+      (sym (slice_get-map (rule_of_outline (is_elsewhere ms)) (rules p ms) i) ∙ ap (λ k. slice_get k i) (sym joined.rules_are.outlines_are) ∙ slice_get-map without_alternatives j.rules i ∙ ap (option_map without_alternatives) at)
     where
-      go : (q : Option Outline) → slice_get (rules p ms) i ≡ q → option_map (rule_without (is_elsewhere ms)) q ≡ Some (without_alternatives r) → (o : Outline) × (slice_get (rules p ms) i ≡ Some o) × (o.formals ≡ r.formals)
+      go : (q : Option Outline) → slice_get (rules p ms) i ≡ q → option_map (rule_of_outline (is_elsewhere ms)) q ≡ Some (without_alternatives r) → (o : Outline) × (slice_get (rules p ms) i ≡ Some o) × (o.formals ≡ r.formals)
       go None e f = let bad : None ≡ Some (without_alternatives r) = f in cc
       go (Some o) e f = (o, e, ap (λ (v : JoinedRule). v.formals) (same_Some _ _ f))
 
@@ -579,13 +580,13 @@ module _ (p : Bool) (ms : List Module) (j : Joined) (none : join_faults p ms ≡
       (All-from_recursion (IsAppliedBelow (length fs) count_tokens count_rules) ks
       (all_good (IsHeadBelow (length fs) count_tokens count_rules) (meant_by (meanings p ms) k (formal_number fs)) (head_below p ms fs k) actuals ks e))
 
-  -- Each alternative of a rule belongs to a definition with the number of the rule.
-  from_definition : (i : ℕ) (d : Definition) (b : Bool) (a : JoinedAlternative) → is_number i (rule_number p ms d.owner d.rule.name) ≡ b → In (if b then alternatives_by (meanings p ms) d else []) (Some a)
+  -- If a definition contributes an alternative to rule i, then i is the number of the rule that it defines.
+  from_definition : (i : ℕ) (d : Definition) (b : Bool) (a : JoinedAlternative) → has_number i (rule_number p ms d.owner d.rule.name) ≡ b → In (if b then alternatives_by (meanings p ms) d else []) (Some a)
       → (rule_number p ms d.owner d.rule.name ≡ Some i) × In (alternatives_by (meanings p ms) d) (Some a)
   from_definition i d false a e h = elim h [ ]
   from_definition i d true a e h = (go (rule_number p ms d.owner d.rule.name) e, h)
     where
-      go : (o : Option ℕ) → is_number i o ≡ true → o ≡ Some i
+      go : (o : Option ℕ) → has_number i o ≡ true → o ≡ Some i
       go None f = let bad : false ≡ true = f in cc
       go (Some n) f = ap Some (sym (eqb_is i n f))
 
@@ -603,7 +604,7 @@ module _ (p : Bool) (ms : List Module) (j : Joined) (none : join_faults p ms ≡
       let outline = outline_at i r at in
       let from = in_flat (alternatives_for (meanings p ms) i) (definitions p ms) (Some a) (subst (λ k. In k (Some a)) (joined.rules_are.alternatives_are i r at) (map_in Some r.alternatives a h)) in
       let d = from.0 in
-      let there = from_definition i d (is_number i (rule_number p ms d.owner d.rule.name)) a refl from.2 in
+      let there = from_definition i d (has_number i (rule_number p ms d.owner d.rule.name)) a refl from.2 in
       let one = in_map (alternative_by (meanings p ms) d.file (meant_by (meanings p ms) d.file (formal_number d.rule.formals))) (enumerate_from d.place d.rule.alternatives) (Some a) there.1 in
       subst (λ n. All (IsAppliedBelow n (length j.tokens) (length j.rules)) a.producers) (sym (formals_are p ms none d i outline.0 from.1 there.0 outline.1) ∙ outline.2) (producers_below d one.0 a one.2)
 
@@ -623,7 +624,7 @@ module _ (p : Bool) (ms : List Module) (j : Joined) (none : join_faults p ms ≡
   alternative_shallow filled i r at a h =
       let from = in_flat (alternatives_for (meanings p ms) i) (definitions p ms) (Some a) (subst (λ k. In k (Some a)) (joined.rules_are.alternatives_are i r at) (map_in Some r.alternatives a h)) in
       let d = from.0 in
-      let there = from_definition i d (is_number i (rule_number p ms d.owner d.rule.name)) a refl from.2 in
+      let there = from_definition i d (has_number i (rule_number p ms d.owner d.rule.name)) a refl from.2 in
       let one = in_map (alternative_by (meanings p ms) d.file (meant_by (meanings p ms) d.file (formal_number d.rule.formals))) (enumerate_from d.place d.rule.alternatives) (Some a) there.1 in
       let spelled =
       at_in (λ (b : Alternative). All IsActualShallow b.producers) d.rule.alternatives one.0.1 (recursion_from_All (λ (b : Alternative). All IsActualShallow b.producers) d.rule.alternatives (definition_shallow p ms filled d from.1))
@@ -635,7 +636,7 @@ module _ (p : Bool) (ms : List Module) (j : Joined) (none : join_faults p ms ≡
   rule_filled filled i r at =
       let some = definition_filled p ms filled from.0 from.1 in
       let mine : length (alternatives_for (meanings p ms) i from.0) ≡ length from.0.rule.alternatives =
-      ap (λ b. length (if b then alternatives_by (meanings p ms) from.0 else [])) (ap (is_number i) number ∙ (Decides-eqb i i).1 refl)
+      ap (λ b. length (if b then alternatives_by (meanings p ms) from.0 else [])) (ap (has_number i) number ∙ (Decides-eqb i i).1 refl)
       ∙ length-map (enumerate_from from.0.place from.0.rule.alternatives) (alternative_by (meanings p ms) from.0.file (meant_by (meanings p ms) from.0.file (formal_number from.0.rule.formals)))
       ∙ length_numbered from.0.place from.0.rule.alternatives in
       let within = length_in (alternatives_for (meanings p ms) i) (definitions p ms) from.0 from.1 in
@@ -707,7 +708,7 @@ module _ (p : Bool) (ms : List Module) (j : Joined) (none : join_faults p ms ≡
       let spelled = at_in (All IsActualShallow) f.0.1.on_error one.0 (recursion_from_All (All IsActualShallow) f.0.1.on_error module_ready.on_error_shallow) one.1 in
       all_kept (meant_by (meanings p ms) f.0.0 (formal_number [])) one.0 ks one.2 spelled
 
--- Joined files are in range, if each of their rules has an alternative.
+-- If the modules are ready, the result of joining them is ready.
 pub ready : (p : Bool) (ms : List Module) (j : Joined) → AreModulesReady ms → Joins p ms (Ok j) → IsJoinedReady j
 ready p ms j filled (none, joined) = record {
   few_tokens = subst (λ n. n ≤ max_tokens) (sym (tokens_length p ms j none joined)) (tokens_few p ms none);
@@ -745,7 +746,7 @@ rules_one (r ∷ rs) (q ∷ qs) e h =
     let here : r ≡ q = λ i. record { name = (bare i).name; inlined = (bare i).inlined; formals = (bare i).formals; alternatives = alternatives i } in
     ap (λ v. v ∷ rs) here ∙ ap (λ vs. q ∷ vs) (rules_one rs qs rest (λ i. h (suc i)))
 
--- Two joined values of the same files are equal.
+-- Two results of joining the same files are equal.
 pub one_joined : (p : Bool) (ms : List Module) (j k : Joined) → Joins p ms (Ok j) → Joins p ms (Ok k) → j ≡ k
 one_joined p ms j k (_, a) (_, b) =
     let tokens = a.tokens_are ∙ sym b.tokens_are in

@@ -102,35 +102,35 @@ module _ (meant : Ref → Option Head) where
   refs_call : (x : Text) (ks : List Actual) → refs (call x ks) ≡ Plain x ∷ flat_map refs ks
   refs_call x ks = fold-roll-Actual (List Ref) refs_step (record { head = Plain x; args = ks }) ∙ ap (λ k. Plain x ∷ k) (flat_map-map (λ (rs : List Ref). rs) refs ks)
 
-  call_stands : (x : Text) (ks : List Actual) → is_some (meant (Plain x)) ≡ true → flat_map (undefined_in_actual false meant) ks ≡ [] → undefined_in_actual false meant (call x ks) ≡ []
-  call_stands x ks known rest =
+  call_resolves : (x : Text) (ks : List Actual) → is_some (meant (Plain x)) ≡ true → flat_map (undefined_in_actual false meant) ks ≡ [] → undefined_in_actual false meant (call x ks) ≡ []
+  call_resolves x ks known rest =
       ap (flat_map (undefined false meant)) (refs_call x ks) ∙ ap (λ k. undefined false meant (Plain x) ++ k) (flat_refs (undefined false meant) ks ∙ rest)
       ∙ ap (λ b. unless b (faults.Undefined x) ++ []) known
 
-  words_stand : (xs : List Text) → list_all (λ x. is_some (meant (Plain x))) xs ≡ true → flat_map (undefined_in_actual false meant) (words xs) ≡ []
-  words_stand [] h = refl
-  words_stand (x ∷ xs) h =
+  words_resolve : (xs : List Text) → list_all (λ x. is_some (meant (Plain x))) xs ≡ true → flat_map (undefined_in_actual false meant) (words xs) ≡ []
+  words_resolve [] h = refl
+  words_resolve (x ∷ xs) h =
       both_nil (undefined_in_actual false meant (call x [])) (flat_map (undefined_in_actual false meant) (words xs))
-      (call_stands x [] (and_left (is_some (meant (Plain x))) (list_all (λ y. is_some (meant (Plain y))) xs) h) refl)
-      (words_stand xs (and_right (is_some (meant (Plain x))) (list_all (λ y. is_some (meant (Plain y))) xs) h))
+      (call_resolves x [] (and_left (is_some (meant (Plain x))) (list_all (λ y. is_some (meant (Plain y))) xs) h) refl)
+      (words_resolve xs (and_right (is_some (meant (Plain x))) (list_all (λ y. is_some (meant (Plain y))) xs) h))
 
 module _ (w : Meanings) (fs : List Text) where
-  formal_stands : (o rest : Option Head) → is_some o ≡ true → is_some (option_or o rest) ≡ true
-  formal_stands None rest h = let bad : false ≡ true = h in cc
-  formal_stands (Some x) rest h = refl
+  formal_resolves : (o rest : Option Head) → is_some o ≡ true → is_some (option_or o rest) ≡ true
+  formal_resolves None rest h = let bad : false ≡ true = h in cc
+  formal_resolves (Some x) rest h = refl
 
   mapped : (o : Option ℕ) → is_some o ≡ true → is_some (option_map heads.Formal o) ≡ true
   mapped None h = h
   mapped (Some x) h = refl
 
-  formals_stand : (xs : List Text) → list_all (λ x. is_some (formal_number fs x)) xs ≡ true → list_all (λ x. is_some (meant_by w 0 (formal_number fs) (Plain x))) xs ≡ true
-  formals_stand [] h = refl
-  formals_stand (x ∷ xs) h =
-      ap (λ b. b && list_all (λ y. is_some (meant_by w 0 (formal_number fs) (Plain y))) xs) (formal_stands (option_map heads.Formal (formal_number fs x)) _ (mapped (formal_number fs x) (and_left (is_some (formal_number fs x)) (list_all (λ y. is_some (formal_number fs y)) xs) h)))
-      ∙ formals_stand xs (and_right (is_some (formal_number fs x)) (list_all (λ y. is_some (formal_number fs y)) xs) h)
+  formals_resolve : (xs : List Text) → list_all (λ x. is_some (formal_number fs x)) xs ≡ true → list_all (λ x. is_some (meant_by w 0 (formal_number fs) (Plain x))) xs ≡ true
+  formals_resolve [] h = refl
+  formals_resolve (x ∷ xs) h =
+      ap (λ b. b && list_all (λ y. is_some (meant_by w 0 (formal_number fs) (Plain y))) xs) (formal_resolves (option_map heads.Formal (formal_number fs x)) _ (mapped (formal_number fs x) (and_left (is_some (formal_number fs x)) (list_all (λ y. is_some (formal_number fs y)) xs) h)))
+      ∙ formals_resolve xs (and_right (is_some (formal_number fs x)) (list_all (λ y. is_some (formal_number fs y)) xs) h)
 
-  names_stand : (xs : List Text) → list_all (λ x. is_some (formal_number fs x)) xs ≡ true → flat_map (undefined_in_actual false (meant_by w 0 (formal_number fs))) (words xs) ≡ []
-  names_stand xs h = words_stand (meant_by w 0 (formal_number fs)) xs (formals_stand xs h)
+  names_resolve : (xs : List Text) → list_all (λ x. is_some (formal_number fs x)) xs ≡ true → flat_map (undefined_in_actual false (meant_by w 0 (formal_number fs))) (words xs) ≡ []
+  names_resolve xs h = words_resolve (meant_by w 0 (formal_number fs)) xs (formals_resolve xs h)
 
 -- The function is empty at each element of the list.
 abbrev AllNil : {A B : Type 0} → (A → List B) → List A → Type 0
@@ -154,11 +154,11 @@ two_formals = texts ("separator" ∷ "X" ∷ [])
 abbrev meant_in : Meanings → List Text → Ref → Option Head
 meant_in w fs r = meant_by w 0 (formal_number fs) r
 
-in_order_stands : (w : Meanings) (inlined : Bool) (name : Text) (fs : List Text) → list_all (λ x. is_some (formal_number fs x)) fs ≡ true → unresolved_in_rule w 0 (in_order inlined name fs) ≡ []
-in_order_stands w inlined name fs h = all_nil (unresolved (meant_in w fs)) (plain (words fs) ∷ []) (names_stand w fs fs h, tt)
+in_order_resolves : (w : Meanings) (inlined : Bool) (name : Text) (fs : List Text) → list_all (λ x. is_some (formal_number fs x)) fs ≡ true → unresolved_in_rule w 0 (in_order inlined name fs) ≡ []
+in_order_resolves w inlined name fs h = all_nil (unresolved (meant_in w fs)) (plain (words fs) ∷ []) (names_resolve w fs fs h, tt)
 
-optional_stands : (w : Meanings) (inlined : Bool) (name : Text) → unresolved_in_rule w 0 (optional inlined name) ≡ []
-optional_stands w inlined name = all_nil (unresolved (meant_in w one_formal)) (plain [] ∷ plain (words one_formal) ∷ []) (refl, (names_stand w one_formal one_formal refl, tt))
+optional_resolves : (w : Meanings) (inlined : Bool) (name : Text) → unresolved_in_rule w 0 (optional inlined name) ≡ []
+optional_resolves w inlined name = all_nil (unresolved (meant_in w one_formal)) (plain [] ∷ plain (words one_formal) ∷ []) (refl, (names_resolve w one_formal one_formal refl, tt))
 
 -- Each rule of the prelude has a number by these look-ups.
 record NumbersPrelude (w : Meanings) : Type 0 where
@@ -168,74 +168,74 @@ record NumbersPrelude (w : Meanings) : Type 0 where
   separated_nonempty_list : is_some (w.numbers.rule (Some 0) (codes "separated_nonempty_list")) ≡ true
 
 module _ (w : Meanings) (knows : NumbersPrelude w) where
-  list_stands : unresolved_in_rule w 0 list_rule ≡ []
-  list_stands =
-      let x : undefined_in_actual false (meant_in w one_formal) (call (codes "X") []) ≡ [] = call_stands (meant_in w one_formal) (codes "X") [] refl refl in
+  list_resolves : unresolved_in_rule w 0 list_rule ≡ []
+  list_resolves =
+      let x : undefined_in_actual false (meant_in w one_formal) (call (codes "X") []) ≡ [] = call_resolves (meant_in w one_formal) (codes "X") [] refl refl in
       let more : undefined_in_actual false (meant_in w one_formal) (call (codes "list") (words one_formal)) ≡ [] =
-      call_stands (meant_in w one_formal) (codes "list") (words one_formal) (rule_some (w.numbers.rule (Some 0) (codes "list")) knows.list) (names_stand w one_formal one_formal refl) in
+      call_resolves (meant_in w one_formal) (codes "list") (words one_formal) (rule_some (w.numbers.rule (Some 0) (codes "list")) knows.list) (names_resolve w one_formal one_formal refl) in
       all_nil (unresolved (meant_in w one_formal)) list_rule.alternatives (refl, (all_nil (undefined_in_actual false (meant_in w one_formal)) (call (codes "X") [] ∷ call (codes "list") (words one_formal) ∷ []) (x, (more, tt)), tt))
 
-  nonempty_list_stands : unresolved_in_rule w 0 nonempty_list_rule ≡ []
-  nonempty_list_stands =
-      let x : undefined_in_actual false (meant_in w one_formal) (call (codes "X") []) ≡ [] = call_stands (meant_in w one_formal) (codes "X") [] refl refl in
+  nonempty_list_resolves : unresolved_in_rule w 0 nonempty_list_rule ≡ []
+  nonempty_list_resolves =
+      let x : undefined_in_actual false (meant_in w one_formal) (call (codes "X") []) ≡ [] = call_resolves (meant_in w one_formal) (codes "X") [] refl refl in
       let more : undefined_in_actual false (meant_in w one_formal) (call (codes "nonempty_list") (words one_formal)) ≡ [] =
-      call_stands (meant_in w one_formal) (codes "nonempty_list") (words one_formal) (rule_some (w.numbers.rule (Some 0) (codes "nonempty_list")) knows.nonempty_list) (names_stand w one_formal one_formal refl) in
+      call_resolves (meant_in w one_formal) (codes "nonempty_list") (words one_formal) (rule_some (w.numbers.rule (Some 0) (codes "nonempty_list")) knows.nonempty_list) (names_resolve w one_formal one_formal refl) in
       all_nil (unresolved (meant_in w one_formal)) nonempty_list_rule.alternatives
-      (names_stand w one_formal one_formal refl, (all_nil (undefined_in_actual false (meant_in w one_formal)) (call (codes "X") [] ∷ call (codes "nonempty_list") (words one_formal) ∷ []) (x, (more, tt)), tt))
+      (names_resolve w one_formal one_formal refl, (all_nil (undefined_in_actual false (meant_in w one_formal)) (call (codes "X") [] ∷ call (codes "nonempty_list") (words one_formal) ∷ []) (x, (more, tt)), tt))
 
-  items_stand : undefined_in_actual false (meant_in w two_formals) separated_items ≡ []
-  items_stand =
-      call_stands (meant_in w two_formals) (codes "separated_nonempty_list") (words two_formals) (rule_some (w.numbers.rule (Some 0) (codes "separated_nonempty_list")) knows.separated_nonempty_list) (names_stand w two_formals two_formals refl)
+  items_resolve : undefined_in_actual false (meant_in w two_formals) separated_items ≡ []
+  items_resolve =
+      call_resolves (meant_in w two_formals) (codes "separated_nonempty_list") (words two_formals) (rule_some (w.numbers.rule (Some 0) (codes "separated_nonempty_list")) knows.separated_nonempty_list) (names_resolve w two_formals two_formals refl)
 
-  separated_list_stands : unresolved_in_rule w 0 separated_list_rule ≡ []
-  separated_list_stands =
-      let inner : flat_map (undefined_in_actual false (meant_in w two_formals)) (separated_items ∷ []) ≡ [] = all_nil (undefined_in_actual false (meant_in w two_formals)) (separated_items ∷ []) (items_stand, tt) in
+  separated_list_resolves : unresolved_in_rule w 0 separated_list_rule ≡ []
+  separated_list_resolves =
+      let inner : flat_map (undefined_in_actual false (meant_in w two_formals)) (separated_items ∷ []) ≡ [] = all_nil (undefined_in_actual false (meant_in w two_formals)) (separated_items ∷ []) (items_resolve, tt) in
       let outer : undefined_in_actual false (meant_in w two_formals) (call (codes "loption") (separated_items ∷ [])) ≡ [] =
-      call_stands (meant_in w two_formals) (codes "loption") (separated_items ∷ []) (rule_some (w.numbers.rule (Some 0) (codes "loption")) knows.loption) inner in
+      call_resolves (meant_in w two_formals) (codes "loption") (separated_items ∷ []) (rule_some (w.numbers.rule (Some 0) (codes "loption")) knows.loption) inner in
       all_nil (unresolved (meant_in w two_formals)) separated_list_rule.alternatives (all_nil (undefined_in_actual false (meant_in w two_formals)) (call (codes "loption") (separated_items ∷ []) ∷ []) (outer, tt), tt)
 
-  separated_nonempty_list_stands : unresolved_in_rule w 0 separated_nonempty_list_rule ≡ []
-  separated_nonempty_list_stands =
-      let x : undefined_in_actual false (meant_in w two_formals) (call (codes "X") []) ≡ [] = call_stands (meant_in w two_formals) (codes "X") [] refl refl in
-      let separator : undefined_in_actual false (meant_in w two_formals) (call (codes "separator") []) ≡ [] = call_stands (meant_in w two_formals) (codes "separator") [] refl refl in
+  separated_nonempty_list_resolves : unresolved_in_rule w 0 separated_nonempty_list_rule ≡ []
+  separated_nonempty_list_resolves =
+      let x : undefined_in_actual false (meant_in w two_formals) (call (codes "X") []) ≡ [] = call_resolves (meant_in w two_formals) (codes "X") [] refl refl in
+      let separator : undefined_in_actual false (meant_in w two_formals) (call (codes "separator") []) ≡ [] = call_resolves (meant_in w two_formals) (codes "separator") [] refl refl in
       all_nil (unresolved (meant_in w two_formals)) separated_nonempty_list_rule.alternatives (
         all_nil (undefined_in_actual false (meant_in w two_formals)) (call (codes "X") [] ∷ []) (x, tt),
-        (all_nil (undefined_in_actual false (meant_in w two_formals)) (call (codes "X") [] ∷ call (codes "separator") [] ∷ separated_items ∷ []) (x, (separator, (items_stand, tt))), tt),
+        (all_nil (undefined_in_actual false (meant_in w two_formals)) (call (codes "X") [] ∷ call (codes "separator") [] ∷ separated_items ∷ []) (x, (separator, (items_resolve, tt))), tt),
       )
 
-  options_stand : flat_map (unresolved_in_rule w 0) option_rules ≡ []
-  options_stand = all_nil (unresolved_in_rule w 0) option_rules (optional_stands w false (codes "option"), (optional_stands w true (codes "ioption"), (optional_stands w false (codes "boption"), (optional_stands w false (codes "loption"), tt))))
+  options_resolve : flat_map (unresolved_in_rule w 0) option_rules ≡ []
+  options_resolve = all_nil (unresolved_in_rule w 0) option_rules (optional_resolves w false (codes "option"), (optional_resolves w true (codes "ioption"), (optional_resolves w false (codes "boption"), (optional_resolves w false (codes "loption"), tt))))
 
-  pairs_stand : flat_map (unresolved_in_rule w 0) pair_rules ≡ []
-  pairs_stand =
+  pairs_resolve : flat_map (unresolved_in_rule w 0) pair_rules ≡ []
+  pairs_resolve =
       all_nil (unresolved_in_rule w 0) pair_rules (
-        in_order_stands w true (codes "pair") (texts ("X" ∷ "Y" ∷ [])) refl,
+        in_order_resolves w true (codes "pair") (texts ("X" ∷ "Y" ∷ [])) refl,
         (
-          in_order_stands w true (codes "separated_pair") (texts ("X" ∷ "sep" ∷ "Y" ∷ [])) refl,
+          in_order_resolves w true (codes "separated_pair") (texts ("X" ∷ "sep" ∷ "Y" ∷ [])) refl,
           (
-            in_order_stands w true (codes "preceded") (texts ("opening" ∷ "X" ∷ [])) refl,
+            in_order_resolves w true (codes "preceded") (texts ("opening" ∷ "X" ∷ [])) refl,
             (
-              in_order_stands w true (codes "terminated") (texts ("X" ∷ "closing" ∷ [])) refl,
-              (in_order_stands w true (codes "delimited") (texts ("opening" ∷ "X" ∷ "closing" ∷ [])) refl, tt),
+              in_order_resolves w true (codes "terminated") (texts ("X" ∷ "closing" ∷ [])) refl,
+              (in_order_resolves w true (codes "delimited") (texts ("opening" ∷ "X" ∷ "closing" ∷ [])) refl, tt),
             ),
           ),
         ),
       )
 
-  lists_stand : flat_map (unresolved_in_rule w 0) list_rules ≡ []
-  lists_stand = all_nil (unresolved_in_rule w 0) list_rules (list_stands, (nonempty_list_stands, (separated_list_stands, (separated_nonempty_list_stands, tt))))
+  lists_resolve : flat_map (unresolved_in_rule w 0) list_rules ≡ []
+  lists_resolve = all_nil (unresolved_in_rule w 0) list_rules (list_resolves, (nonempty_list_resolves, (separated_list_resolves, (separated_nonempty_list_resolves, tt))))
 
-  others_stand : flat_map (unresolved_in_rule w 0) other_rules ≡ []
-  others_stand =
+  others_resolve : flat_map (unresolved_in_rule w 0) other_rules ≡ []
+  others_resolve =
       all_nil (unresolved_in_rule w 0) other_rules (
-        in_order_stands w true (codes "rev") (texts ("XS" ∷ [])) refl,
+        in_order_resolves w true (codes "rev") (texts ("XS" ∷ [])) refl,
         (
-          in_order_stands w true (codes "flatten") (texts ("XSS" ∷ [])) refl,
+          in_order_resolves w true (codes "flatten") (texts ("XSS" ∷ [])) refl,
           (
-            in_order_stands w true (codes "append") (texts ("XS" ∷ "YS" ∷ [])) refl,
+            in_order_resolves w true (codes "append") (texts ("XS" ∷ "YS" ∷ [])) refl,
             (
-              in_order_stands w true (codes "endrule") (texts ("X" ∷ [])) refl,
-              (in_order_stands w false (codes "midrule") (texts ("X" ∷ [])) refl, tt),
+              in_order_resolves w true (codes "endrule") (texts ("X" ∷ [])) refl,
+              (in_order_resolves w false (codes "midrule") (texts ("X" ∷ [])) refl, tt),
             ),
           ),
         ),
@@ -253,14 +253,14 @@ known_rules w knows = record {
   separated_nonempty_list = knows (codes "separated_nonempty_list") refl;
 }
 
-whole_stands : (w : Meanings) → NumbersPrelude w → flat_map (unresolved_in_rule w 0) (option_rules ++ (pair_rules ++ (list_rules ++ other_rules))) ≡ []
-whole_stands w knows =
-    flat_map_nil_append (unresolved_in_rule w 0) option_rules (pair_rules ++ (list_rules ++ other_rules)) (options_stand w knows)
-    (flat_map_nil_append (unresolved_in_rule w 0) pair_rules (list_rules ++ other_rules) (pairs_stand w knows) (flat_map_nil_append (unresolved_in_rule w 0) list_rules other_rules (lists_stand w knows) (others_stand w knows)))
+whole_resolves : (w : Meanings) → NumbersPrelude w → flat_map (unresolved_in_rule w 0) (option_rules ++ (pair_rules ++ (list_rules ++ other_rules))) ≡ []
+whole_resolves w knows =
+    flat_map_nil_append (unresolved_in_rule w 0) option_rules (pair_rules ++ (list_rules ++ other_rules)) (options_resolve w knows)
+    (flat_map_nil_append (unresolved_in_rule w 0) pair_rules (list_rules ++ other_rules) (pairs_resolve w knows) (flat_map_nil_append (unresolved_in_rule w 0) list_rules other_rules (lists_resolve w knows) (others_resolve w knows)))
 
 by_parts : (w : Meanings) → NumbersPrelude w → unresolved_in_rules w 0 (prelude_rules true) ≡ []
 unfolding prelude_rules
-by_parts w knows = whole_stands w knows
+by_parts w knows = whole_resolves w knows
 
 without : (w : Meanings) → unresolved_in_rules w 0 (prelude_rules false) ≡ []
 unfolding prelude_rules

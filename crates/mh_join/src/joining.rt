@@ -63,7 +63,8 @@ fn join_with(
 /// Returns the first fault, if there is one. The faults are searched in this order: undefined names and strings; names
 /// and strings with two meanings; no start symbol; the token `error` in a rule; a `%prec` whose name is no token and
 /// has no level; more than 512 tokens. Returns `Memory` only if memory runs out. The recursion over actuals is at most
-/// `MAX_DEPTH` deep. (Menhir manual, grammars split into files; the choice is a rule of this project.)
+/// `MAX_DEPTH` deep. (Menhir manual, grammars split into files, of which this project supports a
+/// part.)
 pub fn join(alloc: Global, modules: &[Module], prelude: bool) -> Result<Joined, JoinFault>
     requires { AreModulesReady modules.now }
     ensures joins { Joins prelude modules.now result }

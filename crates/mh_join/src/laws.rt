@@ -18,7 +18,7 @@ pub fn is_one_joined(prelude: bool, modules: &[Module], left: &Joined, right: &J
 }
 
 /// Law: if files can be joined, then the only fault that joining may report is that memory ran out.
-pub fn is_joined_or_fault(prelude: bool, modules: &[Module], joined: &Joined, fault: &JoinFault)
+pub fn joined_excludes_fault(prelude: bool, modules: &[Module], joined: &Joined, fault: &JoinFault)
     requires joined { Joins prelude modules.now (Ok joined.now) }
     requires fault { Joins prelude modules.now (Err fault.now) }
     ensures { fault.now ≡ JoinFault.Memory }

@@ -6,7 +6,7 @@ mod joining;
 mod laws;
 
 pub use joining::join;
-pub use laws::{is_joined_or_fault, is_one_fault, is_one_joined};
+pub use laws::{is_one_fault, is_one_joined, joined_excludes_fault};
 pub use mh_join_names::JoinFault;
 pub use mh_join_parts::prelude_rules;
 pub use mh_rules::{Applied, Head, Joined, JoinedAlternative, JoinedRule, Prec};

@@ -179,8 +179,8 @@ fn check_formals(alloc: Global, rules: &[Rule]) -> Result<(), JoinFault>
 fn has_first_shape(names: &SymbolTables, rule: &Rule) -> bool
     ensures { result ≡ spec.agrees spec.same_shape ((meanings_in names.now).joined rule.now.name) rule.now }
 {
-    // Every public rule of the files has a number, and the outline with this number is that of its first definition. A
-    // name without a number agrees with every definition.
+    // The outline at the number of a public rule is that of the rule's first definition. A name without a number has no
+    // first definition, so there is nothing to disagree with.
     let Some(number) = names.numbering.public.get(&rule.name) else {
         return true;
     };

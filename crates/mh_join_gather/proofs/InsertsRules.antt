@@ -85,7 +85,8 @@ InsertsRules-enum_more f a b c n xs i j x h e at p q =
     rw (take_step xs i x h e, enumerate-push n (take i xs) x, length-take_in xs i h, at, flat_map-append f (enumerate_from n (take i xs)) ((j, x) ∷ []), append-nil (f (j, x)))
     (InsertsRules-append a b c (flat_map f (enumerate_from n (take i xs))) (f (j, x)) p q)
 
--- The owner of a rule in a file has a map.
+-- If `n.own`, which has one map of private rules for each file, has a map for this file, then the owner of a rule of
+-- the file is valid: None for a public rule, the file for a private one.
 pub IsOwner-in : (n : Numbering) (b : Bool) (file : ℕ) → file < length n.own.items → IsOwner n (if b then None else Some file)
 IsOwner-in n true file h = tt
 IsOwner-in n false file h = h

@@ -1,5 +1,5 @@
--- The faults in the files of a grammar, each at its occurrence (Menhir manual, grammars split into files; the choice is
--- a rule of this project).
+-- What the names in the files of a grammar mean, and the faults in the files, each at its occurrence (Menhir manual,
+-- grammars split into files, of which this project supports a part).
 use Rattle.std.specs.Prelude.{◌≡◌, ◌==◌, ◌&&◌, ◌||◌, ◌⊎◌, ℕ, not, nat_lt, is_some, if◌then◌else◌, codes, List, [], ◌∷◌, ◌++◌, length, Option, Some, None, Bool, true, false, Result, Ok, Err}
 use Rattle.std.specs.List.{enumerate_from, list_any, flat_map, find}
 use Rattle.std.specs.Map.{lookup}
@@ -58,6 +58,7 @@ meanings p ms = record {
   numbers = numbers_of p ms;
 }
 
+-- What a reference in file k means, by these look-ups and the numbers of the formals.
 abbrev pub meant_by : Meanings → ℕ → (Text → Option ℕ) → Ref → Option Head
 meant_by w k formals r = head_by w.numbers w.aliased k formals r
 

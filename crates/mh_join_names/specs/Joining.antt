@@ -1,4 +1,4 @@
--- The joined rules of several files (Menhir manual, grammars split into files; the choice is a rule of this project).
+-- The joined rules of several files (Menhir manual, grammars split into files, of which this project supports a part).
 use Rattle.std.specs.Prelude.{◌≡◌, ◌==◌, ◌⊎◌, ℕ, if◌then◌else◌, List, [], ◌∷◌, ◌++◌, map, Option, Some, None, option_map, option_and_then, unwrap_or, Bool, false, decimal, slice_get, Result, Ok, Err}
 use Rattle.std.specs.List.{enumerate_from, flat_map}
 use Rattle.mh_grammar.specs.declared.types.Level.{Level}
@@ -69,29 +69,30 @@ abbrev pub with_file : Text → ℕ → Text
 with_file x k = x ++ 64 ∷ decimal k
 
 -- The printed name of a rule: a private rule whose name another file also defines gets the number of its file appended.
-abbrev pub printed_by : (ℕ → Text → Bool) → Text → Option ℕ → Text
-printed_by elsewhere x None = x
-printed_by elsewhere x (Some k) = if elsewhere k x then with_file x k else x
+abbrev pub printed_name : (ℕ → Text → Bool) → Text → Option ℕ → Text
+printed_name elsewhere x None = x
+printed_name elsewhere x (Some k) = if elsewhere k x then with_file x k else x
 
--- A rule that has no alternatives yet.
-abbrev pub rule_without : (ℕ → Text → Bool) → Outline → JoinedRule
-rule_without elsewhere o = record { name = printed_by elsewhere o.name o.owner; inlined = o.inlined; formals = o.formals; alternatives = [] }
+-- The rule of an outline, with its printed name and without alternatives.
+abbrev pub rule_of_outline : (ℕ → Text → Bool) → Outline → JoinedRule
+rule_of_outline elsewhere o = record { name = printed_name elsewhere o.name o.owner; inlined = o.inlined; formals = o.formals; alternatives = [] }
 
 abbrev pub without_alternatives : JoinedRule → JoinedRule
 without_alternatives r = record r { alternatives = [] }
 
-abbrev pub is_number : ℕ → Option ℕ → Bool
-is_number i None = false
-is_number i (Some n) = i == n
+-- The option holds the number i.
+abbrev pub has_number : ℕ → Option ℕ → Bool
+has_number i None = false
+has_number i (Some n) = i == n
 
 -- The alternatives that the definition d contributes to rule i.
 abbrev pub alternatives_for : Meanings → ℕ → Definition → List (Option JoinedAlternative)
-alternatives_for w i d = if is_number i (w.numbers.rule d.owner d.rule.name) then alternatives_by w d else []
+alternatives_for w i d = if has_number i (w.numbers.rule d.owner d.rule.name) then alternatives_by w d else []
 
 -- The joined rules: each has the name, the number of formals and the `%inline` of its first definition, and the
 -- alternatives of all its definitions in the order of the files and of their texts.
 pub record AreRules (w : Meanings) (elsewhere : ℕ → Text → Bool) (outlines : List Outline) (ds : List Definition) (rs : List JoinedRule) : Type 0 where
-  pub outlines_are : map without_alternatives rs ≡ map (rule_without elsewhere) outlines
+  pub outlines_are : map without_alternatives rs ≡ map (rule_of_outline elsewhere) outlines
   pub alternatives_are : (i : ℕ) (r : JoinedRule) → slice_get rs i ≡ Some r → map Some r.alternatives ≡ flat_map (alternatives_for w i) ds
 
 -- JOINED FILES

@@ -1,6 +1,6 @@
--- The meanings of names and strings in the files of a grammar. The files are numbered from 1. The prelude is file 0;
--- its rules come after those of the files (Menhir manual, grammars split into files; the choice is a rule of this
--- project).
+-- The names and strings in the files of a grammar, and the number of each. The files are numbered from 1. The prelude
+-- is file 0; its rules come after those of the files (Menhir manual, grammars split into files, of which this project
+-- supports a part).
 use Rattle.std.specs.Prelude.{◌+◌, ◌==◌, ◌&&◌, ◌||◌, ℕ, not, if◌then◌else◌, List, [], ◌∷◌, ◌++◌, length, map, Option, Some, None, option_map, option_and_then, Bool, true, false, fold, position}
 use Rattle.std.specs.List.{enumerate_from, list_any, flat_map}
 use Rattle.std.specs.Map.{lookup}

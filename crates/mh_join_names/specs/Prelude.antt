@@ -1,5 +1,5 @@
 -- The prelude, which is the rules of Menhir's standard library, as the value of its text (Menhir manual, standard
--- library; the choice is a rule of this project).
+-- library, of which this project supports a part).
 use Rattle.std.specs.Prelude.{ℕ, codes, List, [], ◌∷◌, ◌++◌, map, None, Bool, true, false}
 use Prim.Native.String.{String}
 use Rattle.mh_rules.specs.declared.modules.Ref.TheVariants.{Plain}

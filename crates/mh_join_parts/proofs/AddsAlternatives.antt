@@ -15,7 +15,7 @@ use Rattle.mh_join_names.specs.declared.outlines.Outline.{Outline}
 use Rattle.mh_grammar.specs.Text.{Text}
 use Rattle.mh_join_names.specs.Names.{Definition, definitions_from}
 use Rattle.mh_join_names.specs.Faults.{Meanings}
-use Rattle.mh_join_names.specs.Joining.{alternatives_by, alternatives_for, is_number, rule_without, without_alternatives, AreRules}
+use Rattle.mh_join_names.specs.Joining.{alternatives_by, alternatives_for, has_number, rule_of_outline, without_alternatives, AreRules}
 use Rattle.mh_join_parts.specs.code.CanJoin.{AddsAlternatives}
 use Rattle.mh_join_names.proofs.Lists.{enumerate-push, length-take_in}
 
@@ -48,8 +48,8 @@ module _ (w : Meanings) where
         ∙ ap (λ k. map Some s.alternatives ++ k) (sym (flat_map-append (alternatives_for w i) ds es));
   }
 
-  -- A definition whose rule is not in the list changes nothing.
-  pub AddsAlternatives-none : (d : Definition) (rs : List JoinedRule) → ((i : ℕ) → i < length rs → is_number i (w.numbers.rule d.owner d.rule.name) ≡ false) → AddsAlternatives w (d ∷ []) rs rs
+  -- A definition whose rule is not in the list adds no alternative.
+  pub AddsAlternatives-none : (d : Definition) (rs : List JoinedRule) → ((i : ℕ) → i < length rs → has_number i (w.numbers.rule d.owner d.rule.name) ≡ false) → AddsAlternatives w (d ∷ []) rs rs
   AddsAlternatives-none d rs none = record {
     outlines = refl;
     alternatives = λ i s r p q.
@@ -57,11 +57,13 @@ module _ (w : Meanings) where
         ∙ ap (λ b. map Some s.alternatives ++ ((if b then alternatives_by w d else []) ++ [])) (sym (none i (slice_get_within rs i s p)));
   }
 
-  pub none_without : (d : Definition) (rs : List JoinedRule) → w.numbers.rule d.owner d.rule.name ≡ None → AddsAlternatives w (d ∷ []) rs rs
-  none_without d rs e = AddsAlternatives-none d rs (λ i h. ap (is_number i) e)
+  -- A definition whose rule has no number adds no alternative.
+  pub AddsAlternatives-unnumbered : (d : Definition) (rs : List JoinedRule) → w.numbers.rule d.owner d.rule.name ≡ None → AddsAlternatives w (d ∷ []) rs rs
+  AddsAlternatives-unnumbered d rs e = AddsAlternatives-none d rs (λ i h. ap (has_number i) e)
 
-  pub none_past : (d : Definition) (rs : List JoinedRule) (n : ℕ) → w.numbers.rule d.owner d.rule.name ≡ Some n → length rs ≤ n → AddsAlternatives w (d ∷ []) rs rs
-  none_past d rs n e past = AddsAlternatives-none d rs (λ i h. ap (is_number i) e ∙ eqb_apart i n (λ same. omega (arith, same, h, past)))
+  -- A definition whose rule has a number past the end of the list adds no alternative.
+  pub AddsAlternatives-out_of_range : (d : Definition) (rs : List JoinedRule) (n : ℕ) → w.numbers.rule d.owner d.rule.name ≡ Some n → length rs ≤ n → AddsAlternatives w (d ∷ []) rs rs
+  AddsAlternatives-out_of_range d rs n e past = AddsAlternatives-none d rs (λ i h. ap (has_number i) e ∙ eqb_apart i n (λ same. omega (arith, same, h, past)))
 
   pub AddsAlternatives-at : (d : Definition) (old new : List JoinedRule) (n : ℕ) (s : JoinedRule) (more : List JoinedAlternative) → w.numbers.rule d.owner d.rule.name ≡ Some n → n < length old → s ≡ get_or old n s
       → map Some more ≡ map Some s.alternatives ++ alternatives_by w d → new ≡ set old n (record s { alternatives = more }) → AddsAlternatives w (d ∷ []) old new
@@ -73,11 +75,11 @@ module _ (w : Meanings) where
           let t_is : s ≡ t = same_Some _ _ (ap Some at ∙ sym (slice_get-get_or old n s within) ∙ ap (slice_get old) (sym e) ∙ p) in
           ap (λ (k : JoinedRule). map Some k.alternatives) (sym r_is) ∙ added ∙ ap (λ (k : JoinedRule). map Some k.alternatives ++ alternatives_by w d) t_is
           ∙ ap (λ k. map Some t.alternatives ++ k) (sym (append-nil (alternatives_by w d)))
-          ∙ ap (λ b. map Some t.alternatives ++ ((if b then alternatives_by w d else []) ++ [])) (sym (ap (is_number i) number ∙ ap (λ k. k == n) e ∙ eqb_self n))
+          ∙ ap (λ b. map Some t.alternatives ++ ((if b then alternatives_by w d else []) ++ [])) (sym (ap (has_number i) number ∙ ap (λ k. k == n) e ∙ eqb_self n))
       | inr apart ↦
           let r_is : t ≡ r = same_Some _ _ (sym p ∙ sym (set_elsewhere old n (record s { alternatives = more }) i apart) ∙ ap (λ k. slice_get k i) (sym put) ∙ q) in
           ap (λ (k : JoinedRule). map Some k.alternatives) (sym r_is) ∙ sym (append-nil (map Some t.alternatives))
-          ∙ ap (λ b. map Some t.alternatives ++ ((if b then alternatives_by w d else []) ++ [])) (sym (ap (is_number i) number ∙ eqb_apart i n apart))
+          ∙ ap (λ b. map Some t.alternatives ++ ((if b then alternatives_by w d else []) ++ [])) (sym (ap (has_number i) number ∙ eqb_apart i n apart))
     ];
   }
     where
@@ -131,16 +133,16 @@ AddsAlternatives-enum_more w f a b c n xs i j x h e at p q =
 
 -- RULES
 
-bare : (elsewhere : ℕ → Text → Bool) (os : List Outline) → map without_alternatives (map (rule_without elsewhere) os) ≡ map (rule_without elsewhere) os
+bare : (elsewhere : ℕ → Text → Bool) (os : List Outline) → map without_alternatives (map (rule_of_outline elsewhere) os) ≡ map (rule_of_outline elsewhere) os
 bare elsewhere [] = refl
-bare elsewhere (o ∷ os) = ap (λ rs. rule_without elsewhere o ∷ rs) (bare elsewhere os)
+bare elsewhere (o ∷ os) = ap (λ rs. rule_of_outline elsewhere o ∷ rs) (bare elsewhere os)
 
-no_alternatives : (elsewhere : ℕ → Text → Bool) (os : List Outline) (i : ℕ) (s : JoinedRule) → slice_get (map (rule_without elsewhere) os) i ≡ Some s → s.alternatives ≡ []
+no_alternatives : (elsewhere : ℕ → Text → Bool) (os : List Outline) (i : ℕ) (s : JoinedRule) → slice_get (map (rule_of_outline elsewhere) os) i ≡ Some s → s.alternatives ≡ []
 no_alternatives elsewhere [] i s e = let bad : None ≡ Some s = e in cc
 no_alternatives elsewhere (o ∷ os) zero s e = ap (λ (k : JoinedRule). k.alternatives) (sym (same_Some _ _ e))
 no_alternatives elsewhere (o ∷ os) (suc i) s e = no_alternatives elsewhere os i s e
 
-pub AreRules-from : (w : Meanings) (elsewhere : ℕ → Text → Bool) (os : List Outline) (ds : List Definition) (start rs : List JoinedRule) → start ≡ map (rule_without elsewhere) os → AddsAlternatives w ds start rs → AreRules w elsewhere os ds rs
+pub AreRules-from : (w : Meanings) (elsewhere : ℕ → Text → Bool) (os : List Outline) (ds : List Definition) (start rs : List JoinedRule) → start ≡ map (rule_of_outline elsewhere) os → AddsAlternatives w ds start rs → AreRules w elsewhere os ds rs
 AreRules-from w elsewhere os ds start rs is adds = record {
   outlines_are = adds.outlines ∙ ap (map without_alternatives) is ∙ bare elsewhere os;
   alternatives_are = λ i r at.

@@ -6,7 +6,7 @@ ghost use Rattle.std.specs.HashSet.{contains};
 ghost use Rattle.mh_grammar.specs.Text.{Text};
 ghost use Rattle.mh_join_names.specs.Names.{same, marks_public, files, formal_number, definitions_from, definitions_in};
 ghost use Rattle.mh_join_names.specs.Faults.{meant_by, undefined_in_actual, undefined_in_on_error, undefined_start};
-ghost use Rattle.mh_join_names.specs.Joining.{resolved, all_resolved, prec_by, alternative_by, token_info, on_error_in, rule_without, AreRules};
+ghost use Rattle.mh_join_names.specs.Joining.{resolved, all_resolved, prec_by, alternative_by, token_info, on_error_in, rule_of_outline, AreRules};
 ghost use Rattle.mh_join_names.specs.code.SymbolTables.{meanings_in, elsewhere_in, formals_in};
 ghost use Rattle.mh_join_parts.specs.code.CanJoin.{unresolved, unresolved_in_rule, unresolved_in_rules, unresolved_in_file, unresolved_on_error, definitions_by, AddsAlternatives};
 ghost use Rattle.mh_rules.specs.Limits.{max_tokens};
@@ -36,6 +36,13 @@ struct Definition<'a> {
     owner: Option<u64>,
     place: u64,
     rule: &'a Rule,
+}
+
+/// An empty list with memory for this number of actuals.
+fn room_for(alloc: Global, count: usize) -> Result<Sequence<Applied>, Memory>
+    ensures { IfOk result (λ room. room ≡ []) }
+{
+    Ok(Sequence::from_vec(Vec::with_capacity(alloc, count)?))
 }
 
 /// The actual with its names resolved.
@@ -71,7 +78,7 @@ fn joined_actuals(
     ensures { IfOk result (λ ks. map Some ks
         ≡ map (resolved (meant_by (meanings_in scope.now.names.now) scope.now.file (formals_in scope.now.formals.now))) actuals.now) }
 {
-    let mut joined = Sequence::new(alloc);
+    let mut joined = room_for(alloc, actuals.len())?;
     for actual in actuals {
         joined.push(joined_actual(alloc, scope, actual)?)?;
     }
@@ -420,7 +427,7 @@ fn put_outlines(
 ) -> Result<(), Memory>
     requires { rules.old.items ≡ [] }
     ensures { OnOk result
-        (rules.new.items ≡ map (rule_without (elsewhere_in names.now)) names.now.numbering.rules.items) }
+        (rules.new.items ≡ map (rule_of_outline (elsewhere_in names.now)) names.now.numbering.rules.items) }
 {
     for outline in names.numbering.rules.iter() {
         rules.push(JoinedRule {
@@ -436,7 +443,7 @@ fn put_outlines(
 /// The rules without their alternatives.
 fn rules_without(alloc: Global, names: &SymbolTables) -> Result<Vec<JoinedRule>, Memory>
     ensures { IfOk result (λ rules.
-        rules.items ≡ map (rule_without (elsewhere_in names.now)) names.now.numbering.rules.items) }
+        rules.items ≡ map (rule_of_outline (elsewhere_in names.now)) names.now.numbering.rules.items) }
 {
     let mut rules = Vec::new(alloc);
     match put_outlines(alloc, names, &mut rules) {

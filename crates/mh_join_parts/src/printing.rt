@@ -1,7 +1,7 @@
 //! The printed names of rules.
 ghost use Rattle.std.specs.Prelude.{◌≡◌, IfOk};
 ghost use Rattle.mh_join_names.specs.Joining as spec;
-ghost use Rattle.mh_join_names.specs.Joining.{printed_by};
+ghost use Rattle.mh_join_names.specs.Joining.{printed_name};
 ghost use Rattle.mh_join_names.specs.code.SymbolTables.{elsewhere_in};
 
 use mh_grammar::{Memory, Name, from_bytes};
@@ -25,7 +25,7 @@ pub(crate) fn printed(
     names: &SymbolTables,
     outline: &Outline,
 ) -> Result<Name, Memory>
-    ensures { IfOk result (λ n. n ≡ printed_by (elsewhere_in names.now) outline.now.name outline.now.owner) }
+    ensures { IfOk result (λ n. n ≡ printed_name (elsewhere_in names.now) outline.now.name outline.now.owner) }
 {
     if let Some(file) = outline.owner {
         if names.is_elsewhere(file, &outline.name) {

@@ -388,7 +388,7 @@ close_some e behind = each_end (λ e. nat_lt 0 (closer_length e (close_of e ++ b
 not_closed : (e : Delimiter) (s : List ℕ) → nat_lt 0 (closer_length e s) ≡ false → (behind : List ℕ) → s ≡ close_of e ++ behind → ⊥
 not_closed e s k behind q = both_ways (nat_lt 0 (closer_length e s)) k (subst (λ t. nat_lt 0 (closer_length e t) ≡ true) (sym q) (close_some e behind))
 
--- Lemmas on steps that pass over items.
+-- Lemmas on steps that pass over an item: a string, a character literal, a word or a quoted string.
 string_item : (s : List ℕ) (m : ℕ) → has s 0 34 ≡ true → string_rest false (drop 1 s) ≡ Some m → CodeItem (take (m + 1) s) (drop (m + 1) s)
 string_item [] m h e = absurd (cc)
 string_item (a ∷ bs) m h e =

@@ -33,7 +33,8 @@ use Rattle.mh_lex.proofs.SpansCode.{bytes_of_rest}
 use Rattle.mh_lex.proofs.CodeItems.{AreBytes, Reading, nest_of, close_of, has_items, differ, positive_test, literal_is, opening_is, closes_split, closes_here, drop_opening, quoted_id_is, reading_of, Reading as readings}
 use Rattle.mh_lex_bytes.proofs.ByteTests.{second_branch, third_branch, fourth_branch}
 
--- Lemmas on the step of the lexer where an item begins.
+-- Lemmas on a step of the lexer inside code where an item begins: a string, a character literal, a word or a quoted
+-- string.
 
 -- A byte that closes nothing and begins no comment.
 module _ (a : ℕ) (s : List ℕ) (star : (a == 42) ≡ false) (brace : (a == 125) ≡ false) (bracket : (a == 93) ≡ false) (percent_sign : (a == 37) ≡ false) (open_bracket : (a == 40) ≡ false) where
@@ -101,7 +102,7 @@ literal_none s h = rw h refl
 no_literal : (s : List ℕ) → has s 0 39 ≡ false → nat_lt 0 (literal s) ≡ false
 no_literal s h = ap (λ n. nat_lt 0 n) (literal_none s h)
 
--- Lemmas on steps at items.
+-- Lemmas: a step where an item begins passes over the whole item.
 string_step : (e : Delimiter) (s r : List ℕ) → has_items e ≡ true → StringContent s → step e (34 ∷ (s ++ 34 ∷ []) ++ r) ≡ Passes (length (34 ∷ s ++ 34 ∷ []))
 unfolding step_over_one
 string_step e s r h c =
@@ -160,14 +161,15 @@ item_step e t r h (word {b = b} {bs = bs} k all ends) are = word_step e b bs r h
 item_step e t r h (quoted id text ids u) are =
     ap (λ k. step e (123 ∷ k)) (append_assoc id (124 ∷ text) r) ∙ quoted_step e id text r h ids u
 
--- Bytes that begin with an item have an item start.
+-- If the bytes begin with an item, they satisfy `StartsItem`.
 item_starts : (t r : List ℕ) → CodeItem t r → StartsItem (t ++ r)
 item_starts t r (string s c) = starts.string
 item_starts t r (character c) = starts.character t r c
 item_starts t r (word k all ends) = starts.word k
 item_starts t r (quoted id text ids u) = subst (λ k. StartsItem (123 ∷ k)) (sym (append_assoc id (124 ∷ text) r)) (starts.quoted id (text ++ r) ids)
 
--- Lemmas on the step of the lexer where no item begins.
+-- Lemmas on the other steps of the lexer inside code: over a single byte, into a level, over the closing delimiter, and
+-- into a comment.
 
 no_item : (s : List ℕ) (n : ℕ) → (StartsItem s → ⊥) → CodeItem (take n s) (drop n s) → ⊥
 no_item s n lone i = lone (subst StartsItem (take-append-drop n s) (item_starts (take n s) (drop n s) i))
@@ -212,7 +214,7 @@ comment_step Bracket s h = refl
 comment_step Header s h = refl
 comment_step Angle s h = refl
 
--- Code by `Code` is code by `Body`.
+-- Text that is code by the definition `Code` is also code by `Body`, the definition by the steps of the lexer.
 body_of : {nest : Option ℕ} {close text rest : List ℕ} → Code nest close text rest → (e : Delimiter) → has_items e ≡ true → nest ≡ nest_of e → close ≡ close_of e → AreBytes (text ++ rest) → Body e (text ++ rest) rest
 body_of {text = text} {rest = rest} (code.closes q) e h n c are =
     let same = q ∙ c in

@@ -51,7 +51,8 @@ LexesFrom-unique (fault d h) (ended e) = absurd (d e)
 LexesFrom-unique (fault d h) (taken {rest = r} {what = v} t l q) = absurd (h v r t)
 LexesFrom-unique (fault d h) (fault e k) = (refl, refl)
 
--- The invariant of `lex`: the lexemes so far, followed by those of the bytes from `at` on, are those of the file.
+-- The invariant of `lex`: the lexemes so far, followed by those of the bytes from `at` on, are those of the file. At
+-- most `left` separators `%%` are still to come; at the start of the file these are 2.
 pub record LexedSoFar (bytes : List ℕ) (at left : ℕ) (lexemes : List Lexeme) : Type 0 where
   pub goes_on : (ls : List Lexeme) (f : Option ℕ) → LexesFrom (length bytes) left (drop at bytes) ls f → LexesFrom (length bytes) 2 bytes (lexemes ++ ls) f
 
@@ -101,9 +102,10 @@ finds_short bytes at n what e = short (sym e) (sym (drop-drop n at bytes))
 pub finds_long : (bytes : List ℕ) (at n m : ℕ) (what : Option Kind) (code : Delimiter) → Long what code n ≡ lexeme_start (drop at bytes) → Body code (drop (at + n) bytes) (drop m (drop (at + n) bytes)) → Scanned (drop at bytes) what (drop (at + n + m) bytes)
 finds_long bytes at n m what code e b = long (sym e) (subst (λ k. Body code k (drop (at + n + m) bytes)) (sym (drop-drop n at bytes)) (subst (λ k. Body code (drop (at + n) bytes) k) (drop-drop m (at + n) bytes) b))
 
-pub finds_open : (bytes : List ℕ) (at n : ℕ) (what : Option Kind) (code : Delimiter) → Long what code n ≡ lexeme_start (drop at bytes) → ((after : List ℕ) → Body code (drop (at + n) bytes) after → ⊥) →
+-- If the code after an opening is not closed, no lexeme, blank or comment begins here.
+pub finds_unclosed : (bytes : List ℕ) (at n : ℕ) (what : Option Kind) (code : Delimiter) → Long what code n ≡ lexeme_start (drop at bytes) → ((after : List ℕ) → Body code (drop (at + n) bytes) after → ⊥) →
     (lexeme_start (drop at bytes) ≢ Ended) × ((other : Option Kind) (rest : List ℕ) → Scanned (drop at bytes) other rest → ⊥)
-finds_open bytes at n what code e h = (λ d. cc, λ other rest t. h rest (subst (λ k. Body code k rest) (drop-drop n at bytes) (Scanned-long (sym e) t).1))
+finds_unclosed bytes at n what code e h = (λ d. cc, λ other rest t. h rest (subst (λ k. Body code k rest) (drop-drop n at bytes) (Scanned-long (sym e) t).1))
 
 pub finds_fault : (bytes : List ℕ) (at : ℕ) → Fault ≡ lexeme_start (drop at bytes) →
     (lexeme_start (drop at bytes) ≢ Ended) × ((other : Option Kind) (rest : List ℕ) → Scanned (drop at bytes) other rest → ⊥)

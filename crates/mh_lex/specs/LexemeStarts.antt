@@ -1,5 +1,5 @@
--- The lexeme, comment or blank with which bytes outside of code begin (Menhir manual, syntax of grammars; the choice is
--- a rule of this project).
+-- The lexeme, comment or blank with which bytes outside of code begin (Menhir manual, syntax of grammars, of which this
+-- project supports a part).
 use Rattle.std.specs.Prelude.{ℕ, ◌+◌, ◌==◌, ◌&&◌, false, cond, List, [], ◌∷◌, Option, Some, None, drop, take}
 use Rattle.mh_lex.specs.declared.code.Delimiter.TheVariants as ends
 use Rattle.mh_lex.specs.declared.kinds.Kind.TheVariants as kinds

@@ -37,7 +37,7 @@ abbrev pub laid_out_lexemes : ℕ → List (Kind × List ℕ) → List Lexeme
 laid_out_lexemes at [] = []
 laid_out_lexemes at (t ∷ ts) = record { kind = t.0; start = at; end = at + length t.1 } ∷ laid_out_lexemes (at + length t.1 + 1) ts
 
--- The number of `%%` among the texts.
+-- 1 for the kind of `%%`, else 0.
 abbrev pub percents_in : Kind → ℕ
 percents_in kinds.Percents = 1
 percents_in kinds.Word = 0
@@ -49,6 +49,7 @@ percents_in kinds.Action = 0
 percents_in kinds.TypeText = 0
 percents_in kinds.Attribute = 0
 
+-- The number of `%%` among the texts.
 abbrev pub count_of_percents : List (Kind × List ℕ) → ℕ
 count_of_percents [] = 0
 count_of_percents (t ∷ ts) = percents_in t.0 + count_of_percents ts

@@ -1,5 +1,7 @@
--- Bytes and their lexemes (Menhir manual, syntax of grammars; the choice is a rule of this project).
+-- Bytes and their lexemes (Menhir manual, syntax of grammars, of which this project supports a part).
 use Rattle.std.specs.Prelude.{◌≡◌, ◌≢◌, ℕ, suc, ◌-◌, ◌<◌, ◌≤◌, List, [], ◌∷◌, ◌++◌, length, Option, Some, None, drop, Result, Ok, Err}
+use Rattle.mh_lex.specs.declared.kinds.PlacedFault.{PlacedFault}
+use Rattle.mh_lex.specs.declared.kinds.PlacedFault.TheVariants as placed
 use Rattle.mh_lex.specs.declared.kinds.SyntaxFault.{SyntaxFault}
 use Rattle.mh_lex.specs.declared.kinds.SyntaxFault.TheVariants.{Syntax, Memory}
 use Rattle.mh_lex.specs.declared.code.Delimiter.{Delimiter}
@@ -26,7 +28,8 @@ lexeme_between (Some k) start end = record { kind = k; start = start; end = end 
 abbrev pub lexeme_between_rests : ℕ → List ℕ → Option Kind → List ℕ → List Lexeme
 lexeme_between_rests total bytes what rest = lexeme_between what (total - length bytes) (total - length rest)
 
--- The number of `%%` that are still to come, of two.
+-- The number of `%%` that are still to come after a piece, where `suc left` is the number before the piece: a `%%` is
+-- one of them, and no other piece changes the number.
 abbrev pub percents_left : Option Kind → ℕ → ℕ
 percents_left None left = suc left
 percents_left (Some kinds.Percents) left = left
@@ -67,3 +70,14 @@ abbrev pub ReportsLexicalLine : {X : Type 0} → List ℕ → Result X SyntaxFau
 ReportsLexicalLine bytes (Ok x) = Unit {0}
 ReportsLexicalLine bytes (Err Memory) = Unit {0}
 ReportsLexicalLine bytes (Err (Syntax line)) = (ls : List Lexeme) × (place : ℕ) × Lexes bytes ls (Some place) × (line ≡ line_at bytes place)
+
+-- If the result is a syntax fault, its position is that of the first lexical fault.
+abbrev pub ReportsLexicalPlace : {X : Type 0} → List ℕ → Result X PlacedFault → Type 0
+ReportsLexicalPlace bytes (Ok x) = Unit {0}
+ReportsLexicalPlace bytes (Err placed.Memory) = Unit {0}
+ReportsLexicalPlace bytes (Err (placed.Syntax place)) = (ls : List Lexeme) × Lexes bytes ls (Some place)
+
+-- If the fault has a position, the position is at most n, the number of the bytes.
+abbrev pub IsPlaceWithin : ℕ → PlacedFault → Type 0
+IsPlaceWithin n (placed.Syntax place) = place ≤ n
+IsPlaceWithin n placed.Memory = Unit {0}

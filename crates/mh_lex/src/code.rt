@@ -88,7 +88,7 @@ fn begins_word(rest: &[u8]) -> bool
     }
 }
 
-/// The step over a quoted string with this opening.
+/// The step over an OCaml quoted string `{id|...|id}`, whose opening `{id|` has this length.
 fn quoted_step(opening: usize, rest: &[u8]) -> CodeStep
     requires { (2 ≤ opening) × (opening ≤ length rest.now) }
     ensures value { result ≡ step_past opening (quoted_rest (quoted_id opening rest.now) (drop opening rest.now)) }
@@ -100,8 +100,8 @@ fn quoted_step(opening: usize, rest: &[u8]) -> CodeStep
     }
 }
 
-/// The step over the first that the bytes begin with of a string, a character literal, a word, a quoted string and a
-/// single byte.
+/// The step over what the bytes begin with. The first of these that applies is taken: a string, a character literal, a
+/// word, a quoted string, a single byte.
 #[tactic(auto, unfolding(crate::specs::CodeSteps::step_over_one))]
 fn item_at(ends: Delimiter, rest: &[u8]) -> CodeStep
     ensures value { result ≡ step_over_one ends rest.now }

@@ -56,6 +56,15 @@ impl From<AllocError> for SyntaxFault {
     }
 }
 
+/// Why bytes could not be read, with the position of the fault.
+#[derive(Clone, Copy, Drop, PartialEq, Eq)]
+pub enum PlacedFault {
+    /// The bytes have a syntax error at this position, from 0; each call documents which position it reports.
+    Syntax { place: usize },
+    /// There was no memory.
+    Memory,
+}
+
 /// The piece with which bytes outside of code begin, and its length. A start without a kind is a blank or a comment,
 /// which is dropped.
 #[derive(Clone, Copy, Drop)]

@@ -13,13 +13,13 @@ pub fn lexed_always()
 {}
 
 /// Law: the list of lexemes is unique, and so is the first fault.
-pub fn lexed_once()
+pub fn lexemes_are_unique()
     ensures { (bytes : List ℕ) (one two : List Lexeme) (f g : Option ℕ)
         → Lexes bytes one f → Lexes bytes two g → (two ≡ one) × (g ≡ f) }
 {}
 
 /// Law: texts with a space after each are the lexemes of the file that they make, if at most one of them is `%%`.
-pub fn lexed_apart()
+pub fn spaced_texts_are_lexemes()
     ensures { (texts : List (Kind × List ℕ)) → All IsText texts → count_of_percents texts < 2
         → Lexes (laid_out texts) (laid_out_lexemes 0 texts) None }
 {}
@@ -38,7 +38,7 @@ pub fn lexed_code()
         → All (λ b. b < 256) bytes → Lexes bytes lexemes f → All (SpansCode bytes) lexemes }
 {}
 
-/// Law: bytes that begin with an opening and closed code begin with the action, header or attribute that these are.
+/// Law: an opening followed by closed code is lexed as one action, header or attribute.
 pub fn code_is_taken()
     ensures { (kind : Kind) (text rest : List ℕ)
         → All (λ b. b < 256) (text ++ rest) → HasCode kind text rest → Scanned (text ++ rest) (Some kind) rest }

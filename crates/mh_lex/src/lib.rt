@@ -8,7 +8,10 @@ mod laws;
 mod lexeme_starts;
 mod scanning;
 
-pub use kinds::{Kind, Lexeme, SyntaxFault};
-pub use laws::{code_is_taken, lexed_always, lexed_apart, lexed_code, lexed_once, lexed_texts};
+pub use kinds::{Kind, Lexeme, PlacedFault, SyntaxFault};
+pub use laws::{
+    code_is_taken, lexed_always, lexed_code, lexed_texts, lexemes_are_unique,
+    spaced_texts_are_lexemes,
+};
 pub use mh_lex_bytes::{Keyword, is_word, keyword_of, keywords_differ, line_of};
-pub use scanning::lex;
+pub use scanning::{lex, lex_placed};

@@ -1,13 +1,13 @@
 //! The loop that finds the lexemes of a file.
-ghost use Rattle.std.specs.Prelude.{◌≡◌, ℕ, List, ◌-◌, ◌<◌, ◌≤◌, ◌^◌, length, drop, IfSome, IfNone, IfOk, OnOk, Option, None, ◌++◌};
+ghost use Rattle.std.specs.Prelude.{◌≡◌, ℕ, List, ◌-◌, ◌<◌, ◌≤◌, ◌^◌, length, drop, IfSome, IfNone, IfErr, IfOk, OnOk, Option, None, ◌++◌};
 ghost use Rattle.std.specs.List.{All};
 ghost use Rattle.mh_lex.specs.declared.kinds.Lexeme.{Lexeme};
 ghost use Rattle.mh_lex.specs.Bodies.{Body};
-ghost use Rattle.mh_lex.specs.Lexing.{Lexes, AreLexemesInOrder, IsLexemeWithin, percents_left, lexeme_between, ReportsLexicalLine};
+ghost use Rattle.mh_lex.specs.Lexing.{Lexes, AreLexemesInOrder, IsLexemeWithin, percents_left, lexeme_between, IsPlaceWithin, ReportsLexicalLine, ReportsLexicalPlace};
 ghost use Rattle.mh_lex.specs.code.Scans.{IsScan};
 
 use crate::code::{Delimiter, code_length};
-use crate::kinds::{Kind, Lexeme, LexemeStart, Scan, SyntaxFault};
+use crate::kinds::{Kind, Lexeme, LexemeStart, PlacedFault, Scan, SyntaxFault};
 use crate::lexeme_starts::front_from;
 use mh_lex_bytes::line_of;
 use std::alloc::{AllocError, Global};
@@ -61,14 +61,15 @@ fn add(
 ///
 /// # Errors
 ///
-/// `Syntax` with the line, from 1, on which the first text begins that is not a lexeme or comment, or is not closed
-/// (Menhir manual, lexical conventions; the choice is a rule of this project). `Memory` if memory ran out.
-pub fn lex(alloc: Global, bytes: &[u8]) -> Result<Vec<Lexeme>, SyntaxFault>
+/// `Syntax` with the position at which the first text begins that is not a lexeme or comment, or is not closed (Menhir
+/// manual, lexical conventions, of which this project supports a part). `Memory` if memory ran out.
+pub fn lex_placed(alloc: Global, bytes: &[u8]) -> Result<Vec<Lexeme>, PlacedFault>
     requires { length bytes.now < 2 ^ 31 }
     ensures lexemes { IfOk result (λ v. Lexes bytes.now v.items None) }
     ensures spans { IfOk result (λ v. AreLexemesInOrder 0 (length bytes.now) v.items) }
     ensures within { IfOk result (λ v. All (IsLexemeWithin (length bytes.now)) v.items) }
-    ensures fault { ReportsLexicalLine bytes.now result }
+    ensures fault { ReportsLexicalPlace bytes.now result }
+    ensures bound { IfErr result (IsPlaceWithin (length bytes.now)) }
 {
     let mut lexemes = Vec::new(alloc);
     let mut at = 0usize;
@@ -78,17 +79,36 @@ pub fn lex(alloc: Global, bytes: &[u8]) -> Result<Vec<Lexeme>, SyntaxFault>
             Scan::Ended => return Ok(lexemes),
             Scan::Piece(what, end) => {
                 let Ok(()) = add(&mut lexemes, what, at, end) else {
-                    return Err(SyntaxFault::Memory);
+                    return Err(PlacedFault::Memory);
                 };
                 left = still_left(what, left);
                 at = end;
             }
-            Scan::Fault => return Err(SyntaxFault::Syntax {
-                line: line_of(bytes, at),
-            }),
+            Scan::Fault => return Err(PlacedFault::Syntax { place: at }),
         }
     }
     Ok(lexemes)
+}
+
+/// Returns the lexemes of a grammar file, as `lex_placed` does.
+///
+/// # Errors
+///
+/// `Syntax` with the line, from 1, of the position of the fault. `Memory` if memory ran out.
+pub fn lex(alloc: Global, bytes: &[u8]) -> Result<Vec<Lexeme>, SyntaxFault>
+    requires { length bytes.now < 2 ^ 31 }
+    ensures lexemes { IfOk result (λ v. Lexes bytes.now v.items None) }
+    ensures spans { IfOk result (λ v. AreLexemesInOrder 0 (length bytes.now) v.items) }
+    ensures within { IfOk result (λ v. All (IsLexemeWithin (length bytes.now)) v.items) }
+    ensures fault { ReportsLexicalLine bytes.now result }
+{
+    match lex_placed(alloc, bytes) {
+        Ok(lexemes) => Ok(lexemes),
+        Err(PlacedFault::Syntax { place }) => Err(SyntaxFault::Syntax {
+            line: line_of(bytes, place),
+        }),
+        Err(PlacedFault::Memory) => Err(SyntaxFault::Memory),
+    }
 }
 
 /// The number of `%%` that are still to come, of two.

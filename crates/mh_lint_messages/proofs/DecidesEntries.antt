@@ -1,4 +1,5 @@
--- Lemmas for the loops that decide on the lines and the entries of a file in order.
+-- Lemmas for the loops over the lines and the entries of a file, which decide in order whether each sentence line is
+-- kept or dropped.
 use Rattle.std.proofs.Common.{◌≡◌, ◌<◌, ◌+◌, ℕ, List, [], ◌∷◌, ◌++◌, length, map, take, get_or, Option, refl, sym, ◌∙◌, ap, subst, append_assoc, append-nil}
 use Rattle.std.proofs.lemmas.List.{map-append}
 use Rattle.std.proofs.lemmas.Grind.{flat_map-append}
@@ -34,7 +35,7 @@ module _ (g : Grammar) (t : TableData) where
   decided_append before (j ∷ js) ks p q = (p.0, decided_append (before ++ j ∷ []) js ks p.1 (subst (λ (l : List DecidedLine). AreLineDecisions g t l ks) (sym (append_assoc before (j ∷ []) js)) q))
 
   module _ (name : Text) where
-    -- ---- Lines.
+    -- ---- Deciding on one line after the other decides on all lines.
 
     pub lines_none : (p : Findings) → DecidesLines g t name [] 0 p p
     lines_none p = record {
@@ -62,9 +63,9 @@ module _ (g : Grammar) (t : TableData) where
               (ap (λ (l : Text). decision_texts name first.done ++ l) (sym (append-nil (decision_text name line.line next.decision))) ∙ sym (flat_map-append (λ (j : DecidedLine). decision_text name j.line.line j.decision) first.done (one ∷ [])));
         }
 
-    -- ---- Entries.
+    -- ---- Deciding on one entry after the other decides on all entries.
 
-    -- The decision on an entry: its lines, and then its message.
+    -- If the lines of an entry are decided on, and then its message is examined, the entry is decided on.
     pub entry_added : (entry : LooseEntry) (lines : List LooseLine) (message : Text) → lines ≡ entry.sentences → message ≡ entry.message → (last : ℕ) (old middle new : Findings) → DecidesLines g t name lines last old middle → new.kept_lines.items ≡ middle.kept_lines.items
         → new.text.items ≡ middle.text.items ++ unwritten_text name last (is_unwritten message) → DecidesEntries g t name (entry ∷ []) old new
     entry_added entry lines message same text last old middle new added kept_lines written =

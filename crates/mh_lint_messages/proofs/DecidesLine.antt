@@ -13,7 +13,7 @@ use Rattle.mh_tables_core.specs.Facts.{Facts}
 use Rattle.mh_tables_core.specs.Run.{VerdictOf, Rejected}
 use Rattle.mh_tables_core.specs.Failing.{Fails}
 use Rattle.mh_tables_core.proofs.RefusalIsCut.{verdict_cut}
-use Rattle.mh_tables_core.proofs.RefusingState.{state_refused}
+use Rattle.mh_tables_core.proofs.RefusingState.{refusing_state_known}
 use Rattle.mh_run.specs.Verdicts.{ending_for}
 use Rattle.mh_run.specs.declared.outcome.Verdict.{Verdict}
 use Rattle.mh_run.specs.declared.outcome.Verdict.TheVariants as verdicts
@@ -54,7 +54,7 @@ module _ (g : Grammar) (t : TableData) (facts : Facts t) (same : t.grammar ≡ p
 
   -- A state in which a sentence fails is a state of the table.
   pub state_below : (tokens : ℕ) (kept : List (Option ℕ)) (s : ℕ) → IsStateToKeep verdict tokens kept s → s < length t.states
-  state_below tokens kept s keep = state_refused t facts x.start x.tokens keep.0 s start_known (rejected keep.0 s keep.1)
+  state_below tokens kept s keep = refusing_state_known t facts x.start x.tokens keep.0 s start_known (rejected keep.0 s keep.1)
 
   module _ (kept : List (Option ℕ)) (before : List DecidedLine) (are : AreKeptLines before kept) (text : Text) (read : sentence_in (vocabulary_of g) text ≡ IsSentence x) where
     reason_is : (reason : DropReason) → IsReasonOfVerdict verdict (length x.tokens) kept reason → IsReason (vocabulary_of g) t before text reason

@@ -1,4 +1,4 @@
--- Proves that nothing is written on a messages file exactly if the file is faultless.
+-- Proves that the text on what is wrong with a messages file is empty exactly if the file is faultless.
 use Rattle.std.proofs.Common.{◌≡◌, ◌↔◌, ℕ, Bool, true, false, List, [], ◌∷◌, ◌++◌, map, drop, filter, flat_map, Option, None, Some, refl, sym, ◌∙◌, ap, subst, inl, inr, append_assoc, append-nil}
 use Rattle.std.specs.Prelude.{is_none, option_map, codes, ⊤}
 use Rattle.std.specs.List.{AllByRecursion, Contains}
@@ -30,12 +30,12 @@ use Rattle.mh_rebase_form.specs.Decisions.{Decision, Keep, Drop, DecidedLine, is
 use Rattle.mh_rebase_form.specs.RebasedText.{DecidedEntry, without_decisions, lines_in, is_new_row, reason_text}
 use Rattle.mh_rebase.proofs.AllAreKept.{IsKeep, reason_never, rising_before, state_once}
 use Rattle.mh_rebase.proofs.CompleteIsKept.{with_states, with_states_same, with_states_fail, with_states_apart, with_states_has}
-use Rattle.mh_rebase.proofs.StatesOfSentences.{FailingSentence, OtherState, HasSentenceIn, content, failing_of_decision, failing_of_lines, has_line, line_has, sound_by, complete_by}
+use Rattle.mh_rebase.proofs.StatesOfSentences.{FailingSentence, OtherState, HasSentenceIn, content, failing_of_decision, failing_of_lines, has_line, sentence_of_kept_line, sound_by, complete_by}
 use Rattle.mh_lint_messages.specs.ErrorLines.{IsLineDecision, AreLineDecisions, place, decision_text, decision_texts, entry_text, entries_text, is_unwritten, last_line, missing_text, missing_texts, unpaired_text, unwritten_text, IsErrorText}
 use Rattle.mh_lint_messages.specs.Complete.{IsFaultless}
 use Rattle.mh_lint_messages.proofs.ErrorTextUnique.{decided_split}
 
--- ---- Empty texts.
+-- ---- Two texts together are empty exactly if both are empty.
 
 both_empty : {A : Type 0} (xs ys : List A) → xs ++ ys ≡ [] → (xs ≡ []) × (ys ≡ [])
 both_empty [] ys is = (refl, is)
@@ -49,7 +49,7 @@ unfolding place
 place_some [] line more is = cc
 place_some (x ∷ name) line more is = cc
 
--- ---- Texts on lines and messages.
+-- ---- The text on a line is empty exactly if the line is kept, and that on a message if the message is written.
 
 module _ (name : Text) where
   keep_if_empty : (line : ℕ) (d : Decision) → decision_text name line d ≡ [] → is_keep d ≡ true
@@ -76,7 +76,8 @@ module _ (name : Text) where
   empty_if_written line true is = cc
   empty_if_written line false is = refl
 
-  -- The lines of the entry are kept, and its message is written.
+  -- The lines of the entry are kept, and its message does not have the line that `--list-errors` writes in place of a
+  -- message.
   abbrev IsRightEntry : DecidedEntry → Type 0
   IsRightEntry e = AllByRecursion IsKeep e.sentences × (is_unwritten e.message ≡ false)
 
@@ -102,7 +103,7 @@ module _ (name : Text) where
   empty_if_none None is = refl
   empty_if_none (Some line) is = cc
 
--- ---- Rows.
+-- ---- The text on the missing rows is empty exactly if no row is missing.
 
 no_row : (g : Grammar) (row : CatalogueRow) (more : Text) → missing_text g row ++ more ≡ [] → ⊥
 no_row g row more is = cc
@@ -129,7 +130,7 @@ module _ (g : Grammar) (q : CatalogueRow → Bool) where
 -- ---- Sentences of the file.
 
 module _ (g : Grammar) (lines : List Text) where
-  -- The reading of the line of a number.
+  -- What the line with this number is read as.
   abbrev found_at : ℕ → LineResult
   found_at number = sentence_in (vocabulary_of g) (line_at lines number)
 
@@ -145,7 +146,8 @@ module _ (g : Grammar) (lines : List Text) where
   no_faults (number ∷ block) all =
       ap (λ l. l ++ faults_of (vocabulary_of g) lines block) (no_fault number (found_at number) all.0.0 all.0.1) ∙ no_faults block all.1
 
-  -- Of each second block each line is a sentence, and the last block has a message.
+  -- Every other block, from the first block on, has only lines that are sentences, and is followed by a block with a
+  -- message.
   abbrev AreSentenceBlocks : List (List ℕ) → Type 0
   AreSentenceBlocks [] = ⊤
   AreSentenceBlocks (block ∷ []) = ⊥
@@ -187,7 +189,7 @@ module _ (g : Grammar) (t : TableData) (lines : List Text) where
   abbrev line_of : DecidedLine → LooseLine
   line_of j = j.line
 
-  -- ---- A file with nothing written.
+  -- ---- If the text is empty, the file is faultless.
 
   kept_reads : (before : List DecidedLine) (text : Text) (d : Decision) → IsLineDecision g t before text d → is_keep d ≡ true → (x : Sentence) × (sentence_in (vocabulary_of g) text ≡ IsSentence x)
   kept_reads before text (Keep x s comments) is keep = (x, is.0)
@@ -279,7 +281,7 @@ module _ (g : Grammar) (t : TableData) (lines : List Text) where
   row_covered js rows catalogue out s failing =
       let row = catalogue.complete s failing in
       let line = some_line (kept_line js row.0.state) (out row.0 row.1) in
-      subst (HasSentenceIn (failing_of_lines js)) row.2 (line_has js row.0.state line.0 line.1)
+      subst (HasSentenceIn (failing_of_lines js)) row.2 (sentence_of_kept_line js row.0.state line.0 line.1)
 
   faultless_if_empty : (bytes name text : Text) (found : LooseBlocks) (has : HasBlocks bytes found) (is : IsErrorText g t name found text) → has.lines ≡ lines → text ≡ [] → IsFaultless g t bytes
   faultless_if_empty bytes name text found has is same empty =
@@ -304,11 +306,11 @@ module _ (g : Grammar) (t : TableData) (lines : List Text) where
       no_block None none = refl
       no_block (Some block) none = absurd (cc)
 
-  -- ---- A faultless file.
+  -- ---- If the file is faultless, the text is empty.
 
   free_line : (before : List DecidedLine) (s : ℕ) (o : Option ℕ) → kept_line before s ≡ o → ((y : FailingSentence) → Contains (failing_of_lines before) y → y.1 ≡ s → ⊥) → kept_line before s ≡ None
   free_line before s None is free = is
-  free_line before s (Some n) is free = let found = line_has before s n is in absurd (free found.0 found.1 found.2)
+  free_line before s (Some n) is free = let found = sentence_of_kept_line before s n is in absurd (free found.0 found.1 found.2)
 
   keep_by : (before : List DecidedLine) (text : Text) (d : Decision) (x : Sentence) (z : FailingSentence) → IsLineDecision g t before text d → sentence_in (vocabulary_of g) text ≡ IsSentence x → (x.start, x.tokens) ≡ content z → FailsThere z → kept_line before z.1 ≡ None
       → (is_keep d ≡ true) × (failing_of_decision d ≡ z ∷ [])

@@ -7,7 +7,7 @@ use Rattle.mh_grammar.proofs.Lists.{take_step}
 use Rattle.mh_grammar.specs.declared.types.Grammar.{Grammar}
 use Rattle.mh_grammar.specs.Text.{Text}
 use Rattle.mh_tables_core.specs.Table.{TableData}
-use Rattle.mh_tables_core.specs.Failing.{CatalogueRow as TableRow, Catalogue}
+use Rattle.mh_tables_core.specs.Failing.{CatalogueRow, Catalogue}
 use Rattle.mh_catalogue_rows.specs.Rows.{row_of, rows_of}
 use Rattle.mh_catalogue_rows.specs.declared.rows.Row.{Row}
 use Rattle.mh_msgfile.proofs.PrintedAgain.{filter_on}
@@ -21,30 +21,31 @@ use Rattle.mh_lint_messages.specs.ErrorLines.{entries_text, missing_text, missin
 use Rattle.mh_lint_messages.specs.code.Findings.{DecidesEntries}
 use Rattle.mh_lint_messages.specs.declared.lines.Findings.{Findings}
 
--- The text on the rows that are left out.
-abbrev pub left_out_texts : Grammar → List (Option ℕ) → List Row → Text
-left_out_texts g kept rows = missing_texts g (filter (has_no_kept_line kept) (rows_of rows))
+-- The text on the rows in whose states no sentence of a kept line fails.
+abbrev pub missing_row_texts : Grammar → List (Option ℕ) → List Row → Text
+missing_row_texts g kept rows = missing_texts g (filter (has_no_kept_line kept) (rows_of rows))
 
 module _ (g : Grammar) (kept : List (Option ℕ)) where
   -- A row that is written, and one that is not.
-  pub row_written : (row : Row) → kept_line_in kept row.state ≡ None → missing_text g (row_of row) ≡ left_out_texts g kept (row ∷ [])
+  pub row_written : (row : Row) → kept_line_in kept row.state ≡ None → missing_text g (row_of row) ≡ missing_row_texts g kept (row ∷ [])
   row_written row none = sym (append-nil (missing_text g (row_of row))) ∙ ap (missing_texts g) (sym (filter_on (has_no_kept_line kept) (row_of row) [] true (ap is_none none)))
 
-  pub row_kept : (row : Row) (line : ℕ) → kept_line_in kept row.state ≡ Some line → [] ≡ left_out_texts g kept (row ∷ [])
+  pub row_kept : (row : Row) (line : ℕ) → kept_line_in kept row.state ≡ Some line → [] ≡ missing_row_texts g kept (row ∷ [])
   row_kept row line some = ap (missing_texts g) (sym (filter_on (has_no_kept_line kept) (row_of row) [] false (ap is_none some)))
 
-  pub rows_more : (rows : List Row) (i : ℕ) (row : Row) (old middle new : Text) → i < length rows → row ≡ get_or rows i row → middle ≡ old ++ left_out_texts g kept (take i rows) → new ≡ middle ++ left_out_texts g kept (row ∷ [])
-      → new ≡ old ++ left_out_texts g kept (take (i + 1) rows)
+  pub rows_more : (rows : List Row) (i : ℕ) (row : Row) (old middle new : Text) → i < length rows → row ≡ get_or rows i row → middle ≡ old ++ missing_row_texts g kept (take i rows) → new ≡ middle ++ missing_row_texts g kept (row ∷ [])
+      → new ≡ old ++ missing_row_texts g kept (take (i + 1) rows)
   rows_more rows i row old middle new lt here first next =
       let q = has_no_kept_line kept in
       let split : filter q (rows_of (take i rows)) ++ filter q (rows_of (row ∷ [])) ≡ filter q (rows_of (take (i + 1) rows)) =
       sym (filter_append q (rows_of (take i rows)) (rows_of (row ∷ []))) ∙ ap (filter q) (sym (map-append row_of (take i rows) (row ∷ [])) ∙ ap rows_of (sym (take_step rows i row lt here))) in
-      next ∙ ap (λ (l : Text). l ++ left_out_texts g kept (row ∷ [])) first ∙ append_assoc old (left_out_texts g kept (take i rows)) (left_out_texts g kept (row ∷ []))
+      next ∙ ap (λ (l : Text). l ++ missing_row_texts g kept (row ∷ [])) first ∙ append_assoc old (missing_row_texts g kept (take i rows)) (missing_row_texts g kept (row ∷ []))
       ∙ ap (λ (l : Text). old ++ l) (sym (flat_map-append (missing_text g) (filter q (rows_of (take i rows))) (filter q (rows_of (row ∷ [])))) ∙ ap (missing_texts g) split)
 
--- The whole text.
+-- The lines on the entries, on the unpaired block and on the missing rows are together the text of the errors of a
+-- file.
 pub error_text : (g : Grammar) (t : TableData) (name : Text) (blocks : LooseBlocks) (rows : List Row) (old new : Findings) (first text : Text) → AreKeptLines [] old.kept_lines.items → old.text.items ≡ [] → DecidesEntries g t name blocks.file.entries old new → Catalogue t (rows_of rows)
-    → first ≡ new.text.items ++ unpaired_text name blocks.unpaired → text ≡ first ++ left_out_texts g new.kept_lines.items rows → IsErrorText g t name blocks text
+    → first ≡ new.text.items ++ unpaired_text name blocks.unpaired → text ≡ first ++ missing_row_texts g new.kept_lines.items rows → IsErrorText g t name blocks text
 error_text g t name blocks rows old new first text none start added catalogue unpaired missing =
     let js = lines_in added.done in
     let decided = added.decided [] none in
@@ -55,5 +56,5 @@ error_text g t name blocks rows old new first text none start added catalogue un
       rows = rows_of rows;
       catalogue = catalogue;
       is = missing ∙ ap₂ (λ (l m : Text). l ++ m) (unpaired ∙ ap (λ (l : Text). l ++ unpaired_text name blocks.unpaired) begun)
-          (ap (missing_texts g) (filter_same (has_no_kept_line new.kept_lines.items) (is_new_row js) (λ (row : TableRow). ap is_none (decided.1 row.state)) (rows_of rows)));
+          (ap (missing_texts g) (filter_same (has_no_kept_line new.kept_lines.items) (is_new_row js) (λ (row : CatalogueRow). ap is_none (decided.1 row.state)) (rows_of rows)));
     }

@@ -13,8 +13,8 @@ use Rattle.mh_msgfile.specs.declared.messages.MsgSentence.{MsgSentence}
 use Rattle.mh_check.specs.Checks.{FailsIn, Sound, sentences_of}
 use Rattle.mh_lint_messages.specs.ErrorLines.{is_unwritten}
 
--- The bytes spell a messages file that `compile` takes, with a sentence for each state in which some sentence fails, and
--- with a message of its own in each entry.
+-- The bytes spell a messages file that `compile` takes, with a sentence for each state in which some sentence fails. No
+-- message has the line that `--list-errors` writes in place of a message.
 pub record IsFaultless (g : Grammar) (t : TableData) (bytes : Text) : Type 0 where
   pub file : MsgFile
   pub spells : MsgSpells g bytes file

@@ -16,7 +16,8 @@ use Rattle.mh_msgfile.specs.declared.blocks.LooseBlocks.{LooseBlocks}
 use Rattle.mh_rebase_form.specs.Decisions.{Decision, Keep, Drop, DecidedLine, IsReason, kept_line}
 use Rattle.mh_rebase_form.specs.RebasedText.{DecidedEntry, without_decisions, lines_in, reason_text, is_new_row}
 
--- The beginning of each line on a line of the file: the name of the file, and the number of the line.
+-- The beginning of each line of the report that is about a line of the file: the name of the file, and the number of
+-- the line of the file.
 unfoldable pub place : Text → ℕ → Text
 place name line = name ++ (codes ":" ++ decimal line ++ codes ": ")
 

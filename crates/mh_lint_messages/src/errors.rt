@@ -21,7 +21,7 @@ use std::alloc::Global;
 /// The reason why it is not known what is wrong with a messages file.
 #[derive(Clone, Copy, PartialEq, Eq, Drop)]
 pub enum ErrorsFault {
-    /// In this state, the lowest such, only sentences fail that cost more than 1,000,000.
+    /// The lowest state in which some sentence fails, but none that costs at most 1,000,000.
     TooLong { state: u32 },
     /// Memory ran out.
     Memory,
@@ -42,8 +42,8 @@ fn write_missing_state(
     Ok(())
 }
 
-/// Appends the line on the state of a row, if no kept sentence fails in this state. For each state, `kept` has the number
-/// of the kept line whose sentence fails there.
+/// Appends the line on the state of a row, if no kept sentence fails in this state. For each state, `kept` has the
+/// number of the kept line whose sentence fails there.
 fn write_missing_row(
     alloc: Global,
     text: &mut Vec<u8>,
@@ -93,7 +93,7 @@ fn write_unpaired(
     Ok(())
 }
 
-/// Appends all lines on the blocks of a file, with the rows of the catalogue.
+/// Appends all lines on the blocks of a file. `rows` are the rows of the catalogue.
 fn write_all(
     alloc: Global,
     to: &Examined<'_>,
@@ -113,7 +113,7 @@ fn write_all(
     Ok(())
 }
 
-/// The text for the blocks of a file, with the rows of the catalogue.
+/// Makes the text for the blocks of a file. `rows` are the rows of the catalogue.
 fn lines_with(
     alloc: Global,
     to: &Examined<'_>,
@@ -133,7 +133,7 @@ fn lines_with(
     Ok(found.text)
 }
 
-/// The text for the blocks of a file, with the rows of the catalogue. Numbers the names of the grammar once for all lines.
+/// Does as `lines_with`, but first builds the map from the grammar's names to their numbers, which all lines use.
 fn lines_by(
     alloc: Global,
     grammar: &Grammar,
@@ -158,11 +158,11 @@ fn lines_by(
     lines_with(alloc, &to, blocks, rows)
 }
 
-/// Returns a line for each thing that is wrong with a messages file: for each sentence line that would be dropped if the
-/// file were rebased onto the grammar of this table, with the reason; for each message that nobody has written yet; for a
-/// last block without a message; and for each state in which some sentence fails and no kept sentence does. The text is
-/// empty exactly if nothing is wrong (`nothing_is_written`). Fails with `TooLong` exactly if sentences fail in some state,
-/// but each of them costs more than 1,000,000, and with `Memory` only if memory runs out.
+/// Returns a line for each thing that is wrong with a messages file: for each sentence line that would be dropped if
+/// the file were rebased onto the grammar of this table, with the reason; for each message that nobody has written yet;
+/// for a last block without a message; and for each state in which some sentence fails and no kept sentence does. The
+/// text is empty exactly if nothing is wrong (`nothing_is_written`). Fails with `TooLong` exactly if sentences fail in
+/// some state, but each of them costs more than 1,000,000, and with `Memory` only if memory runs out.
 pub fn error_lines(
     alloc: Global,
     grammar: &Grammar,

@@ -10,15 +10,15 @@ use mh_grammar::Grammar;
 use mh_tables_core::Halting;
 
 /// Law: the text for the blocks of a file is unique.
-pub fn written_once(grammar: &Grammar, table: &Halting)
+pub fn error_text_is_unique(grammar: &Grammar, table: &Halting)
     ensures { (name : List ℕ) (blocks : LooseBlocks) (x y : List ℕ) → IsErrorText grammar.now table.now name blocks x → IsErrorText grammar.now table.now name blocks y → x ≡ y }
 {
     let _grammar = grammar;
     let _facts = table.table();
 }
 
-/// Law: nothing is written exactly if the file is one that `compile` takes, each state in which some sentence fails has a
-/// sentence in the file, and each message is written.
+/// Law: the text is empty exactly if the file is one that `compile` takes, each state in which some sentence fails has
+/// a sentence in the file, and each message is written.
 pub fn nothing_is_written(grammar: &Grammar, table: &Halting)
     ensures { (bytes name text : List ℕ) (blocks : LooseBlocks) → HasBlocks bytes blocks → IsErrorText grammar.now table.now name blocks text → (text ≡ []) ↔ IsFaultless grammar.now table.now bytes }
 {

@@ -6,4 +6,4 @@ mod laws;
 mod lines;
 
 pub use errors::{ErrorsFault, error_lines};
-pub use laws::{nothing_is_written, written_once};
+pub use laws::{error_text_is_unique, nothing_is_written};

@@ -1,5 +1,5 @@
-//! The lines on the sentence lines and the messages of a file. Each function appends to a text, and fails only if memory
-//! runs out.
+//! Writes the report on the sentence lines and the messages of a file. Each function appends to the text of the report,
+//! and fails only if memory runs out.
 ghost use Rattle.std.specs.Prelude.{◌≡◌, ◌++◌, ◌<◌, ◌^◌, [], ◌∷◌, IfOk, OnOk, codes, length};
 ghost use Rattle.std.specs.List.{All, AllByRecursion};
 ghost use Rattle.mh_grammar.specs.Plain.{plain_of};
@@ -53,7 +53,7 @@ pub(crate) fn write_place(
     write_between(alloc, text, b":", line, b": ")
 }
 
-/// Appends the line on a sentence line that is not kept.
+/// Appends the line of the report on a sentence line that is not kept.
 fn add_reason(
     alloc: Global,
     to: &Examined<'_>,
@@ -96,7 +96,7 @@ fn add_sentence(
     }
 }
 
-/// Appends the line on a line that is no sentence of the grammar.
+/// Appends the line of the report on a line of the file that is no sentence of the grammar.
 fn add_fault(
     alloc: Global,
     to: &Examined<'_>,
@@ -162,7 +162,7 @@ fn is_unwritten(message: &[u8]) -> bool
     false
 }
 
-/// Appends the line that the message after this sentence line is not written yet.
+/// Appends the line of the report which says that the message after this sentence line is not written yet.
 fn write_note(alloc: Global, text: &mut Vec<u8>, name: &[u8], line: u32) -> Result<(), Memory>
     ensures { OnOk result (text.new.items ≡ text.old.items ++ (spec.place name.now line ++ codes "no message yet\n")) }
 {
@@ -171,7 +171,8 @@ fn write_note(alloc: Global, text: &mut Vec<u8>, name: &[u8], line: u32) -> Resu
     Ok(())
 }
 
-/// Appends the line on a message that nobody has written yet, at the last sentence line of its entry.
+/// Appends the line of the report on a message that nobody has written yet. The report gives the number of the last
+/// sentence line of the entry.
 fn write_unwritten(
     alloc: Global,
     text: &mut Vec<u8>,

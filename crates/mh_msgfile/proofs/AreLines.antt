@@ -100,8 +100,8 @@ pub are_lines : (bytes : Text) → AreLines bytes (map without_terminator (lines
 are_lines bytes =
     let found = some_lines (suc (length bytes)) bytes (omega arith) in subst (λ (l : List Text). AreLines bytes l) (lines_once bytes found.0 found.1) found.1
 
-pub split_are : (bytes : Text) (lines : List Text) → lines ≡ map without_terminator (lines_of bytes) → AreLines bytes lines
-split_are bytes lines is = subst (λ (l : List Text). AreLines bytes l) (sym is) (are_lines bytes)
+pub split_gives_lines : (bytes : Text) (lines : List Text) → lines ≡ map without_terminator (lines_of bytes) → AreLines bytes lines
+split_gives_lines bytes lines is = subst (λ (l : List Text). AreLines bytes l) (sym is) (are_lines bytes)
 
 pub split_few : (bytes : Text) (lines : List Text) → lines ≡ map without_terminator (lines_of bytes) → length lines ≤ length bytes
 split_few bytes lines is = omega (arith, ap length is, length-lines bytes)

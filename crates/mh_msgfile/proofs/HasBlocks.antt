@@ -1,4 +1,5 @@
--- Relates the blocks of a file to its entries: the file has entries if the last block has a message.
+-- Relates the blocks of a file to its entries: if no last block is without a message, the bytes spell a file of entries
+-- (`LooseSpells`); otherwise the bytes lack a message (`LacksMessage`).
 use Rattle.std.proofs.Common.{◌≡◌, ℕ, List, Option, Some, None, refl, sym, ◌∙◌}
 use Rattle.std.specs.Prelude.{option_map}
 use Rattle.mh_grammar.specs.Text.{Text}

@@ -1,4 +1,4 @@
--- Lemmas on the loop that collects the numbers of the lines that are kept.
+-- Lemmas on the loop that collects the numbers of the lines that are not ignored (that do not begin with `#`).
 use Rattle.std.proofs.Common.{◌≡◌, ◌+◌, ◌-◌, ◌<◌, ◌≤◌, ℕ, suc, Bool, true, false, List, [], ◌∷◌, ◌++◌, filter, length, refl, sym, ap, ◌∙◌, arith, append_assoc, append-nil}
 use Rattle.mh_grammar.specs.Text.{Text}
 use Rattle.mh_msgfile.specs.Lines.{is_kept}

@@ -1,7 +1,7 @@
 -- Lemmas on the fields of a list, which are the parts between its separators, and on its runs, which are its nonempty
 -- fields: the first run, and the runs after the first run.
-use Rattle.std.proofs.Common.{◌≡◌, ◌+◌, ◌<◌, ◌≤◌, ℕ, Bool, true, false, List, [], ◌∷◌, length, take, drop, filter, refl, sym, ◌∙◌, ap, subst, if◌then◌else◌, arith, add-one, length-drop}
-use Rattle.mh_msgfile.specs.code.LineSteps.{blank_count, piece_size}
+use Rattle.std.proofs.Common.{◌≡◌, ◌+◌, ◌<◌, ◌≤◌, ℕ, Bool, true, false, List, [], ◌∷◌, length, take, drop, filter, refl, sym, ◌∙◌, ap, subst, if◌then◌else◌, arith, suc, length-drop}
+use Rattle.std.specs.List.{position_or_len, prefix_len}
 use Rattle.mh_msgfile.specs.Sentences.{put_first, fields, has_items, runs}
 
 module _ {A : Type 0} (separates : A → Bool) where
@@ -10,14 +10,17 @@ module _ {A : Type 0} (separates : A → Bool) where
   tail_fields [] = []
   tail_fields (x ∷ rest) = fields separates rest
 
-  take_one : (n : ℕ) (x : A) (xs : List A) → take (n + 1) (x ∷ xs) ≡ x ∷ take n xs
-  take_one n x xs = rw (add-one n) refl
+  one_more : (n : ℕ) → 1 + n ≡ suc n
+  one_more n = omega arith
 
-  drop_one : (n : ℕ) (x : A) (xs : List A) → drop (n + 1) (x ∷ xs) ≡ drop n xs
-  drop_one n x xs = rw (add-one n) refl
+  take_one : (n : ℕ) (x : A) (xs : List A) → take (1 + n) (x ∷ xs) ≡ x ∷ take n xs
+  take_one n x xs = rw (one_more n) refl
+
+  drop_one : (n : ℕ) (x : A) (xs : List A) → drop (1 + n) (x ∷ xs) ≡ drop n xs
+  drop_one n x xs = rw (one_more n) refl
 
   abbrev size : List A → ℕ
-  size xs = piece_size separates xs
+  size xs = position_or_len separates xs
 
   abbrev Splits : List A → Type 0
   Splits xs = fields separates xs ≡ take (size xs) xs ∷ tail_fields (drop (size xs) xs)
@@ -51,10 +54,10 @@ module _ {A : Type 0} (separates : A → Bool) where
     pub none : size rest ≡ 0 → runs separates xs ≡ []
     pub some : 0 < size rest → runs separates xs ≡ take (size rest) rest ∷ runs separates (drop (size rest) rest)
 
-  size_one : (x : A) (xs : List A) → separates x ≡ false → size (x ∷ xs) ≡ size xs + 1
+  size_one : (x : A) (xs : List A) → separates x ≡ false → size (x ∷ xs) ≡ 1 + size xs
   size_one x xs is = rw is refl
 
-  cut_one : (x : A) (xs : List A) (n : ℕ) → take (n + 1) (x ∷ xs) ∷ runs separates (drop (n + 1) (x ∷ xs)) ≡ (x ∷ take n xs) ∷ runs separates (drop n xs)
+  cut_one : (x : A) (xs : List A) (n : ℕ) → take (1 + n) (x ∷ xs) ∷ runs separates (drop (1 + n) (x ∷ xs)) ≡ (x ∷ take n xs) ∷ runs separates (drop n xs)
   cut_one x xs n = rw (take_one n x xs, drop_one n x xs) refl
 
   behind_here : (x : A) (xs : List A) → separates x ≡ false → IsAfterSeparators (x ∷ xs) (x ∷ xs)
@@ -67,7 +70,7 @@ module _ {A : Type 0} (separates : A → Bool) where
   run_none x xs is = rw is refl
 
   abbrev blanks : List A → ℕ
-  blanks xs = blank_count separates xs
+  blanks xs = prefix_len separates xs
 
   drop_blanks : (x : A) (xs : List A) (c : Bool) → separates x ≡ c → drop (blanks (x ∷ xs)) (x ∷ xs) ≡ (if c then drop (blanks xs) xs else x ∷ xs)
   drop_blanks x xs true is = rw (is, drop_one (blanks xs) x xs) refl

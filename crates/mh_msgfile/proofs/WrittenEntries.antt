@@ -1,5 +1,5 @@
--- Proves that lines are read as given entries if their lines that are not ignored are those of the entries; and lemmas on
--- the messages of a file.
+-- Proves that a file is read as the given entries if its lines, without the ignored ones, are the lines written for
+-- these entries; and lemmas on the messages of a file.
 use Rattle.std.proofs.Common.{◌≡◌, ℕ, Bool, true, false, List, [], ◌∷◌, ◌++◌, map, filter, Option, None, Some, refl, sym, ◌∙◌, ap, subst}
 use Rattle.std.specs.List.{AllByRecursion, Contains}
 use Rattle.mh_grammar.specs.declared.types.Grammar.{Grammar}
@@ -18,12 +18,12 @@ use Rattle.mh_msgfile.proofs.CanonicalLine.{HasNoSeparator}
 use Rattle.mh_msgfile.proofs.LineEnds.{with_ends, IsReadUnchanged, lines_end, lines_of_with_ends}
 use Rattle.mh_msgfile.proofs.PrintedAgain.{texts_of, blank_text, is_kept_text, texts_of_blocks, all_filter, all_runs, Right, right_to, contents, content_entries, message_block, canonical, IsKnown, some_mapped, IsLine, read_back, good_back, plain_back, two_runs, IsBlock, IsFree, message_lines, plain_lines}
 
--- An entry as starts with tokens and the lines of a message.
-pub record Written : Type 0 where
+-- An entry that is to be written: its sentences, each a start with tokens, and the lines of its message.
+pub record WrittenEntry : Type 0 where
   pub sentences : List (ℕ × List ℕ)
   pub message : List Text
 
-abbrev pub written_content : Written → List (ℕ × List ℕ) × Text
+abbrev pub written_content : WrittenEntry → List (ℕ × List ℕ) × Text
 written_content w = (w.sentences, with_ends w.message)
 
 abbrev pub line_text : LooseLine → Text
@@ -33,7 +33,7 @@ abbrev pub loose_content : LooseEntry → List Text × Text
 loose_content e = (map line_text e.sentences, e.message)
 
 module _ (g : Grammar) (has : HasReadableNames g) where
-  pub record IsGoodEntry (w : Written) : Type 0 where
+  pub record IsGoodEntry (w : WrittenEntry) : Type 0 where
     pub some : has_items w.sentences ≡ true
     pub known : AllByRecursion (IsKnown g) w.sentences
     pub some_message : has_items w.message ≡ true
@@ -41,28 +41,28 @@ module _ (g : Grammar) (has : HasReadableNames g) where
     pub plain : HasNoSeparator blank_text w.message
 
   -- The lines of entries: for each its canonical lines, an empty line, its message, and an empty line.
-  abbrev pub entry_lines : List Written → List Text
+  abbrev pub entry_lines : List WrittenEntry → List Text
   entry_lines [] = []
   entry_lines (w ∷ ws) = map (canonical g) w.sentences ++ [] ∷ (w.message ++ [] ∷ entry_lines ws)
 
-  abbrev entry_blocks : List Written → List (List Text)
+  abbrev entry_blocks : List WrittenEntry → List (List Text)
   entry_blocks [] = []
   entry_blocks (w ∷ ws) = map (canonical g) w.sentences ∷ w.message ∷ entry_blocks ws
 
-  abbrev pub canonical_content : Written → List Text × Text
+  abbrev pub canonical_content : WrittenEntry → List Text × Text
   canonical_content w = (map (canonical g) w.sentences, with_ends w.message)
 
-  runs_are : (ws : List Written) → AllByRecursion IsGoodEntry ws → runs blank_text (entry_lines ws) ≡ entry_blocks ws
+  runs_are : (ws : List WrittenEntry) → AllByRecursion IsGoodEntry ws → runs blank_text (entry_lines ws) ≡ entry_blocks ws
   runs_are [] all = refl
   runs_are (w ∷ ws) all =
       two_runs g has (map (canonical g) w.sentences) w.message (entry_lines ws) (some_mapped g w.sentences all.0.some) (plain_back g has w.sentences all.0.known) all.0.some_message all.0.plain
       ∙ ap (λ (l : List (List Text)). map (canonical g) w.sentences ∷ w.message ∷ l) (runs_are ws all.1)
 
-  right_are : (ws : List Written) → AllByRecursion IsGoodEntry ws → Right g (entry_blocks ws)
+  right_are : (ws : List WrittenEntry) → AllByRecursion IsGoodEntry ws → Right g (entry_blocks ws)
   right_are [] all = tt
   right_are (w ∷ ws) all = (good_back g has w.sentences all.0.known, right_are ws all.1)
 
-  contents_are : (ws : List Written) → AllByRecursion IsGoodEntry ws → contents g (entry_blocks ws) ≡ map written_content ws
+  contents_are : (ws : List WrittenEntry) → AllByRecursion IsGoodEntry ws → contents g (entry_blocks ws) ≡ map written_content ws
   contents_are [] all = refl
   contents_are (w ∷ ws) all = let a = read_back g has w.sentences all.0.known in let b = contents_are ws all.1 in λ i. (a i, with_ends w.message) ∷ b i
 
@@ -73,7 +73,7 @@ module _ (g : Grammar) (has : HasReadableNames g) where
   pairs (block ∷ []) = []
   pairs (block ∷ message ∷ rest) = (block, with_ends message) ∷ pairs rest
 
-  pairs_are : (ws : List Written) → pairs (entry_blocks ws) ≡ map canonical_content ws
+  pairs_are : (ws : List WrittenEntry) → pairs (entry_blocks ws) ≡ map canonical_content ws
   pairs_are [] = refl
   pairs_are (w ∷ ws) = ap (λ (l : List (List Text × Text)). canonical_content w ∷ l) (pairs_are ws)
 
@@ -88,7 +88,7 @@ module _ (g : Grammar) (has : HasReadableNames g) where
     loose_pairs (block ∷ message ∷ rest) =
         let a = block_texts block in let b = message_block g lines message in let c = loose_pairs rest in λ i. (a i, b i) ∷ c i
 
-    none_unpaired : (bs : List (List ℕ)) (ws : List Written) → map (texts_of lines) bs ≡ entry_blocks ws → unpaired_block bs ≡ None
+    none_unpaired : (bs : List (List ℕ)) (ws : List WrittenEntry) → map (texts_of lines) bs ≡ entry_blocks ws → unpaired_block bs ≡ None
     none_unpaired [] ws is = refl
     none_unpaired (block ∷ []) [] is = absurd (cc)
     none_unpaired (block ∷ []) (w ∷ ws) is = absurd (cc)
@@ -97,7 +97,7 @@ module _ (g : Grammar) (has : HasReadableNames g) where
 
   -- ---- Lines whose kept lines are those of entries.
 
-  module _ (lines : List Text) (ws : List Written) (good : AllByRecursion IsGoodEntry ws) (whole : AllByRecursion IsReadUnchanged lines) (kept : filter is_kept_text lines ≡ entry_lines ws) where
+  module _ (lines : List Text) (ws : List WrittenEntry) (good : AllByRecursion IsGoodEntry ws) (whole : AllByRecursion IsReadUnchanged lines) (kept : filter is_kept_text lines ≡ entry_lines ws) where
     blocks_are : map (texts_of lines) (blocks lines) ≡ entry_blocks ws
     blocks_are = texts_of_blocks lines ∙ ap (runs blank_text) kept ∙ runs_are ws good
 

@@ -16,7 +16,7 @@ pub data AreLines : Text → List Text → Type 0 where
   LastLine : (line : Text) → HasNoLineFeed line → 0 < length line → AreLines line (line ∷ [])
   EndedLine : (line rest : Text) (lines : List Text) → HasNoLineFeed line → AreLines rest lines → AreLines (line ++ 10 ∷ rest) (no_cr line ∷ lines)
 
--- The line of a number; lines are numbered from 1.
+-- The line with this number; lines are numbered from 1.
 abbrev pub line_at : List Text → ℕ → Text
 line_at lines number = slice_index_or lines (number - 1) []
 

@@ -11,7 +11,7 @@ use Rattle.mh_msgfile.specs.declared.loose.LooseFile.{LooseFile}
 use Rattle.mh_msgfile.specs.declared.loose.LooseFault.{LooseFault}
 use Rattle.mh_msgfile.specs.declared.loose.LooseFault.TheVariants as faults
 
--- The line of a number, with its number.
+-- The line that has this number, together with the number.
 abbrev pub loose_line : List Text → ℕ → LooseLine
 loose_line lines number = record { line = number; text = line_at lines number }
 

@@ -23,7 +23,7 @@ pub(crate) fn put_lines(
     Ok(())
 }
 
-/// The line of a number, from 1; empty if there is none.
+/// The line with this number; lines are numbered from 1. Empty if there is no such line.
 pub(crate) fn line_at(lines: &[Name], number: u32) -> &[u8]
     ensures { result.now ≡ line_text lines.now number }
 {

@@ -1,8 +1,8 @@
 //! Messages files: blocks of sentence lines, each followed by a block that is its message.
 ghost use Rattle.std.specs.Prelude.{◌≡◌, ◌<◌, ◌≤◌, ◌^◌, ◌∷◌, ◌++◌, [], length, filter, Err, IfOk, OnOk};
+ghost use Rattle.std.specs.List.{position_or_len, prefix_len};
 ghost use Rattle.mh_grammar.specs.Plain.{plain_of, IsInRange};
 ghost use Rattle.mh_grammar.specs.declared.types.Grammar.{Grammar as Grammar'};
-ghost use Rattle.mh_msgfile.specs.code.LineSteps.{blank_count, piece_size};
 ghost use Rattle.mh_msgfile.specs.Sentences.{vocabulary_in, vocabulary_of, LineResult, FirstPiece, runs, ReadsSentence};
 ghost use Rattle.mh_msgfile.specs.code.FileSteps.{ReadsBlock, ReadsEntries, with_value, ReadsEntry, IsFaultOfLastBlock, IsFaultOfLine};
 ghost use Rattle.mh_msgfile.specs.Lines.{is_kept as is_kept_number, is_blank_line as is_blank_number};
@@ -79,32 +79,24 @@ pub(crate) fn kept_lines(alloc: Global, lines: &[Name]) -> Result<Vec<u32>, Memo
 
 /// The number of blank lines at the front.
 fn count_blank_lines(lines: &[Name], numbers: &[u32]) -> usize
-    ensures value { result ≡ blank_count (is_blank_number lines.now) numbers.now }
+    ensures value { result ≡ prefix_len (is_blank_number lines.now) numbers.now }
     ensures within { result ≤ length numbers.now }
 {
-    let mut count = 0usize;
-    for number in numbers {
-        if !is_blank_line(lines, *number) {
-            return count;
-        }
-        count += 1;
-    }
-    count
+    numbers
+        .iter()
+        .take_while(|&&number| is_blank_line(lines, number))
+        .count()
 }
 
 /// The number of lines before the first blank line.
 fn size_of_block(lines: &[Name], numbers: &[u32]) -> usize
-    ensures value { result ≡ piece_size (is_blank_number lines.now) numbers.now }
+    ensures value { result ≡ position_or_len (is_blank_number lines.now) numbers.now }
     ensures within { result ≤ length numbers.now }
 {
-    let mut count = 0usize;
-    for number in numbers {
-        if is_blank_line(lines, *number) {
-            return count;
-        }
-        count += 1;
-    }
-    count
+    numbers
+        .iter()
+        .take_while(|&&number| !is_blank_line(lines, number))
+        .count()
 }
 
 /// The first block, with the lines after it.
@@ -298,7 +290,7 @@ pub fn read_messages(alloc: Global, bytes: &[u8], grammar: &Grammar) -> Result<M
         return Err(MsgFault::Memory);
     };
     let file = read_file(alloc, &lexicon, bytes);
-    // The lexicon is dropped only here, because the proof that drops its many fields takes long.
+    // The lexicon is dropped in this one place only, because verifying the drop of its many fields is slow.
     drop(lexicon);
     file
 }

@@ -1,6 +1,6 @@
 //! The pieces of a line: the texts between blanks.
 ghost use Rattle.std.specs.Prelude.{◌≡◌, ◌≤◌, length};
-ghost use Rattle.mh_msgfile.specs.code.LineSteps.{blank_count, piece_size};
+ghost use Rattle.std.specs.List.{position_or_len, prefix_len};
 ghost use Rattle.mh_msgfile.specs.Lines.{is_blank as is_blank_byte};
 ghost use Rattle.mh_msgfile.specs.Sentences.{FirstPiece};
 
@@ -8,32 +8,18 @@ use crate::lines::is_blank;
 
 /// The number of blanks at the front.
 fn count_blanks(bytes: &[u8]) -> usize
-    ensures value { result ≡ blank_count is_blank_byte bytes.now }
+    ensures value { result ≡ prefix_len is_blank_byte bytes.now }
     ensures within { result ≤ length bytes.now }
 {
-    let mut count = 0usize;
-    for byte in bytes {
-        if !is_blank(*byte) {
-            return count;
-        }
-        count += 1;
-    }
-    count
+    bytes.iter().take_while(|&&byte| is_blank(byte)).count()
 }
 
 /// The number of bytes before the first blank.
 fn size_of_piece(bytes: &[u8]) -> usize
-    ensures value { result ≡ piece_size is_blank_byte bytes.now }
+    ensures value { result ≡ position_or_len is_blank_byte bytes.now }
     ensures within { result ≤ length bytes.now }
 {
-    let mut count = 0usize;
-    for byte in bytes {
-        if is_blank(*byte) {
-            return count;
-        }
-        count += 1;
-    }
-    count
+    bytes.iter().take_while(|&&byte| !is_blank(byte)).count()
 }
 
 /// Returns the first piece between blanks (spaces, tabs and CR), with the bytes after it; nothing if there are only

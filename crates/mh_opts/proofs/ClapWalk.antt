@@ -19,14 +19,14 @@ use Rattle.mh_opts.specs.declared.jobs.TheConstants.{GRAMMARS}
 use Rattle.mh_opts.specs.Orders.{grammars_of}
 use Rattle.mh_opts.specs.PosixReading.{has_value, is_set}
 use Rattle.mh_opts.specs.RepeatedOption.{is_end}
-use Rattle.mh_opts.proofs.OptionLookup.{by_id, Found-long, found_short, help, is_fit, known_rules, of_files, of_option}
+use Rattle.mh_opts.proofs.OptionLookup.{by_id, Found-long, found_short, help, is_fit, rules_with_help_and_files, of_files, of_option}
 use Rattle.mh_opts.proofs.RowsAfterUse.{is_plain, bytes_eq_refl, used_given, used_other, with_given, with_own}
 
 -- The command as clap sees it, with these options.
 abbrev pub command_of : List (Opt Text) → Shape
-command_of os = record (new_shape (codes "menhir")) { rules = known_rules os; no_binary_name = true; disable_help_subcommand = true; is_built = true }
+command_of os = record (new_shape (codes "menhir")) { rules = rules_with_help_and_files os; no_binary_name = true; disable_help_subcommand = true; is_built = true }
 
--- Kinds of errors.
+-- If the first nonempty one of two lists of kinds of errors (`or_else`) is empty, both lists are empty.
 
 pub or_else_empty_first : (a b : Kinds) → or_else a b ≡ [] → a ≡ []
 or_else_empty_first [] b e = refl
@@ -51,12 +51,12 @@ walk_after_word held is_trailing = record { held = held; waiting = positional; p
 
 -- The files found so far.
 abbrev pub files_held : List (Opt Text) → List Row → Option (Text × List Text) → List Text
-files_held os rows pending = grammars_of (settled_rows (known_rules os) pending rows)
+files_held os rows pending = grammars_of (settled_rows (rules_with_help_and_files os) pending rows)
 
 pub record AwaitsValue (os : List (Opt Text)) (pending : Option (Text × List Text)) (id : Text) (awaited : Bool) : Type 0 where
   pub is_awaited : awaited ≡ true
   pub no_value : pending ≡ Some (id, [])
-  pub rule_is : arg_by_id (known_rules os) id ≡ Some (of_option id Set)
+  pub rule_is : arg_by_id (rules_with_help_and_files os) id ≡ Some (of_option id Set)
   pub not_grammars : bytes_eq id GRAMMARS.now ≡ false
 
 -- Whether the walk awaits a value.
@@ -67,7 +67,7 @@ IsAwaited os pending (option id) awaited = AwaitsValue os pending id awaited
 
 -- Whether the words give an argument so far.
 abbrev pub is_used : List (Opt Text) → List Row → Option (Text × List Text) → Text → Bool
-is_used os rows pending name = is_given name (settled_rows (known_rules os) pending rows)
+is_used os rows pending name = is_given name (settled_rows (rules_with_help_and_files os) pending rows)
 
 -- The arguments used so far, and one more.
 abbrev pub one_more : List (Opt Text) → List Row → Option (Text × List Text) → Text → Text → Bool
@@ -113,16 +113,16 @@ turn_is s rows p positional word = refl
 turn_is s rows p (option id) word = refl
 
 pub word_fault : (os : List (Opt Text)) (rows : List Row) (p : Option (Text × List Text)) (x : Waiting) (word : Text) → is_end word ≡ false
-    → turn_fault (command_of os) [] (walk_at rows p x false) word ≡ [] → flag_word_fault (known_rules os) false (long_of word) word (matches_so_far rows p) ≡ []
+    → turn_fault (command_of os) [] (walk_at rows p x false) word ≡ [] → flag_word_fault (rules_with_help_and_files os) false (long_of word) word (matches_so_far rows p) ≡ []
 word_fault os rows p x word more none =
     let here = or_else_empty_first (word_part (command_of os) rows p word) (step_part (command_of os) rows p x word) (sym (turn_is (command_of os) rows p x word) ∙ none) in
     rw more at here
 
 -- Lemmas on a word that is an option.
 
-pub no_help : (os : List (Opt Text)) (h : Held) (v : Option Text) → long_fault (known_rules os) false (Some help) v h ≡ [] → ⊥
+pub no_help : (os : List (Opt Text)) (h : Held) (v : Option Text) → long_fault (rules_with_help_and_files os) false (Some help) v h ≡ [] → ⊥
 no_help os h (Some v) e = cc
-no_help os h None e = let none = or_else_empty_second (settle_fault (known_rules os) false h) (DisplayHelp ∷ []) e in cc
+no_help os h None e = let none = or_else_empty_second (settle_fault (rules_with_help_and_files os) false h) (DisplayHelp ∷ []) e in cc
 
 -- Storing the value of the option that waits for one does not change the grammar files.
 kept : (action : ArgAction) → is_plain action ≡ true → (name : Text) (vs : List Text) (rows : List Row) → bytes_eq name GRAMMARS.now ≡ false
@@ -137,85 +137,85 @@ used_there SetTrue simple name other vs rows = used_given SetTrue refl name othe
 used_there action simple name other vs rows = absurd (true≢false (sym simple))
 
 by_action : (os : List (Opt Text)) (rows : List Row) (p : Option (Text × List Text)) (x : Waiting) (word name : Text) (action : ArgAction) (v : Option Text)
-    → is_plain action ≡ true → has_value os name ≡ is_set action → arg_by_id (known_rules os) name ≡ Some (of_option name action) → bytes_eq name GRAMMARS.now ≡ false
-    → long_fault (known_rules os) false (Some (of_option name action)) v (matches_so_far rows p) ≡ []
-    → IsWalkState os (let m = long_met (known_rules os) (Some (of_option name action)) v (matches_so_far rows p) in onward (known_rules os) rows p x word (after_flag (known_rules os) x word m.0 m.1)) (not (is_some v) && has_value os name) (files_held os rows p) (one_more os rows p name)
+    → is_plain action ≡ true → has_value os name ≡ is_set action → arg_by_id (rules_with_help_and_files os) name ≡ Some (of_option name action) → bytes_eq name GRAMMARS.now ≡ false
+    → long_fault (rules_with_help_and_files os) false (Some (of_option name action)) v (matches_so_far rows p) ≡ []
+    → IsWalkState os (let m = long_met (rules_with_help_and_files os) (Some (of_option name action)) v (matches_so_far rows p) in onward (rules_with_help_and_files os) rows p x word (after_flag (rules_with_help_and_files os) x word m.0 m.1)) (not (is_some v) && has_value os name) (files_held os rows p) (one_more os rows p name)
 by_action os rows p x word name Set (Some v) simple valued by other none = record {
-  rows = used (of_option name Set) (v ∷ []) (settled_rows (known_rules os) p rows);
+  rows = used (of_option name Set) (v ∷ []) (settled_rows (rules_with_help_and_files os) p rows);
   pending = None;
   waiting = idle;
   is = refl;
   awaits = refl;
-  held = kept Set refl name (v ∷ []) (settled_rows (known_rules os) p rows) other;
-  used = λ n apart. used_there Set refl name n (v ∷ []) (settled_rows (known_rules os) p rows);
+  held = kept Set refl name (v ∷ []) (settled_rows (rules_with_help_and_files os) p rows) other;
+  used = λ n apart. used_there Set refl name n (v ∷ []) (settled_rows (rules_with_help_and_files os) p rows);
 }
 by_action os rows p x word name Set None simple valued by other none = record {
-  rows = settled_rows (known_rules os) p rows;
+  rows = settled_rows (rules_with_help_and_files os) p rows;
   pending = Some (name, []);
   waiting = option name;
   is = refl;
   awaits = record { is_awaited = valued; no_value = refl; rule_is = by; not_grammars = other };
-  held = ap (λ (r : Option Rule). grammars_of (used_by_id r [] (settled_rows (known_rules os) p rows))) by ∙ kept Set refl name [] (settled_rows (known_rules os) p rows) other;
-  used = λ n apart. ap (λ (r : Option Rule). is_given n (used_by_id r [] (settled_rows (known_rules os) p rows))) by ∙ used_there Set refl name n [] (settled_rows (known_rules os) p rows);
+  held = ap (λ (r : Option Rule). grammars_of (used_by_id r [] (settled_rows (rules_with_help_and_files os) p rows))) by ∙ kept Set refl name [] (settled_rows (rules_with_help_and_files os) p rows) other;
+  used = λ n apart. ap (λ (r : Option Rule). is_given n (used_by_id r [] (settled_rows (rules_with_help_and_files os) p rows))) by ∙ used_there Set refl name n [] (settled_rows (rules_with_help_and_files os) p rows);
 }
 by_action os rows p x word name SetTrue None simple valued by other none = record {
-  rows = used (of_option name SetTrue) [] (settled_rows (known_rules os) p rows);
+  rows = used (of_option name SetTrue) [] (settled_rows (rules_with_help_and_files os) p rows);
   pending = None;
   waiting = idle;
   is = refl;
   awaits = valued;
-  held = kept SetTrue refl name [] (settled_rows (known_rules os) p rows) other;
-  used = λ n apart. used_there SetTrue refl name n [] (settled_rows (known_rules os) p rows);
+  held = kept SetTrue refl name [] (settled_rows (rules_with_help_and_files os) p rows) other;
+  used = λ n apart. used_there SetTrue refl name n [] (settled_rows (rules_with_help_and_files os) p rows);
 }
 by_action os rows p x word name SetTrue (Some v) simple valued by other none = cc
 by_action os rows p x word name action v simple valued by other none = absurd (true≢false (sym simple))
 
 by_rule : (os : List (Opt Text)) → list_all is_fit os ≡ true → (rows : List Row) (p : Option (Text × List Text)) (x : Waiting) (word name : Text) (v : Option Text) (o : Option Rule)
-    → arg_by_long (known_rules os) name ≡ o → long_fault (known_rules os) false o v (matches_so_far rows p) ≡ []
-    → IsWalkState os (let m = long_met (known_rules os) o v (matches_so_far rows p) in onward (known_rules os) rows p x word (after_flag (known_rules os) x word m.0 m.1)) (not (is_some v) && has_value os name) (files_held os rows p) (one_more os rows p name)
+    → arg_by_long (rules_with_help_and_files os) name ≡ o → long_fault (rules_with_help_and_files os) false o v (matches_so_far rows p) ≡ []
+    → IsWalkState os (let m = long_met (rules_with_help_and_files os) o v (matches_so_far rows p) in onward (rules_with_help_and_files os) rows p x word (after_flag (rules_with_help_and_files os) x word m.0 m.1)) (not (is_some v) && has_value os name) (files_held os rows p) (one_more os rows p name)
 by_rule os fit rows p x word name v None at none = cc
 by_rule os fit rows p x word name v (Some rule) at none = elim (Found-long os fit name rule at) [
   | inl f ↦ (
       let go = by_action os rows p x word name f.action v f.plain f.valued (by_id os name rule f ∙ ap Some f.is) f.not_grammars in
-      subst (λ (r : Rule). long_fault (known_rules os) false (Some r) v (matches_so_far rows p) ≡ [] → IsWalkState os (let m = long_met (known_rules os) (Some r) v (matches_so_far rows p) in onward (known_rules os) rows p x word (after_flag (known_rules os) x word m.0 m.1)) (not (is_some v) && has_value os name) (files_held os rows p) (one_more os rows p name)) (sym f.is) go none
+      subst (λ (r : Rule). long_fault (rules_with_help_and_files os) false (Some r) v (matches_so_far rows p) ≡ [] → IsWalkState os (let m = long_met (rules_with_help_and_files os) (Some r) v (matches_so_far rows p) in onward (rules_with_help_and_files os) rows p x word (after_flag (rules_with_help_and_files os) x word m.0 m.1)) (not (is_some v) && has_value os name) (files_held os rows p) (one_more os rows p name)) (sym f.is) go none
       )
-  | inr is_help ↦ absurd (no_help os (matches_so_far rows p) v (subst (λ (r : Rule). long_fault (known_rules os) false (Some r) v (matches_so_far rows p) ≡ []) is_help none))
+  | inr is_help ↦ absurd (no_help os (matches_so_far rows p) v (subst (λ (r : Rule). long_fault (rules_with_help_and_files os) false (Some r) v (matches_so_far rows p) ≡ []) is_help none))
 ]
 
 pub walk_option : (os : List (Opt Text)) → list_all is_fit os ≡ true → (rows : List Row) (p : Option (Text × List Text)) (x : Waiting) (word : Text) (o : Text × Option Text)
     → is_end word ≡ false → long_of word ≡ Some o → turn_fault (command_of os) [] (walk_at rows p x false) word ≡ []
-    → IsWalkState os (walked (known_rules os) [] (walk_at rows p x false) word) (not (is_some o.1) && has_value os o.0) (files_held os rows p) (one_more os rows p o.0)
+    → IsWalkState os (walked (rules_with_help_and_files os) [] (walk_at rows p x false) word) (not (is_some o.1) && has_value os o.0) (files_held os rows p) (one_more os rows p o.0)
 walk_option os fit rows p x word o more is none =
     let fault = word_fault os rows p x word more none in
-    let here : walked (known_rules os) [] (walk_at rows p x false) word ≡ onward (known_rules os) rows p x word (long_word (known_rules os) x word o.0 o.1 (matches_so_far rows p)) = walked_is (known_rules os) rows p x word ∙ rw (more, is) refl in
-    subst (λ (w : Walk). IsWalkState os w (not (is_some o.1) && has_value os o.0) (files_held os rows p) (one_more os rows p o.0)) (sym here) (by_rule os fit rows p x word o.0 o.1 (arg_by_long (known_rules os) o.0) refl (rw is at fault))
+    let here : walked (rules_with_help_and_files os) [] (walk_at rows p x false) word ≡ onward (rules_with_help_and_files os) rows p x word (long_word (rules_with_help_and_files os) x word o.0 o.1 (matches_so_far rows p)) = walked_is (rules_with_help_and_files os) rows p x word ∙ rw (more, is) refl in
+    subst (λ (w : Walk). IsWalkState os w (not (is_some o.1) && has_value os o.0) (files_held os rows p) (one_more os rows p o.0)) (sym here) (by_rule os fit rows p x word o.0 o.1 (arg_by_long (rules_with_help_and_files os) o.0) refl (rw is at fault))
 
 -- A word that is not an option.
 
-no_letter : (os : List (Opt Text)) (h : Held) (letter : ℕ) (rest : Text) (next : Held → Kinds) (o : Option Rule) → arg_by_short (known_rules os) letter ≡ o
-    → short_fault (known_rules os) false o rest h next ≡ [] → ⊥
+no_letter : (os : List (Opt Text)) (h : Held) (letter : ℕ) (rest : Text) (next : Held → Kinds) (o : Option Rule) → arg_by_short (rules_with_help_and_files os) letter ≡ o
+    → short_fault (rules_with_help_and_files os) false o rest h next ≡ [] → ⊥
 no_letter os h letter rest next None at none = cc
 no_letter os h letter rest next (Some rule) at none =
-    let one : short_fault (known_rules os) false (Some help) rest h next ≡ [] = subst (λ (r : Rule). short_fault (known_rules os) false (Some r) rest h next ≡ []) (found_short os letter rule at) none in
-    no_help os h None (or_else_empty_first (react_fault (known_rules os) false help [] h) (next (reacted (known_rules os) help [] h)) one)
+    let one : short_fault (rules_with_help_and_files os) false (Some help) rest h next ≡ [] = subst (λ (r : Rule). short_fault (rules_with_help_and_files os) false (Some r) rest h next ≡ []) (found_short os letter rule at) none in
+    no_help os h None (or_else_empty_first (react_fault (rules_with_help_and_files os) false help [] h) (next (reacted (rules_with_help_and_files os) help [] h)) one)
 
-by_letter : (os : List (Opt Text)) (h : Held) (flags : Text) (k : ℕ) (o : Option ℕ) → bundle_step_fault (known_rules os) false o flags 0 h (flags_fault (known_rules os) false k) ≡ []
-    → bundle_step (known_rules os) o flags 0 plain h (bundle_met (known_rules os) k) ≡ (h, plain)
+by_letter : (os : List (Opt Text)) (h : Held) (flags : Text) (k : ℕ) (o : Option ℕ) → bundle_step_fault (rules_with_help_and_files os) false o flags 0 h (flags_fault (rules_with_help_and_files os) false k) ≡ []
+    → bundle_step (rules_with_help_and_files os) o flags 0 plain h (bundle_met (rules_with_help_and_files os) k) ≡ (h, plain)
 by_letter os h flags k None none = refl
 by_letter os h flags k (Some letter) none =
-    absurd (no_letter os h letter (drop (length (encode_utf8 letter)) flags) (flags_fault (known_rules os) false k (drop (length (encode_utf8 letter)) flags) 0) (arg_by_short (known_rules os) letter) refl none)
+    absurd (no_letter os h letter (drop (length (encode_utf8 letter)) flags) (flags_fault (rules_with_help_and_files os) false k (drop (length (encode_utf8 letter)) flags) 0) (arg_by_short (rules_with_help_and_files os) letter) refl none)
 
 -- No one-letter options exist: a word of one hyphen and more is refused, except if no character follows the hyphen.
-letters : (os : List (Opt Text)) (rows : List Row) (p : Option (Text × List Text)) (flags : Text) → bundle_fault (known_rules os) false flags (matches_so_far rows p) ≡ []
-    → bundle (known_rules os) flags (matches_so_far rows p) ≡ (matches_so_far rows p, plain)
+letters : (os : List (Opt Text)) (rows : List Row) (p : Option (Text × List Text)) (flags : Text) → bundle_fault (rules_with_help_and_files os) false flags (matches_so_far rows p) ≡ []
+    → bundle (rules_with_help_and_files os) flags (matches_so_far rows p) ≡ (matches_so_far rows p, plain)
 unfolding flags_fault bundle_met
 letters os rows p [] none = refl
 letters os rows p (b ∷ bs) none = by_letter os (matches_so_far rows p) (b ∷ bs) (length bs) (slice_get (chars (b ∷ bs)) 0) none
 
 by_flags : (os : List (Opt Text)) (rows : List Row) (p : Option (Text × List Text)) (x : Waiting) (word : Text) (o : Option Text)
-    → option_map_or (λ flags. bundle_fault (known_rules os) false flags (matches_so_far rows p)) o [] ≡ [] → short_or_plain (known_rules os) x word o (matches_so_far rows p) ≡ plain_word (known_rules os) x word (matches_so_far rows p)
+    → option_map_or (λ flags. bundle_fault (rules_with_help_and_files os) false flags (matches_so_far rows p)) o [] ≡ [] → short_or_plain (rules_with_help_and_files os) x word o (matches_so_far rows p) ≡ plain_word (rules_with_help_and_files os) x word (matches_so_far rows p)
 by_flags os rows p x word None none = refl
-by_flags os rows p x word (Some flags) none = ap (λ (m : Held × Outcome). after_flag (known_rules os) x word m.0 m.1) (letters os rows p flags none)
+by_flags os rows p x word (Some flags) none = ap (λ (m : Held × Outcome). after_flag (rules_with_help_and_files os) x word m.0 m.1) (letters os rows p flags none)
 
 -- A branch whose condition is false is not taken.
 pub never_first : {X : Type 0} (b : Bool) (x y : X) → (if b && false then x else y) ≡ y
@@ -223,10 +223,10 @@ never_first true x y = refl
 never_first false x y = refl
 
 pub positional_is_file : (os : List (Opt Text)) (rows : List Row) (p : Option (Text × List Text)) (word : Text) (x : Waiting) (is_trailing : Bool)
-    → to_positional (known_rules os) (arg_by_index (known_rules os) 1) word (walk_at rows p x is_trailing) (matches_so_far rows p)
-    ≡ walk_at (settled_rows (known_rules os) p rows) (Some (GRAMMARS.now, word ∷ [])) positional (is_trailing || false)
+    → to_positional (rules_with_help_and_files os) (arg_by_index (rules_with_help_and_files os) 1) word (walk_at rows p x is_trailing) (matches_so_far rows p)
+    ≡ walk_at (settled_rows (rules_with_help_and_files os) p rows) (Some (GRAMMARS.now, word ∷ [])) positional (is_trailing || false)
 positional_is_file os rows p word x is_trailing =
-    ap (λ (h : Held). walk_after_word (pushed GRAMMARS.now word h) is_trailing) (never_first (is_pending of_files p) (matches_so_far rows p) (settled (known_rules os) (matches_so_far rows p)))
+    ap (λ (h : Held). walk_after_word (pushed GRAMMARS.now word h) is_trailing) (never_first (is_pending of_files p) (matches_so_far rows p) (settled (rules_with_help_and_files os) (matches_so_far rows p)))
 
 pub files_held-file : (os : List (Opt Text)) (rows : List Row) (word : Text) → files_held os rows (Some (GRAMMARS.now, word ∷ [])) ≡ grammars_of rows ++ word ∷ []
 files_held-file os rows word = with_own GRAMMARS.now (reading_by of_files) CommandLine (word ∷ []) rows
@@ -236,22 +236,22 @@ pub file_used : (os : List (Opt Text)) (rows : List Row) (word n : Text) → byt
 file_used os rows word n apart = with_given GRAMMARS.now n (reading_by of_files) (word ∷ []) rows ∙ rw apart refl
 
 walk_file : (os : List (Opt Text)) (rows : List Row) (p : Option (Text × List Text)) (x : Waiting) (word : Text)
-    → IsWalkState os (to_positional (known_rules os) (arg_by_index (known_rules os) 1) word (walk_at rows p x false) (matches_so_far rows p)) false (files_held os rows p ++ word ∷ []) (is_used os rows p)
+    → IsWalkState os (to_positional (rules_with_help_and_files os) (arg_by_index (rules_with_help_and_files os) 1) word (walk_at rows p x false) (matches_so_far rows p)) false (files_held os rows p ++ word ∷ []) (is_used os rows p)
 walk_file os rows p x word = record {
-  rows = settled_rows (known_rules os) p rows;
+  rows = settled_rows (rules_with_help_and_files os) p rows;
   pending = Some (GRAMMARS.now, word ∷ []);
   waiting = positional;
   is = positional_is_file os rows p word x false;
   awaits = refl;
-  held = files_held-file os (settled_rows (known_rules os) p rows) word;
-  used = λ n apart. file_used os (settled_rows (known_rules os) p rows) word n apart;
+  held = files_held-file os (settled_rows (rules_with_help_and_files os) p rows) word;
+  used = λ n apart. file_used os (settled_rows (rules_with_help_and_files os) p rows) word n apart;
 }
 
 -- The value of an option is one word.
 value_is : (os : List (Opt Text)) (rows : List Row) (p : Option (Text × List Text)) (id word : Text) (awaited : Bool) → AwaitsValue os p id awaited
-    → onward (known_rules os) rows p (option id) word (plain_word (known_rules os) (option id) word (matches_so_far rows p)) ≡ walk_at rows (Some (id, word ∷ [])) idle false
+    → onward (rules_with_help_and_files os) rows p (option id) word (plain_word (rules_with_help_and_files os) (option id) word (matches_so_far rows p)) ≡ walk_at rows (Some (id, word ∷ [])) idle false
 value_is os rows p id word awaited a =
-    subst (λ (q : Option (Text × List Text)). onward (known_rules os) rows q (option id) word (plain_word (known_rules os) (option id) word (matches_so_far rows q)) ≡ walk_at rows (Some (id, word ∷ [])) idle false) (sym a.no_value) (rw (a.rule_is, bytes_eq_refl id) refl)
+    subst (λ (q : Option (Text × List Text)). onward (rules_with_help_and_files os) rows q (option id) word (plain_word (rules_with_help_and_files os) (option id) word (matches_so_far rows q)) ≡ walk_at rows (Some (id, word ∷ [])) idle false) (sym a.no_value) (rw (a.rule_is, bytes_eq_refl id) refl)
 
 value_held : (os : List (Opt Text)) (rows : List Row) (p : Option (Text × List Text)) (id word : Text) (awaited : Bool) → AwaitsValue os p id awaited → files_held os rows (Some (id, word ∷ [])) ≡ files_held os rows p
 value_held os rows p id word awaited a =
@@ -266,7 +266,7 @@ value_used os rows p id word awaited a n =
     ∙ sym (ap (λ (r : Option Rule). is_given n (used_by_id r [] rows)) a.rule_is ∙ used_there Set refl id n [] rows) ∙ same
 
 walk_value : (os : List (Opt Text)) (rows : List Row) (p : Option (Text × List Text)) (id word : Text) (awaited : Bool) → AwaitsValue os p id awaited
-    → IsWalkState os (onward (known_rules os) rows p (option id) word (plain_word (known_rules os) (option id) word (matches_so_far rows p))) false (files_held os rows p) (is_used os rows p)
+    → IsWalkState os (onward (rules_with_help_and_files os) rows p (option id) word (plain_word (rules_with_help_and_files os) (option id) word (matches_so_far rows p))) false (files_held os rows p) (is_used os rows p)
 walk_value os rows p id word awaited a = record {
   rows = rows;
   pending = Some (id, word ∷ []);
@@ -278,38 +278,38 @@ walk_value os rows p id word awaited a = record {
 }
 
 walk_plain_word : (os : List (Opt Text)) (rows : List Row) (p : Option (Text × List Text)) (x : Waiting) (word : Text) (awaited : Bool) → IsAwaited os p x awaited
-    → IsWalkState os (onward (known_rules os) rows p x word (plain_word (known_rules os) x word (matches_so_far rows p))) false (if awaited then files_held os rows p else files_held os rows p ++ word ∷ []) (is_used os rows p)
+    → IsWalkState os (onward (rules_with_help_and_files os) rows p x word (plain_word (rules_with_help_and_files os) x word (matches_so_far rows p))) false (if awaited then files_held os rows p else files_held os rows p ++ word ∷ []) (is_used os rows p)
 walk_plain_word os rows p idle word awaited a = rw a (walk_file os rows p idle word)
 walk_plain_word os rows p positional word awaited a = rw a (walk_file os rows p positional word)
 walk_plain_word os rows p (option id) word awaited a = let yes : awaited ≡ true = a.is_awaited in rw yes (walk_value os rows p id word awaited a)
 
 -- The state of the walk after a word that is not an option.
 other_is : (os : List (Opt Text)) (rows : List Row) (p : Option (Text × List Text)) (x : Waiting) (word : Text) → is_end word ≡ false → long_of word ≡ None
-    → turn_fault (command_of os) [] (walk_at rows p x false) word ≡ [] → walked (known_rules os) [] (walk_at rows p x false) word ≡ onward (known_rules os) rows p x word (plain_word (known_rules os) x word (matches_so_far rows p))
+    → turn_fault (command_of os) [] (walk_at rows p x false) word ≡ [] → walked (rules_with_help_and_files os) [] (walk_at rows p x false) word ≡ onward (rules_with_help_and_files os) rows p x word (plain_word (rules_with_help_and_files os) x word (matches_so_far rows p))
 other_is os rows p x word more is none =
     let fault = word_fault os rows p x word more none in
     let same = by_flags os rows p x word (short_of word) (rw is at fault) in
-    let here : walked (known_rules os) [] (walk_at rows p x false) word ≡ onward (known_rules os) rows p x word (short_or_plain (known_rules os) x word (short_of word) (matches_so_far rows p)) = walked_is (known_rules os) rows p x word ∙ rw (more, is) refl in
-    here ∙ ap (onward (known_rules os) rows p x word) same
+    let here : walked (rules_with_help_and_files os) [] (walk_at rows p x false) word ≡ onward (rules_with_help_and_files os) rows p x word (short_or_plain (rules_with_help_and_files os) x word (short_of word) (matches_so_far rows p)) = walked_is (rules_with_help_and_files os) rows p x word ∙ rw (more, is) refl in
+    here ∙ ap (onward (rules_with_help_and_files os) rows p x word) same
 
 pub walk_other_word : (os : List (Opt Text)) (rows : List Row) (p : Option (Text × List Text)) (x : Waiting) (word : Text) (awaited : Bool) → IsAwaited os p x awaited
     → is_end word ≡ false → long_of word ≡ None → turn_fault (command_of os) [] (walk_at rows p x false) word ≡ []
-    → IsWalkState os (walked (known_rules os) [] (walk_at rows p x false) word) false (if awaited then files_held os rows p else files_held os rows p ++ word ∷ []) (is_used os rows p)
+    → IsWalkState os (walked (rules_with_help_and_files os) [] (walk_at rows p x false) word) false (if awaited then files_held os rows p else files_held os rows p ++ word ∷ []) (is_used os rows p)
 walk_other_word os rows p x word awaited a more is none =
     subst (λ (w : Walk). IsWalkState os w false (if awaited then files_held os rows p else files_held os rows p ++ word ∷ []) (is_used os rows p)) (sym (other_is os rows p x word more is none)) (walk_plain_word os rows p x word awaited a)
 
 -- The state of the walk after the value of an option, and after an option whose value is the next word.
 pub value_walked : (os : List (Opt Text)) (rows : List Row) (p : Option (Text × List Text)) (id word : Text) (awaited : Bool) → AwaitsValue os p id awaited → is_end word ≡ false → long_of word ≡ None
-    → turn_fault (command_of os) [] (walk_at rows p (option id) false) word ≡ [] → walked (known_rules os) [] (walk_at rows p (option id) false) word ≡ walk_at rows (Some (id, word ∷ [])) idle false
+    → turn_fault (command_of os) [] (walk_at rows p (option id) false) word ≡ [] → walked (rules_with_help_and_files os) [] (walk_at rows p (option id) false) word ≡ walk_at rows (Some (id, word ∷ [])) idle false
 value_walked os rows p id word awaited a more is none = other_is os rows p (option id) word more is none ∙ value_is os rows p id word awaited a
 
-pub bare_walked : (os : List (Opt Text)) (rows : List Row) (p : Option (Text × List Text)) (x : Waiting) (word name : Text) → arg_by_long (known_rules os) name ≡ Some (of_option name Set)
-    → is_end word ≡ false → long_of word ≡ Some (name, None) → walked (known_rules os) [] (walk_at rows p x false) word ≡ walk_at (settled_rows (known_rules os) p rows) (Some (name, [])) (option name) false
-bare_walked os rows p x word name by more is = walked_is (known_rules os) rows p x word ∙ rw (more, is) (ap (λ (r : Option Rule). onward (known_rules os) rows p x word (let m = long_met (known_rules os) r None (matches_so_far rows p) in after_flag (known_rules os) x word m.0 m.1)) by)
+pub bare_walked : (os : List (Opt Text)) (rows : List Row) (p : Option (Text × List Text)) (x : Waiting) (word name : Text) → arg_by_long (rules_with_help_and_files os) name ≡ Some (of_option name Set)
+    → is_end word ≡ false → long_of word ≡ Some (name, None) → walked (rules_with_help_and_files os) [] (walk_at rows p x false) word ≡ walk_at (settled_rows (rules_with_help_and_files os) p rows) (Some (name, [])) (option name) false
+bare_walked os rows p x word name by more is = walked_is (rules_with_help_and_files os) rows p x word ∙ rw (more, is) (ap (λ (r : Option Rule). onward (rules_with_help_and_files os) rows p x word (let m = long_met (rules_with_help_and_files os) r None (matches_so_far rows p) in after_flag (rules_with_help_and_files os) x word m.0 m.1)) by)
 
 -- If clap finds no fault in the step over a word that is a file's name, then the argument for files has no fault.
-pub plain_fault : (os : List (Opt Text)) (rows : List Row) (p : Option (Text × List Text)) (x : Waiting) (word : Text) → plain_word (known_rules os) x word (matches_so_far rows p) ≡ (matches_so_far rows p, value) → is_end word ≡ false → long_of word ≡ None
-    → turn_fault (command_of os) [] (walk_at rows p x false) word ≡ [] → positional_fault (known_rules os) false of_files (matches_so_far rows p) ≡ []
+pub plain_fault : (os : List (Opt Text)) (rows : List Row) (p : Option (Text × List Text)) (x : Waiting) (word : Text) → plain_word (rules_with_help_and_files os) x word (matches_so_far rows p) ≡ (matches_so_far rows p, value) → is_end word ≡ false → long_of word ≡ None
+    → turn_fault (command_of os) [] (walk_at rows p x false) word ≡ [] → positional_fault (rules_with_help_and_files os) false of_files (matches_so_far rows p) ≡ []
 plain_fault os rows p x word file more is none =
     let fault = word_fault os rows p x word more none in
     let same = by_flags os rows p x word (short_of word) (rw is at fault) ∙ file in
@@ -320,10 +320,10 @@ plain_fault os rows p x word file more is none =
 -- The end of the options.
 
 pub walk_end : (os : List (Opt Text)) (rows : List Row) (p : Option (Text × List Text)) (x : Waiting) (word : Text) → is_end word ≡ true
-    → walked (known_rules os) [] (walk_at rows p x false) word ≡ walk_at rows p x true
-walk_end os rows p x word e = walked_is (known_rules os) rows p x word ∙ rw e refl
+    → walked (rules_with_help_and_files os) [] (walk_at rows p x false) word ≡ walk_at rows p x true
+walk_end os rows p x word e = walked_is (rules_with_help_and_files os) rows p x word ∙ rw e refl
 
 pub walk_after_end : (os : List (Opt Text)) (rows : List Row) (p : Option (Text × List Text)) (x : Waiting) (word : Text)
-    → walked (known_rules os) [] (walk_at rows p x true) word ≡ walk_at (settled_rows (known_rules os) p rows) (Some (GRAMMARS.now, word ∷ [])) positional true
+    → walked (rules_with_help_and_files os) [] (walk_at rows p x true) word ≡ walk_at (settled_rows (rules_with_help_and_files os) p rows) (Some (GRAMMARS.now, word ∷ [])) positional true
 unfolding walked
 walk_after_end os rows p x word = positional_is_file os rows p word x true

@@ -14,7 +14,7 @@ use Rattle.mh_opts.specs.declared.jobs.TheConstants.{GRAMMARS}
 use Rattle.mh_opts.specs.Orders.{grammars_of}
 use Rattle.mh_opts.specs.PosixReading.{files_from, has_value}
 use Rattle.mh_opts.specs.RepeatedOption.{is_end}
-use Rattle.mh_opts.proofs.OptionLookup.{rules_with_help, help, is_fit, known_rules, of_files, of_option}
+use Rattle.mh_opts.proofs.OptionLookup.{rules_with_help, help, is_fit, rules_with_help_and_files, of_files, of_option}
 use Rattle.mh_opts.proofs.RowsAfterUse.{default_other, is_plain}
 use Rattle.mh_opts.proofs.ClapWalk.{IsWalkState, IsAwaited, or_else_empty_second, walk_after_end, walk_end, files_held-file, files_held, or_else_empty_first, is_used, one_more, walk_option, walk_other_word, command_of, walk_at}
 
@@ -23,13 +23,13 @@ abbrev pub files_of : List (Opt Text) → Walk → List Text
 files_of os w = files_held os w.held.rows w.held.pending
 
 abbrev pub walk_on : List (Opt Text) → Walk → List Text → Walk
-walk_on os w words = fold (walked (known_rules os) []) w words
+walk_on os w words = fold (walked (rules_with_help_and_files os) []) w words
 
 files_after_end : (os : List (Opt Text)) (words : List Text) (rows : List Row) (p : Option (Text × List Text)) (x : Waiting)
     → files_of os (walk_on os (walk_at rows p x true) words) ≡ files_held os rows p ++ words
 files_after_end os [] rows p x = sym (append-nil (files_held os rows p))
 files_after_end os (word ∷ words) rows p x =
-    let so_far = settled_rows (known_rules os) p rows in
+    let so_far = settled_rows (rules_with_help_and_files os) p rows in
     ap (λ (w : Walk). files_of os (walk_on os w words)) (walk_after_end os rows p x word)
     ∙ files_after_end os words so_far (Some (GRAMMARS.now, word ∷ [])) positional
     ∙ ap (λ (files : List Text). files ++ words) (files_held-file os so_far word)
@@ -47,11 +47,11 @@ after_word os words go w awaited files uses g none =
     ap (λ (v : Walk). files_of os (walk_on os v words)) g.is ∙ there ∙ ap (λ (f : List Text). f ++ files_from os awaited words) g.held
 
 pub faults : (os : List (Opt Text)) (w : Walk) (word : Text) (words : List Text) → walk_fault (command_of os) [] w (word ∷ words) ≡ []
-    → (turn_fault (command_of os) [] w word ≡ []) × (walk_fault (command_of os) [] (walked (known_rules os) [] w word) words ≡ [])
+    → (turn_fault (command_of os) [] w word ≡ []) × (walk_fault (command_of os) [] (walked (rules_with_help_and_files os) [] w word) words ≡ [])
 unfolding walk_fault
 faults os w word words none =
     let now = turn_fault (command_of os) [] w word in
-    let later = walk_fault (command_of os) [] (walked (known_rules os) [] w word) words in
+    let later = walk_fault (command_of os) [] (walked (rules_with_help_and_files os) [] w word) words in
     (or_else_empty_first now later none, or_else_empty_second now later none)
 
 by_end : (os : List (Opt Text)) (words : List Text) (rows : List Row) (p : Option (Text × List Text)) (x : Waiting) (word : Text) (awaited : Bool) → is_end word ≡ true
@@ -66,7 +66,7 @@ by_option : (os : List (Opt Text)) → list_all is_fit os ≡ true → (words : 
 by_option os fit words go rows p x word awaited o more is none =
     let both_none = faults os (walk_at rows p x false) word words none in
     let goes = walk_option os fit rows p x word o more is both_none.0 in
-    let there = after_word os words go (walked (known_rules os) [] (walk_at rows p x false) word) (not (is_some o.1) && has_value os o.0) (files_held os rows p) (one_more os rows p o.0) goes both_none.1 in
+    let there = after_word os words go (walked (rules_with_help_and_files os) [] (walk_at rows p x false) word) (not (is_some o.1) && has_value os o.0) (files_held os rows p) (one_more os rows p o.0) goes both_none.1 in
     rw (more, is) there
 
 by_other : (os : List (Opt Text)) (words : List Text) → Onward os words → (rows : List Row) (p : Option (Text × List Text)) (x : Waiting) (word : Text) (awaited : Bool) → IsAwaited os p x awaited
@@ -75,12 +75,12 @@ by_other : (os : List (Opt Text)) (words : List Text) → Onward os words → (r
 by_other os words go rows p x word true a more is none =
     let both_none = faults os (walk_at rows p x false) word words none in
     let goes = walk_other_word os rows p x word true a more is both_none.0 in
-    let there = after_word os words go (walked (known_rules os) [] (walk_at rows p x false) word) false (files_held os rows p) (is_used os rows p) goes both_none.1 in
+    let there = after_word os words go (walked (rules_with_help_and_files os) [] (walk_at rows p x false) word) false (files_held os rows p) (is_used os rows p) goes both_none.1 in
     rw (more, is) there
 by_other os words go rows p x word false a more is none =
     let both_none = faults os (walk_at rows p x false) word words none in
     let goes = walk_other_word os rows p x word false a more is both_none.0 in
-    let there = after_word os words go (walked (known_rules os) [] (walk_at rows p x false) word) false (files_held os rows p ++ word ∷ []) (is_used os rows p) goes both_none.1 ∙ append_assoc (files_held os rows p) (word ∷ []) (files_from os false words) in
+    let there = after_word os words go (walked (rules_with_help_and_files os) [] (walk_at rows p x false) word) false (files_held os rows p ++ word ∷ []) (is_used os rows p) goes both_none.1 ∙ append_assoc (files_held os rows p) (word ∷ []) (files_from os false words) in
     rw (more, is) there
 
 by_word : (os : List (Opt Text)) → list_all is_fit os ≡ true → (words : List Text) → Onward os words → (rows : List Row) (p : Option (Text × List Text)) (x : Waiting) (word : Text) (awaited : Bool) → IsAwaited os p x awaited
@@ -116,8 +116,8 @@ no_default rows true = refl
 no_default rows false = refl
 
 -- The files at the end of parsing.
-pub end_files : (os : List (Opt Text)) → list_all is_fit os ≡ true → (w : Walk) → grammars_of (finished (known_rules os) w.held) ≡ files_of os w
+pub end_files : (os : List (Opt Text)) → list_all is_fit os ≡ true → (w : Walk) → grammars_of (finished (rules_with_help_and_files os) w.held) ≡ files_of os w
 end_files os fit w =
-    let rows = settled_rows (known_rules os) w.held.pending w.held.rows in
+    let rows = settled_rows (rules_with_help_and_files os) w.held.pending w.held.rows in
     let first = no_default rows (has_row GRAMMARS.now rows) in
     ap (λ (r : List Row). grammars_of (fold with_default r (rules_with_help os))) first ∙ ap (λ (v : Option (List Text)). unwrap_or v []) (defaults_change_no_files os fit rows)

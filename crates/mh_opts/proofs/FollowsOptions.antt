@@ -23,7 +23,7 @@ use Rattle.mh_opts.specs.GivenOptions.{FollowsOptions, mode_among, mode_of}
 use Rattle.mh_opts.specs.Orders.{job_for, mode_at, only, order_for, order_in, order_of, order_renamed, present}
 use Rattle.mh_opts.specs.PosixReading.{is_use_of, is_used_in}
 use Rattle.mh_opts.specs.RepeatedOption.{again, is_end, is_reserved, is_use, renamed, renamed_from, seen_after}
-use Rattle.mh_opts.proofs.OptionLookup.{is_fit, known_rules}
+use Rattle.mh_opts.proofs.OptionLookup.{is_fit, rules_with_help_and_files}
 use Rattle.mh_opts.proofs.RowsAfterUse.{bytes_eq_false_sym, is_plain}
 use Rattle.mh_opts.proofs.UsesInWords.{end_given, is_used_in-end, is_used_in-step, walk_uses}
 use Rattle.mh_opts.proofs.OrderFiles.{Use, all_fit, all_same, bare, by_rows, chosen_order, no_names, not_renamed, shape_is, taken, use_alike, use_is, use_names, use_renamed, valued, words_of, words_taken}
@@ -32,8 +32,8 @@ use Rattle.mh_opts.proofs.OrderFiles.{Use, all_fit, all_same, bare, by_rows, cho
 
 found_uses : (words : List Text) → fault_of menhir_app words ≡ [] → (name : Text) → bytes_eq GRAMMARS.now name ≡ false → is_given name (matches_of menhir_app words) ≡ is_used_in name words
 found_uses words none name apart =
-    let w = walk (known_rules options) [] nothing_held words in
-    let rows : matches_of menhir_app words ≡ finished (known_rules options) w.held = rw (shape_is, no_names, words_of words) refl in
+    let w = walk (rules_with_help_and_files options) [] nothing_held words in
+    let rows : matches_of menhir_app words ≡ finished (rules_with_help_and_files options) w.held = rw (shape_is, no_names, words_of words) refl in
     ap (is_given name) rows ∙ end_given options name w ∙ walk_uses options all_fit name apart words [] None idle false refl (words_taken words none).0
 
 -- ---- Renaming the second use of one option changes no use of another option.

@@ -26,8 +26,9 @@ of_files = with_index 1 (filled grammars_rule)
 abbrev pub rules_with_help : List (Opt Text) → List Rule
 rules_with_help os = filled_from 2 (map option_rule os ++ help_rule ∷ [])
 
-abbrev pub known_rules : List (Opt Text) → List Rule
-known_rules os = of_files ∷ rules_with_help os
+-- All rules of the command: the rule of the grammar files, the rules of the options, and the rule of help.
+abbrev pub rules_with_help_and_files : List (Opt Text) → List Rule
+rules_with_help_and_files os = of_files ∷ rules_with_help os
 
 -- The option takes at most one value, and its name is not that of the argument for grammar files.
 abbrev pub is_fit : Opt Text → Bool
@@ -78,7 +79,7 @@ Found-long (o ∷ os) fit name rule e =
     let one = both (is_plain o.action) (not (bytes_eq o.name GRAMMARS.now)) parts.0 in
     found_step o os one.0 (is_false (bytes_eq o.name GRAMMARS.now) one.1) name rule (Found-long os parts.1 name rule) (bytes_eq o.name name) refl e
 
-pub by_id : (os : List (Opt Text)) (name : Text) (rule : Rule) → Found os name rule → arg_by_id (known_rules os) name ≡ Some rule
+pub by_id : (os : List (Opt Text)) (name : Text) (rule : Rule) → Found os name rule → arg_by_id (rules_with_help_and_files os) name ≡ Some rule
 by_id os name rule f = let other : bytes_eq GRAMMARS.now name ≡ false = bytes_eq_false_sym name GRAMMARS.now f.not_grammars in rw other f.by_id
 
 -- No option has a one-letter name.

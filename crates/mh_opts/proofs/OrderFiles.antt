@@ -21,12 +21,12 @@ use Rattle.mh_opts.specs.declared.repeated_option.SeenUses.{SeenUses}
 use Rattle.mh_opts.specs.declared.repeated_option.SeenUses.TheVariants.{Nothing, One, All}
 use Rattle.mh_opts.specs.App.{menhir_app}
 use Rattle.mh_opts.specs.Options.{late_needs, needs, options}
-use Rattle.mh_opts.specs.Orders.{clashes, comments_nothing, file_of, grammars_of, is_sample, job_for, lacks_number, lists_nothing, misplaced_in, mode_in, order_by, order_for, order_in, order_late, order_of, order_renamed, order_with, written, EqualsUnlessMemory, IsWithinLimits}
+use Rattle.mh_opts.specs.Orders.{clashes, misplaces_comment_expected, file_of, grammars_of, is_sample, job_for, lacks_number, misplaces_show_expected, misplaced_in, mode_in, order_if_one_mode, order_for, order_in, order_late, order_of, order_renamed, order_unless_misplaced, with_hyphens, EqualsUnlessMemory, IsWithinLimits}
 use Rattle.mh_opts.specs.Numbers.{at_most as up_to, max_length, number_in}
 use Rattle.mh_opts.specs.PosixReading.{at_most, awaits, files_from, files_in, is_listed, is_option, is_use_of, occurrences}
 use Rattle.mh_opts.specs.RepeatedOption.{again, is_end, is_reserved, is_use, renamed, renamed_from, seen_after, word_with}
 use Rattle.mh_opts.proofs.FilesInWords.{end_files, walk_files, walk_on}
-use Rattle.mh_opts.proofs.OptionLookup.{is_fit, known_rules}
+use Rattle.mh_opts.proofs.OptionLookup.{is_fit, rules_with_help_and_files}
 use Rattle.mh_opts.proofs.ClapWalk.{or_else_empty_second, or_else_empty_first, command_of, walk_at}
 use Rattle.mh_opts.proofs.SecondUseRefused.{at_most_once, IsOptionNamed-listed, one_if, occurrences-end, occurrences-step}
 use Rattle.mh_opts.proofs.SimpleCommand.{is_not_empty}
@@ -72,8 +72,8 @@ words_taken words none =
 
 found_files : (words : List Text) → fault_of menhir_app words ≡ [] → grammars_of (matches_of menhir_app words) ≡ files_in words
 found_files words none =
-    let w = walk (known_rules options) [] nothing_held words in
-    let rows : matches_of menhir_app words ≡ finished (known_rules options) w.held = rw (shape_is, no_names, words_of words) refl in
+    let w = walk (rules_with_help_and_files options) [] nothing_held words in
+    let rows : matches_of menhir_app words ≡ finished (rules_with_help_and_files options) w.held = rw (shape_is, no_names, words_of words) refl in
     ap grammars_of rows ∙ end_files options all_fit w ∙ walk_files options all_fit words [] None idle false refl (words_taken words none).0
 
 -- Lemmas on the order that the words spell.
@@ -93,21 +93,21 @@ late_is : (rows : List Row) (mode : JobKind) (option : Option Text) (order : Ord
 late_is rows mode (Some option) order e = cc
 late_is rows mode None order e =
     let with_grammar = (if not (is_sample mode) && is_empty (grammars_of rows) then Err NoGrammar else Ok (order_for rows mode)) in
-    let placed = chosen_order (comments_nothing rows mode) (Misplaced (written (codes "comment-expected"))) with_grammar order e in
+    let placed = chosen_order (misplaces_comment_expected rows mode) (Misplaced (with_hyphens (codes "comment-expected"))) with_grammar order e in
     let same = chosen_order (not (is_sample mode) && is_empty (grammars_of rows)) NoGrammar (Ok (order_for rows mode)) order placed in cc
 
-by_mode : (rows : List Row) (mode : JobKind) (option : Option Text) (order : Order) → order_with rows mode option ≡ Ok order → order_for rows mode ≡ order
+by_mode : (rows : List Row) (mode : JobKind) (option : Option Text) (order : Order) → order_unless_misplaced rows mode option ≡ Ok order → order_for rows mode ≡ order
 by_mode rows mode (Some option) order e = cc
 by_mode rows mode None order e =
-    let late = three (clashes rows mode) (is_sample mode && not (is_empty (grammars_of rows))) (lists_nothing rows) (Misplaced (written (codes "tables"))) (Misplaced (written (codes "sample"))) (Misplaced (written (codes "show-expected"))) (order_late rows mode (misplaced_in rows late_needs)) order e in
+    let late = three (clashes rows mode) (is_sample mode && not (is_empty (grammars_of rows))) (misplaces_show_expected rows) (Misplaced (with_hyphens (codes "tables"))) (Misplaced (with_hyphens (codes "sample"))) (Misplaced (with_hyphens (codes "show-expected"))) (order_late rows mode (misplaced_in rows late_needs)) order e in
     late_is rows mode (misplaced_in rows late_needs) order late
 
-by_modes : (rows : List Row) (mode : Result JobKind UsageFault) (order : Order) → order_by rows mode ≡ Ok order → (one : JobKind) × (mode ≡ Ok one) × (order_for rows one ≡ order)
+by_modes : (rows : List Row) (mode : Result JobKind UsageFault) (order : Order) → order_if_one_mode rows mode ≡ Ok order → (one : JobKind) × (mode ≡ Ok one) × (order_for rows one ≡ order)
 by_modes rows (Err fault) order e = cc
 by_modes rows (Ok mode) order e = (mode, refl, by_mode rows mode (misplaced_in rows needs) order e)
 
 pub by_rows : (rows : List Row) (order : Order) → order_in rows ≡ Ok order → (one : JobKind) × (mode_in rows options ≡ Ok one) × (order_for rows one ≡ order)
-by_rows rows order e = by_modes rows (mode_in rows options) order (chosen_order (lacks_number rows) Number (order_by rows (mode_in rows options)) order e)
+by_rows rows order e = by_modes rows (mode_in rows options) order (chosen_order (lacks_number rows) Number (order_if_one_mode rows (mode_in rows options)) order e)
 
 pub taken : (b : Bool) (r : Result Order UsageFault) (order : Order) → (if b then r else Err Parse) ≡ Ok order → (b ≡ true) × (r ≡ Ok order)
 taken true r order e = (refl, e)

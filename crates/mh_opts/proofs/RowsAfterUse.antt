@@ -23,7 +23,7 @@ bytes_eq_false_trans a b c e apart = subst (λ (t : Text). bytes_eq t c ≡ fals
 pub bytes_eq_false_sym : (a b : Text) → bytes_eq a b ≡ false → bytes_eq b a ≡ false
 bytes_eq_false_sym a b apart = false_from_ne_true (bytes_eq b a) (λ e. true≢false (sym ((bytes_eq-Decides a b).1 (sym ((bytes_eq-Decides b a).0 e))) ∙ apart))
 
--- The row of another argument.
+-- The rows of another argument: its values are the same after the use.
 
 later_row : (g : Text) (r : Row) (xs ys : List Row) → all_of g xs ≡ all_of g ys → all_of g (r ∷ xs) ≡ all_of g (r ∷ ys)
 later_row g r xs ys same = go (bytes_eq r.id g) refl
@@ -68,7 +68,7 @@ used_other Set plain id g how vs rows apart = with_other id g how CommandLine vs
 used_other SetTrue plain id g how vs rows apart = with_other id g how CommandLine vs (without id rows) apart ∙ without_other id g rows apart
 used_other action plain id g how vs rows apart = absurd (true≢false (sym plain))
 
--- The row of the argument itself.
+-- The row of the argument itself: `with_values` adds the new values after its old ones.
 
 own_step : (g : Text) (how : Reading) (s : ValueSource) (vs : List Text) (r : Row) (rs : List Row)
     → unwrap_or (all_of g (with_values g how s vs rs)) [] ≡ unwrap_or (all_of g rs) [] ++ vs → (b : Bool) → bytes_eq r.id g ≡ b
@@ -90,7 +90,7 @@ given_step n r rs = go (bytes_eq r.id n) refl
     go true e = rw e refl
     go false e = rw e refl
 
--- The row of a use.
+-- The row that a use of an argument on the command line makes, if the argument has no row.
 abbrev used_row : Text → Reading → List Text → Row
 used_row id how vs = record {
   id = id;

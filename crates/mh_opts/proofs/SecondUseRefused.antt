@@ -16,7 +16,7 @@ use Rattle.mh_opts.specs.declared.jobs.Opt.{Opt}
 use Rattle.mh_opts.specs.declared.jobs.TheConstants.{GRAMMARS}
 use Rattle.mh_opts.specs.PosixReading.{before_end, is_listed, is_use_of, occurrences}
 use Rattle.mh_opts.specs.RepeatedOption.{is_end}
-use Rattle.mh_opts.proofs.OptionLookup.{rules_with_help, Found-long, is_fit, known_rules, of_files, of_option}
+use Rattle.mh_opts.proofs.OptionLookup.{rules_with_help, Found-long, is_fit, rules_with_help_and_files, of_files, of_option}
 use Rattle.mh_opts.proofs.RowsAfterUse.{is_plain, bytes_eq_false_sym, given_has_row}
 use Rattle.mh_opts.proofs.FilesInWords.{faults, walk_on}
 use Rattle.mh_opts.proofs.ClapWalk.{AwaitsValue, IsWalkState, IsAwaited, or_else_empty_second, never_first, walk_end, or_else_empty_first, matches_so_far, is_used, no_help, one_more, walk_option, walk_other_word, plain_fault, command_of, walk_at, value_walked, word_fault, bare_walked}
@@ -26,7 +26,7 @@ use Rattle.mh_opts.proofs.ClapWalk.{AwaitsValue, IsWalkState, IsAwaited, or_else
 pub record IsOptionNamed (os : List (Opt Text)) (name : Text) : Type 0 where
   pub action : ArgAction
   pub plain : is_plain action ≡ true
-  pub long_name : arg_by_long (known_rules os) name ≡ Some (of_option name action)
+  pub long_name : arg_by_long (rules_with_help_and_files os) name ≡ Some (of_option name action)
   pub by_id : arg_by_id (rules_with_help os) name ≡ Some (of_option name action)
   pub not_grammars : bytes_eq name GRAMMARS.now ≡ false
 
@@ -59,7 +59,7 @@ IsOptionNamed-listed (o ∷ os) fit name listed =
     let one = both (is_plain o.action) (not (bytes_eq o.name GRAMMARS.now)) parts.0 in
     named_step o os name one.0 (is_false (bytes_eq o.name GRAMMARS.now) one.1) (IsOptionNamed-listed os parts.1 name) (bytes_eq o.name name) refl listed
 
-by_name : (os : List (Opt Text)) (name : Text) (n : IsOptionNamed os name) → arg_by_id (known_rules os) name ≡ Some (of_option name n.action)
+by_name : (os : List (Opt Text)) (name : Text) (n : IsOptionNamed os name) → arg_by_id (rules_with_help_and_files os) name ≡ Some (of_option name n.action)
 by_name os name n = let other : bytes_eq GRAMMARS.now name ≡ false = bytes_eq_false_sym name GRAMMARS.now n.not_grammars in rw other n.by_id
 
 -- Lemmas on a second use of an option.
@@ -68,7 +68,7 @@ not_none : {X : Type 0} (x : X) (xs : List X) → x ∷ xs ≡ [] → ⊥
 not_none x xs e = cc
 
 -- A flag has no value.
-no_value : (os : List (Opt Text)) (h : Held) (name v : Text) → long_fault (known_rules os) false (Some (of_option name SetTrue)) (Some v) h ≡ [] → ⊥
+no_value : (os : List (Opt Text)) (h : Held) (name v : Text) → long_fault (rules_with_help_and_files os) false (Some (of_option name SetTrue)) (Some v) h ≡ [] → ⊥
 no_value os h name v none = cc
 
 conflict : (name : Text) (action : ArgAction) → is_plain action ≡ true → (vs : List Text) (rows : List Row) → has_row name rows ≡ true → use_fault false (of_option name action) vs rows ≡ [] → ⊥
@@ -83,33 +83,33 @@ conflict name SetTrue plain vs rows has none =
 conflict name action plain vs rows has none = absurd (true≢false (sym plain))
 
 -- If the second use has its value still pending, then settling it is a fault.
-stuck : (os : List (Opt Text)) (name : Text) (n : IsOptionNamed os name) (rows : List Row) (vs : List Text) → has_row name rows ≡ true → settle_fault (known_rules os) false (matches_so_far rows (Some (name, vs))) ≡ [] → ⊥
+stuck : (os : List (Opt Text)) (name : Text) (n : IsOptionNamed os name) (rows : List Row) (vs : List Text) → has_row name rows ≡ true → settle_fault (rules_with_help_and_files os) false (matches_so_far rows (Some (name, vs))) ≡ [] → ⊥
 stuck os name n rows vs has none =
     let by = by_name os name n in
     conflict name n.action n.plain vs rows has (rw by at none)
 
 -- A use of another option first settles the pending value.
-by_plain : (os : List (Opt Text)) (h : Held) (name : Text) (action : ArgAction) (v : Option Text) → is_plain action ≡ true → long_fault (known_rules os) false (Some (of_option name action)) v h ≡ [] → settle_fault (known_rules os) false h ≡ []
-by_plain os h name Set (Some v) plain none = or_else_empty_first (settle_fault (known_rules os) false h) (use_fault false (of_option name Set) (v ∷ []) (settled (known_rules os) h).rows) none
+by_plain : (os : List (Opt Text)) (h : Held) (name : Text) (action : ArgAction) (v : Option Text) → is_plain action ≡ true → long_fault (rules_with_help_and_files os) false (Some (of_option name action)) v h ≡ [] → settle_fault (rules_with_help_and_files os) false h ≡ []
+by_plain os h name Set (Some v) plain none = or_else_empty_first (settle_fault (rules_with_help_and_files os) false h) (use_fault false (of_option name Set) (v ∷ []) (settled (rules_with_help_and_files os) h).rows) none
 by_plain os h name Set None plain none = none
 by_plain os h name SetTrue (Some v) plain none = absurd (no_value os h name v none)
-by_plain os h name SetTrue None plain none = or_else_empty_first (settle_fault (known_rules os) false h) (use_fault false (of_option name SetTrue) [] (settled (known_rules os) h).rows) none
+by_plain os h name SetTrue None plain none = or_else_empty_first (settle_fault (rules_with_help_and_files os) false h) (use_fault false (of_option name SetTrue) [] (settled (rules_with_help_and_files os) h).rows) none
 by_plain os h name action v plain none = absurd (true≢false (sym plain))
 
-settles : (os : List (Opt Text)) → list_all is_fit os ≡ true → (h : Held) (name : Text) (v : Option Text) (o : Option Rule) → arg_by_long (known_rules os) name ≡ o → long_fault (known_rules os) false o v h ≡ [] → settle_fault (known_rules os) false h ≡ []
+settles : (os : List (Opt Text)) → list_all is_fit os ≡ true → (h : Held) (name : Text) (v : Option Text) (o : Option Rule) → arg_by_long (rules_with_help_and_files os) name ≡ o → long_fault (rules_with_help_and_files os) false o v h ≡ [] → settle_fault (rules_with_help_and_files os) false h ≡ []
 settles os fit h name v None at none = cc
 settles os fit h name v (Some rule) at none = elim (Found-long os fit name rule at) [
-  | inl f ↦ by_plain os h name f.action v f.plain (subst (λ (r : Rule). long_fault (known_rules os) false (Some r) v h ≡ []) f.is none)
-  | inr is ↦ absurd (no_help os h v (subst (λ (r : Rule). long_fault (known_rules os) false (Some r) v h ≡ []) is none))
+  | inl f ↦ by_plain os h name f.action v f.plain (subst (λ (r : Rule). long_fault (rules_with_help_and_files os) false (Some r) v h ≡ []) f.is none)
+  | inr is ↦ absurd (no_help os h v (subst (λ (r : Rule). long_fault (rules_with_help_and_files os) false (Some r) v h ≡ []) is none))
 ]
 
 -- A file also first settles the pending value.
-file_settles : (os : List (Opt Text)) (rows : List Row) (p : Option (Text × List Text)) → positional_fault (known_rules os) false of_files (matches_so_far rows p) ≡ [] → settle_fault (known_rules os) false (matches_so_far rows p) ≡ []
-file_settles os rows p none = sym (never_first (is_pending of_files p) [] (settle_fault (known_rules os) false (matches_so_far rows p))) ∙ none
+file_settles : (os : List (Opt Text)) (rows : List Row) (p : Option (Text × List Text)) → positional_fault (rules_with_help_and_files os) false of_files (matches_so_far rows p) ≡ [] → settle_fault (rules_with_help_and_files os) false (matches_so_far rows p) ≡ []
+file_settles os rows p none = sym (never_first (is_pending of_files p) [] (settle_fault (rules_with_help_and_files os) false (matches_so_far rows p))) ∙ none
 
 -- After `--`, words are refused if a second use is pending.
 stuck_behind : (os : List (Opt Text)) (name : Text) (n : IsOptionNamed os name) (words : List Text) (rows : List Row) (vs : List Text) (x : Waiting) → has_row name rows ≡ true
-    → walk_fault (command_of os) [] (walk_at rows (Some (name, vs)) x true) words ≡ [] → settle_fault (known_rules os) false (walk_on os (walk_at rows (Some (name, vs)) x true) words).held ≡ [] → ⊥
+    → walk_fault (command_of os) [] (walk_at rows (Some (name, vs)) x true) words ≡ [] → settle_fault (rules_with_help_and_files os) false (walk_on os (walk_at rows (Some (name, vs)) x true) words).held ≡ [] → ⊥
 stuck_behind os name n [] rows vs x has none ends = stuck os name n rows vs has ends
 stuck_behind os name n (word ∷ words) rows vs x has none ends =
     let now = (faults os (walk_at rows (Some (name, vs)) x true) word words none).0 in
@@ -118,14 +118,14 @@ stuck_behind os name n (word ∷ words) rows vs x has none ends =
 -- The words are refused whenever a second use of this option is pending before them.
 abbrev IsStuck : List (Opt Text) → Text → List Text → Type 0
 IsStuck os name words = (rows : List Row) (vs : List Text) (x : Waiting) (awaited : Bool) → IsAwaited os (Some (name, vs)) x awaited → has_row name rows ≡ true
-    → walk_fault (command_of os) [] (walk_at rows (Some (name, vs)) x false) words ≡ [] → settle_fault (known_rules os) false (walk_on os (walk_at rows (Some (name, vs)) x false) words).held ≡ [] → ⊥
+    → walk_fault (command_of os) [] (walk_at rows (Some (name, vs)) x false) words ≡ [] → settle_fault (rules_with_help_and_files os) false (walk_on os (walk_at rows (Some (name, vs)) x false) words).held ≡ [] → ⊥
 
 same_name : (o : Option (Text × List Text)) (x y : Text) (vs ws : List Text) → o ≡ Some (x, vs) → o ≡ Some (y, ws) → x ≡ y
 same_name o x y vs ws e f = ap (λ (q : Option (Text × List Text)). (unwrap_or q (x, vs)).0) (sym e ∙ f)
 
 stuck_other : (os : List (Opt Text)) (name : Text) (n : IsOptionNamed os name) (word : Text) (words : List Text) → IsStuck os name words
     → (rows : List Row) (vs : List Text) (x : Waiting) (awaited : Bool) → IsAwaited os (Some (name, vs)) x awaited → has_row name rows ≡ true → is_end word ≡ false → long_of word ≡ None
-    → walk_fault (command_of os) [] (walk_at rows (Some (name, vs)) x false) (word ∷ words) ≡ [] → settle_fault (known_rules os) false (walk_on os (walk_at rows (Some (name, vs)) x false) (word ∷ words)).held ≡ [] → ⊥
+    → walk_fault (command_of os) [] (walk_at rows (Some (name, vs)) x false) (word ∷ words) ≡ [] → settle_fault (rules_with_help_and_files os) false (walk_on os (walk_at rows (Some (name, vs)) x false) (word ∷ words)).held ≡ [] → ⊥
 stuck_other os name n word words go rows vs idle awaited a has more is none ends =
     stuck os name n rows vs has (file_settles os rows (Some (name, vs)) (plain_fault os rows (Some (name, vs)) idle word refl more is (faults os (walk_at rows (Some (name, vs)) idle false) word words none).0))
 stuck_other os name n word words go rows vs positional awaited a has more is none ends =
@@ -135,20 +135,20 @@ stuck_other os name n word words go rows vs (option id) awaited a has more is no
     let same = same_name (Some (name, vs)) name id vs [] refl a.no_value in
     let next = value_walked os rows (Some (name, vs)) id word awaited a more is parts.0 in
     let again : walk_at rows (Some (id, word ∷ [])) idle false ≡ walk_at rows (Some (name, word ∷ [])) idle false = ap (λ (i : Text). walk_at rows (Some (i, word ∷ [])) idle false) (sym same) in
-    let there : walked (known_rules os) [] (walk_at rows (Some (name, vs)) (option id) false) word ≡ walk_at rows (Some (name, word ∷ [])) idle false = next ∙ again in
-    go rows (word ∷ []) idle false refl has (subst (λ (w : Walk). walk_fault (command_of os) [] w words ≡ []) there parts.1) (subst (λ (w : Walk). settle_fault (known_rules os) false (walk_on os w words).held ≡ []) there ends)
+    let there : walked (rules_with_help_and_files os) [] (walk_at rows (Some (name, vs)) (option id) false) word ≡ walk_at rows (Some (name, word ∷ [])) idle false = next ∙ again in
+    go rows (word ∷ []) idle false refl has (subst (λ (w : Walk). walk_fault (command_of os) [] w words ≡ []) there parts.1) (subst (λ (w : Walk). settle_fault (rules_with_help_and_files os) false (walk_on os w words).held ≡ []) there ends)
 
 stuck_by : (os : List (Opt Text)) → list_all is_fit os ≡ true → (name : Text) (n : IsOptionNamed os name) (word : Text) (words : List Text) → IsStuck os name words
     → (rows : List Row) (vs : List Text) (x : Waiting) (awaited : Bool) → IsAwaited os (Some (name, vs)) x awaited → has_row name rows ≡ true
-    → walk_fault (command_of os) [] (walk_at rows (Some (name, vs)) x false) (word ∷ words) ≡ [] → settle_fault (known_rules os) false (walk_on os (walk_at rows (Some (name, vs)) x false) (word ∷ words)).held ≡ []
+    → walk_fault (command_of os) [] (walk_at rows (Some (name, vs)) x false) (word ∷ words) ≡ [] → settle_fault (rules_with_help_and_files os) false (walk_on os (walk_at rows (Some (name, vs)) x false) (word ∷ words)).held ≡ []
     → (b : Bool) → is_end word ≡ b → (o : Option (Text × Option Text)) → long_of word ≡ o → ⊥
 stuck_by os fit name n word words go rows vs x awaited a has none ends true e o is =
     let there = walk_end os rows (Some (name, vs)) x word e in
     let parts = faults os (walk_at rows (Some (name, vs)) x false) word words none in
-    stuck_behind os name n words rows vs x has (subst (λ (w : Walk). walk_fault (command_of os) [] w words ≡ []) there parts.1) (subst (λ (w : Walk). settle_fault (known_rules os) false (walk_on os w words).held ≡ []) there ends)
+    stuck_behind os name n words rows vs x has (subst (λ (w : Walk). walk_fault (command_of os) [] w words ≡ []) there parts.1) (subst (λ (w : Walk). settle_fault (rules_with_help_and_files os) false (walk_on os w words).held ≡ []) there ends)
 stuck_by os fit name n word words go rows vs x awaited a has none ends false e (Some o) is =
     let now = word_fault os rows (Some (name, vs)) x word e (faults os (walk_at rows (Some (name, vs)) x false) word words none).0 in
-    stuck os name n rows vs has (settles os fit (matches_so_far rows (Some (name, vs))) o.0 o.1 (arg_by_long (known_rules os) o.0) refl (rw is at now))
+    stuck os name n rows vs has (settles os fit (matches_so_far rows (Some (name, vs))) o.0 o.1 (arg_by_long (rules_with_help_and_files os) o.0) refl (rw is at now))
 stuck_by os fit name n word words go rows vs x awaited a has none ends false e None is = stuck_other os name n word words go rows vs x awaited a has e is none ends
 
 is_stuck : (os : List (Opt Text)) → list_all is_fit os ≡ true → (name : Text) (n : IsOptionNamed os name) (words : List Text) → IsStuck os name words
@@ -159,20 +159,20 @@ is_stuck os fit name n (word ∷ words) rows vs x awaited a has none ends =
 -- A second use of an option is refused at once, or leaves a pending value that is refused later.
 used_again : (os : List (Opt Text)) → list_all is_fit os ≡ true → (name : Text) (action : ArgAction) → is_plain action ≡ true → (n : IsOptionNamed os name) → n.action ≡ action → (word : Text) (v : Option Text) (words : List Text)
     → (rows : List Row) (p : Option (Text × List Text)) (x : Waiting) → is_used os rows p name ≡ true → is_end word ≡ false → long_of word ≡ Some (name, v)
-    → walk_fault (command_of os) [] (walk_at rows p x false) (word ∷ words) ≡ [] → settle_fault (known_rules os) false (walk_on os (walk_at rows p x false) (word ∷ words)).held ≡ []
-    → long_fault (known_rules os) false (Some (of_option name action)) v (matches_so_far rows p) ≡ [] → ⊥
+    → walk_fault (command_of os) [] (walk_at rows p x false) (word ∷ words) ≡ [] → settle_fault (rules_with_help_and_files os) false (walk_on os (walk_at rows p x false) (word ∷ words)).held ≡ []
+    → long_fault (rules_with_help_and_files os) false (Some (of_option name action)) v (matches_so_far rows p) ≡ [] → ⊥
 used_again os fit name Set plain n same word (Some v) words rows p x used more is none ends fault =
-    conflict name Set refl (v ∷ []) (settled_rows (known_rules os) p rows) (given_has_row name (settled_rows (known_rules os) p rows) used) (or_else_empty_second (settle_fault (known_rules os) false (matches_so_far rows p)) (use_fault false (of_option name Set) (v ∷ []) (settled_rows (known_rules os) p rows)) fault)
+    conflict name Set refl (v ∷ []) (settled_rows (rules_with_help_and_files os) p rows) (given_has_row name (settled_rows (rules_with_help_and_files os) p rows) used) (or_else_empty_second (settle_fault (rules_with_help_and_files os) false (matches_so_far rows p)) (use_fault false (of_option name Set) (v ∷ []) (settled_rows (rules_with_help_and_files os) p rows)) fault)
 used_again os fit name Set plain n same word None words rows p x used more is none ends fault =
     let there = bare_walked os rows p x word name (n.long_name ∙ ap (λ (a : ArgAction). Some (of_option name a)) same) more is in
     let parts = faults os (walk_at rows p x false) word words none in
-    let by : arg_by_id (known_rules os) name ≡ Some (of_option name Set) = by_name os name n ∙ ap (λ (a : ArgAction). Some (of_option name a)) same in
-    is_stuck os fit name n words (settled_rows (known_rules os) p rows) [] (option name) true (record { is_awaited = refl; no_value = refl; rule_is = by; not_grammars = n.not_grammars })
-    (given_has_row name (settled_rows (known_rules os) p rows) used)
-    (subst (λ (w : Walk). walk_fault (command_of os) [] w words ≡ []) there parts.1) (subst (λ (w : Walk). settle_fault (known_rules os) false (walk_on os w words).held ≡ []) there ends)
+    let by : arg_by_id (rules_with_help_and_files os) name ≡ Some (of_option name Set) = by_name os name n ∙ ap (λ (a : ArgAction). Some (of_option name a)) same in
+    is_stuck os fit name n words (settled_rows (rules_with_help_and_files os) p rows) [] (option name) true (record { is_awaited = refl; no_value = refl; rule_is = by; not_grammars = n.not_grammars })
+    (given_has_row name (settled_rows (rules_with_help_and_files os) p rows) used)
+    (subst (λ (w : Walk). walk_fault (command_of os) [] w words ≡ []) there parts.1) (subst (λ (w : Walk). settle_fault (rules_with_help_and_files os) false (walk_on os w words).held ≡ []) there ends)
 used_again os fit name SetTrue plain n same word (Some v) words rows p x used more is none ends fault = no_value os (matches_so_far rows p) name v fault
 used_again os fit name SetTrue plain n same word None words rows p x used more is none ends fault =
-    conflict name SetTrue refl [] (settled_rows (known_rules os) p rows) (given_has_row name (settled_rows (known_rules os) p rows) used) (or_else_empty_second (settle_fault (known_rules os) false (matches_so_far rows p)) (use_fault false (of_option name SetTrue) [] (settled_rows (known_rules os) p rows)) fault)
+    conflict name SetTrue refl [] (settled_rows (rules_with_help_and_files os) p rows) (given_has_row name (settled_rows (rules_with_help_and_files os) p rows) used) (or_else_empty_second (settle_fault (rules_with_help_and_files os) false (matches_so_far rows p)) (use_fault false (of_option name SetTrue) [] (settled_rows (rules_with_help_and_files os) p rows)) fault)
 used_again os fit name action plain n same word v words rows p x used more is none ends fault = absurd (true≢false (sym plain))
 
 -- Lemmas on at most one use of an option.
@@ -182,7 +182,7 @@ one_if b = if b then 1 else 0
 
 abbrev AtMostOnce : List (Opt Text) → Text → List Text → Type 0
 AtMostOnce os name words = (rows : List Row) (p : Option (Text × List Text)) (x : Waiting) (awaited : Bool) → IsAwaited os p x awaited
-    → walk_fault (command_of os) [] (walk_at rows p x false) words ≡ [] → settle_fault (known_rules os) false (walk_on os (walk_at rows p x false) words).held ≡ [] → one_if (is_used os rows p name) + occurrences name words ≤ 1
+    → walk_fault (command_of os) [] (walk_at rows p x false) words ≡ [] → settle_fault (rules_with_help_and_files os) false (walk_on os (walk_at rows p x false) words).held ≡ [] → one_if (is_used os rows p name) + occurrences name words ≤ 1
 
 no_more : (b : Bool) → one_if b + 0 ≤ 1
 no_more true = omega arith
@@ -190,9 +190,9 @@ no_more false = omega arith
 
 -- Lemmas on the words after one word.
 onward : (os : List (Opt Text)) (name : Text) (words : List Text) → bytes_eq GRAMMARS.now name ≡ false → AtMostOnce os name words → (w : Walk) (awaited : Bool) (files : List Text) (uses : Text → Bool) → IsWalkState os w awaited files uses
-    → walk_fault (command_of os) [] w words ≡ [] → settle_fault (known_rules os) false (walk_on os w words).held ≡ [] → one_if (uses name) + occurrences name words ≤ 1
+    → walk_fault (command_of os) [] w words ≡ [] → settle_fault (rules_with_help_and_files os) false (walk_on os w words).held ≡ [] → one_if (uses name) + occurrences name words ≤ 1
 onward os name words other go w awaited files uses g none ends =
-    let there = go g.rows g.pending g.waiting awaited g.awaits (subst (λ (v : Walk). walk_fault (command_of os) [] v words ≡ []) g.is none) (subst (λ (v : Walk). settle_fault (known_rules os) false (walk_on os v words).held ≡ []) g.is ends) in
+    let there = go g.rows g.pending g.waiting awaited g.awaits (subst (λ (v : Walk). walk_fault (command_of os) [] v words ≡ []) g.is none) (subst (λ (v : Walk). settle_fault (rules_with_help_and_files os) false (walk_on os v words).held ≡ []) g.is ends) in
     subst (λ (b : Bool). one_if b + occurrences name words ≤ 1) (g.used name other) there
 
 -- How one word is counted.
@@ -220,38 +220,38 @@ module _ (os : List (Opt Text)) (fit : list_all is_fit os ≡ true) (name : Text
   no_file = bytes_eq_false_sym name GRAMMARS.now n.not_grammars
 
   by_option : (rows : List Row) (p : Option (Text × List Text)) (x : Waiting) (o : Text × Option Text) → is_end word ≡ false → long_of word ≡ Some o
-      → walk_fault (command_of os) [] (walk_at rows p x false) (word ∷ words) ≡ [] → settle_fault (known_rules os) false (walk_on os (walk_at rows p x false) (word ∷ words)).held ≡ []
+      → walk_fault (command_of os) [] (walk_at rows p x false) (word ∷ words) ≡ [] → settle_fault (rules_with_help_and_files os) false (walk_on os (walk_at rows p x false) (word ∷ words)).held ≡ []
       → (b : Bool) → bytes_eq o.0 name ≡ b → one_if (is_used os rows p name) + occurrences name (word ∷ words) ≤ 1
   by_option rows p x o more is none ends true e =
       let parts = faults os (walk_at rows p x false) word words none in
       let g = walk_option os fit rows p x word o more is parts.0 in
-      let later = onward os name words no_file go (walked (known_rules os) [] (walk_at rows p x false) word) _ _ (one_more os rows p o.0) g parts.1 ends in
+      let later = onward os name words no_file go (walked (rules_with_help_and_files os) [] (walk_at rows p x false) word) _ _ (one_more os rows p o.0) g parts.1 ends in
       let after : 1 + occurrences name words ≤ 1 = rw e at later in
       let same : o.0 ≡ name = (bytes_eq-Decides o.0 name).0 e in
       let is_name : long_of word ≡ Some (name, o.1) = is ∙ ap (λ (t : Text). Some (t, o.1)) same in
       let now = word_fault os rows p x word more parts.0 in
-      let long : long_fault (known_rules os) false (arg_by_long (known_rules os) name) o.1 (matches_so_far rows p) ≡ [] = rw is_name at now in
-      let fault : long_fault (known_rules os) false (Some (of_option name n.action)) o.1 (matches_so_far rows p) ≡ [] = subst (λ (r : Option Rule). long_fault (known_rules os) false r o.1 (matches_so_far rows p) ≡ []) n.long_name long in
+      let long : long_fault (rules_with_help_and_files os) false (arg_by_long (rules_with_help_and_files os) name) o.1 (matches_so_far rows p) ≡ [] = rw is_name at now in
+      let fault : long_fault (rules_with_help_and_files os) false (Some (of_option name n.action)) o.1 (matches_so_far rows p) ≡ [] = subst (λ (r : Option Rule). long_fault (rules_with_help_and_files os) false r o.1 (matches_so_far rows p) ≡ []) n.long_name long in
       let once = by_use (occurrences name words) (is_used os rows p name) (λ used. used_again os fit name n.action n.plain n refl word o.1 words rows p x used more is_name none ends fault) after in
       let used_here : is_use_of name word ≡ true = rw is e in
       one_here (one_if (is_used os rows p name)) (occurrences name (word ∷ words)) (one_if (is_use_of name word)) (occurrences name words) (occurrences-step name word words more) (ap one_if used_here) once
   by_option rows p x o more is none ends false e =
       let parts = faults os (walk_at rows p x false) word words none in
       let g = walk_option os fit rows p x word o more is parts.0 in
-      let later = onward os name words no_file go (walked (known_rules os) [] (walk_at rows p x false) word) _ _ (one_more os rows p o.0) g parts.1 ends in
+      let later = onward os name words no_file go (walked (rules_with_help_and_files os) [] (walk_at rows p x false) word) _ _ (one_more os rows p o.0) g parts.1 ends in
       let after : one_if (is_used os rows p name) + occurrences name words ≤ 1 = rw e at later in
       let not_here : is_use_of name word ≡ false = rw is e in
       none_here (one_if (is_used os rows p name)) (occurrences name (word ∷ words)) (one_if (is_use_of name word)) (occurrences name words) (occurrences-step name word words more) (ap one_if not_here) after
 
   by_word : (rows : List Row) (p : Option (Text × List Text)) (x : Waiting) (awaited : Bool) → IsAwaited os p x awaited
-      → walk_fault (command_of os) [] (walk_at rows p x false) (word ∷ words) ≡ [] → settle_fault (known_rules os) false (walk_on os (walk_at rows p x false) (word ∷ words)).held ≡ []
+      → walk_fault (command_of os) [] (walk_at rows p x false) (word ∷ words) ≡ [] → settle_fault (rules_with_help_and_files os) false (walk_on os (walk_at rows p x false) (word ∷ words)).held ≡ []
       → (b : Bool) → is_end word ≡ b → (o : Option (Text × Option Text)) → long_of word ≡ o → one_if (is_used os rows p name) + occurrences name (word ∷ words) ≤ 1
   by_word rows p x awaited a none ends true e o is = end_here (one_if (is_used os rows p name)) (occurrences name (word ∷ words)) (occurrences-end name word words e) (no_more (is_used os rows p name))
   by_word rows p x awaited a none ends false e (Some o) is = by_option rows p x o e is none ends (bytes_eq o.0 name) refl
   by_word rows p x awaited a none ends false e None is =
       let parts = faults os (walk_at rows p x false) word words none in
       let g = walk_other_word os rows p x word awaited a e is parts.0 in
-      let later = onward os name words no_file go (walked (known_rules os) [] (walk_at rows p x false) word) _ _ (is_used os rows p) g parts.1 ends in
+      let later = onward os name words no_file go (walked (rules_with_help_and_files os) [] (walk_at rows p x false) word) _ _ (is_used os rows p) g parts.1 ends in
       let not_here : is_use_of name word ≡ false = rw is refl in
       none_here (one_if (is_used os rows p name)) (occurrences name (word ∷ words)) (one_if (is_use_of name word)) (occurrences name words) (occurrences-step name word words e) (ap one_if not_here) later
 

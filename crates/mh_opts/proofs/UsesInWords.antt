@@ -9,7 +9,7 @@ use Rattle.mh_opts.specs.declared.jobs.Opt.{Opt}
 use Rattle.mh_opts.specs.declared.jobs.TheConstants.{GRAMMARS}
 use Rattle.mh_opts.specs.PosixReading.{is_use_of, is_used_in}
 use Rattle.mh_opts.specs.RepeatedOption.{is_end}
-use Rattle.mh_opts.proofs.OptionLookup.{is_fit, known_rules}
+use Rattle.mh_opts.proofs.OptionLookup.{is_fit, rules_with_help_and_files}
 use Rattle.mh_opts.proofs.RowsAfterUse.{defaults_give_nothing}
 use Rattle.mh_opts.proofs.FilesInWords.{faults, walk_on}
 use Rattle.mh_opts.proofs.ClapWalk.{IsAwaited, IsWalkState, command_of, file_used, is_used, walk_after_end, walk_at, walk_end, walk_option, walk_other_word}
@@ -39,7 +39,7 @@ module _ (os : List (Opt Text)) (name : Text) (apart : bytes_eq GRAMMARS.now nam
   used_after_end : (words : List Text) (rows : List Row) (p : Option (Text × List Text)) (x : Waiting) → used_at os name (walk_on os (walk_at rows p x true) words) ≡ is_used os rows p name
   used_after_end [] rows p x = refl
   used_after_end (word ∷ words) rows p x =
-      let so_far = settled_rows (known_rules os) p rows in
+      let so_far = settled_rows (rules_with_help_and_files os) p rows in
       ap (λ (w : Walk). used_at os name (walk_on os w words)) (walk_after_end os rows p x word)
       ∙ used_after_end words so_far (Some (GRAMMARS.now, word ∷ [])) positional
       ∙ file_used os so_far word name apart
@@ -68,7 +68,7 @@ module _ (os : List (Opt Text)) (name : Text) (apart : bytes_eq GRAMMARS.now nam
     by_option o more is none =
         let parts = faults os (walk_at rows p x false) word words none in
         let g = walk_option os fit rows p x word o more is parts.0 in
-        let there = after_word words go (walked (known_rules os) [] (walk_at rows p x false) word) _ _ _ g parts.1 in
+        let there = after_word words go (walked (rules_with_help_and_files os) [] (walk_at rows p x false) word) _ _ _ g parts.1 in
         let here : is_use_of name word ≡ bytes_eq o.0 name = rw is refl in
         there ∙ one_of_three (bytes_eq o.0 name) (is_used os rows p name) (is_used_in name words)
         ∙ sym (ap (λ (b : Bool). is_used os rows p name || b) (is_used_in-step name word words more ∙ ap (λ (b : Bool). b || is_used_in name words) here))
@@ -77,7 +77,7 @@ module _ (os : List (Opt Text)) (name : Text) (apart : bytes_eq GRAMMARS.now nam
     by_other awaited a more is none =
         let parts = faults os (walk_at rows p x false) word words none in
         let g = walk_other_word os rows p x word awaited a more is parts.0 in
-        let there = after_word words go (walked (known_rules os) [] (walk_at rows p x false) word) _ _ _ g parts.1 in
+        let there = after_word words go (walked (rules_with_help_and_files os) [] (walk_at rows p x false) word) _ _ _ g parts.1 in
         let here : is_use_of name word ≡ false = rw is refl in
         there ∙ sym (ap (λ (b : Bool). is_used os rows p name || b) (is_used_in-step name word words more ∙ ap (λ (b : Bool). b || is_used_in name words) here))
 
@@ -97,5 +97,5 @@ defaults_kept name [] rows = refl
 defaults_kept name (rule ∷ rules) rows = defaults_kept name rules (with_default rows rule) ∙ defaults_give_nothing name rows rule
 
 -- The options that the words give at the end of parsing.
-pub end_given : (os : List (Opt Text)) (name : Text) (w : Walk) → is_given name (finished (known_rules os) w.held) ≡ used_at os name w
-end_given os name w = defaults_kept name (known_rules os) (settled_rows (known_rules os) w.held.pending w.held.rows)
+pub end_given : (os : List (Opt Text)) (name : Text) (w : Walk) → is_given name (finished (rules_with_help_and_files os) w.held) ≡ used_at os name w
+end_given os name w = defaults_kept name (rules_with_help_and_files os) (settled_rows (rules_with_help_and_files os) w.held.pending w.held.rows)

@@ -39,8 +39,8 @@ mode_among words option = if is_used_in option.name words then option.mode else 
 abbrev pub modes_among : List Text → List JobKind
 modes_among words = present (map (mode_among words) options)
 
--- One option among the words selects a mode, which is that of the order. The order has each setting exactly if its
--- option is among the words.
+-- Exactly one option among the words selects a mode, and this mode is the mode of the order. The order has the setting
+-- `stdlib` exactly if `--no-stdlib` is not among the words, and each other setting exactly if its option is among them.
 pub record FollowsOptions (words : List Text) (order : Order) : Type 0 where
   pub job : modes_among words ≡ mode_of order.job ∷ []
   pub canonical : order.canonical ≡ is_used_in (codes "canonical") words

@@ -6,7 +6,7 @@ use Rattle.std.specs.List.{list_all}
 use Rattle.clap.specs.Walk.{is_empty}
 use Rattle.clap.specs.Words.{Text}
 
--- The value of a number and the digits that follow it.
+-- The value of a numeral that begins with digits of the value n and ends with the given digits.
 abbrev pub value_after : ℕ → Text → ℕ
 value_after n [] = n
 value_after n (digit ∷ digits) = value_after (10 * n + (digit - 48)) digits

@@ -1,5 +1,6 @@
--- The definition of the order that the words of the command line spell, by the options. The rules are this project's
--- own; clap's definition says which words a command accepts and how they match.
+-- An order is a parsed command line: the job of the tool, with its settings. The definition says which order the words
+-- of the command line give, or which usage fault they have. The rules are this project's own; clap's definition says
+-- which words a command accepts and how they match.
 use Rattle.std.specs.Prelude.{◌≡◌, ◌≤◌, ℕ, ◌++◌, is_none, Bool, true, false, not, ◌&&◌, ◌||◌, List, [], ◌∷◌, Option, Some, None, Result, Ok, Err, codes, map, unwrap_or, if◌then◌else◌}
 use Rattle.clap.specs.Words.{Row, Text, all_of, first_of, fault_of, matches_of}
 use Rattle.clap.specs.Walk.{is_empty}
@@ -55,7 +56,7 @@ seed_of rows = number_in 19 (file_of rows (codes "random-sentence"))
 abbrev pub length_of : List Row → Option ℕ
 length_of rows = length_in (file_of rows (codes "length"))
 
--- An option that takes a number is given without a number of its form.
+-- An option that takes a number is given, but its value is not a number that this option allows.
 abbrev pub lacks_number : List Row → Bool
 lacks_number rows =
     (is_given (codes "sample") rows && is_none (number_of rows)) || ((is_given (codes "random-sentence") rows && is_none (seed_of rows)) || (is_given (codes "length") rows && is_none (length_of rows)))
@@ -79,9 +80,9 @@ job_for rows mode.CheckErrors = job.CheckErrors (file_of rows (codes "check-erro
 job_for rows mode.EchoErrors = job.EchoErrors (file_of rows (codes "echo-errors"))
 job_for rows mode.CompareErrors = job.CompareErrors (file_of rows (codes "compare-errors")) (file_of rows (codes "compare-errors-2"))
 
--- An option with its two hyphens.
-abbrev pub written : Text → Text
-written option = codes "--" ++ option
+-- The name of an option, with two hyphens before it.
+abbrev pub with_hyphens : Text → Text
+with_hyphens option = codes "--" ++ option
 
 -- A need with its names as texts.
 abbrev pub plain_need : {N : Type 0} → Need N → (N → Text) → Need Text
@@ -103,6 +104,7 @@ misplaced_in rows (need ∷ more) = if lacks rows need then Some need.option els
 abbrev pub grammars_of : List Row → List Text
 grammars_of rows = unwrap_or (all_of GRAMMARS.now rows) []
 
+-- The order with the job of this mode and the values of all other options.
 abbrev pub order_for : List Row → JobKind → Order
 order_for rows mode = record {
   job = job_for rows mode;
@@ -121,13 +123,13 @@ abbrev pub is_sample : JobKind → Bool
 is_sample mode.Sample = true
 is_sample mode = false
 
--- A table file has no meaning with a canonical table, because that is built, nor with a sample.
+-- A table file is given where it has no meaning: with a canonical table, because this table is built, or with a sample.
 abbrev pub clashes : List Row → JobKind → Bool
 clashes rows mode = is_given (codes "tables") rows && (is_given (codes "canonical") rows || is_sample mode)
 
--- The option `--show-expected` has no meaning without `--interpret`, nor with `--messages`.
-abbrev pub lists_nothing : List Row → Bool
-lists_nothing rows = is_given (codes "show-expected") rows && (not (is_given (codes "interpret") rows) || is_given (codes "messages") rows)
+-- The option `--show-expected` is given where it has no meaning: without `--interpret`, or with `--messages`.
+abbrev pub misplaces_show_expected : List Row → Bool
+misplaces_show_expected rows = is_given (codes "show-expected") rows && (not (is_given (codes "interpret") rows) || is_given (codes "messages") rows)
 
 -- The mode writes comment lines of failing sentences.
 abbrev pub writes_comments : JobKind → Bool
@@ -137,32 +139,37 @@ writes_comments mode.RebaseErrors = true
 writes_comments mode.InterpretError = true
 writes_comments mode = false
 
--- The option `--comment-expected` has no meaning in a mode without comment lines.
-abbrev pub comments_nothing : List Row → JobKind → Bool
-comments_nothing rows mode = is_given (codes "comment-expected") rows && not (writes_comments mode)
+-- The option `--comment-expected` is given in a mode that writes no comment lines, where it has no meaning.
+abbrev pub misplaces_comment_expected : List Row → JobKind → Bool
+misplaces_comment_expected rows mode = is_given (codes "comment-expected") rows && not (writes_comments mode)
 
--- The last checks of an order: the late needs, comment lines, and a grammar file for every mode but a sample.
+-- The order of the mode, or the fault of the last checks. The option, if there is one, is the first that is given
+-- without the option that it needs (`late_needs`). The other checks: comment lines, and a grammar file for every mode
+-- but a sample.
 abbrev pub order_late : List Row → JobKind → Option Text → Result Order UsageFault
-order_late rows mode (Some option) = Err (Misplaced (written option))
+order_late rows mode (Some option) = Err (Misplaced (with_hyphens option))
 order_late rows mode None =
-    if comments_nothing rows mode then Err (Misplaced (written (codes "comment-expected"))) else (if not (is_sample mode) && is_empty (grammars_of rows) then Err NoGrammar else Ok (order_for rows mode))
+    if misplaces_comment_expected rows mode then Err (Misplaced (with_hyphens (codes "comment-expected"))) else (if not (is_sample mode) && is_empty (grammars_of rows) then Err NoGrammar else Ok (order_for rows mode))
 
--- A sample has its own grammar; every other mode needs a grammar file.
-abbrev pub order_with : List Row → JobKind → Option Text → Result Order UsageFault
-order_with rows mode (Some option) = Err (Misplaced (written option))
-order_with rows mode None =
-    if clashes rows mode then Err (Misplaced (written (codes "tables"))) else (if is_sample mode && not (is_empty (grammars_of rows)) then Err (Misplaced (written (codes "sample"))) else (if lists_nothing rows then Err (Misplaced (written (codes "show-expected"))) else order_late rows mode (misplaced_in rows late_needs)))
+-- The order of the mode, or the first fault. The option, if there is one, is the first that is given without the option
+-- that it needs (`needs`); it is misplaced. So is a grammar file with a sample, because a sample has its own grammar.
+abbrev pub order_unless_misplaced : List Row → JobKind → Option Text → Result Order UsageFault
+order_unless_misplaced rows mode (Some option) = Err (Misplaced (with_hyphens option))
+order_unless_misplaced rows mode None =
+    if clashes rows mode then Err (Misplaced (with_hyphens (codes "tables"))) else (if is_sample mode && not (is_empty (grammars_of rows)) then Err (Misplaced (with_hyphens (codes "sample"))) else (if misplaces_show_expected rows then Err (Misplaced (with_hyphens (codes "show-expected"))) else order_late rows mode (misplaced_in rows late_needs)))
 
-abbrev pub order_by : List Row → Result JobKind UsageFault → Result Order UsageFault
-order_by rows (Err fault) = Err fault
-order_by rows (Ok mode) = order_with rows mode (misplaced_in rows needs)
+-- The order of the mode, if exactly one mode is selected and no option is misplaced; otherwise the fault.
+abbrev pub order_if_one_mode : List Row → Result JobKind UsageFault → Result Order UsageFault
+order_if_one_mode rows (Err fault) = Err fault
+order_if_one_mode rows (Ok mode) = order_unless_misplaced rows mode (misplaced_in rows needs)
 
 -- The order that the matches spell, or the first fault: no number, no mode, two modes, a misplaced option, or no
 -- grammar.
 abbrev pub order_in : List Row → Result Order UsageFault
-order_in rows = if lacks_number rows then Err Number else order_by rows (mode_in rows options)
+order_in rows = if lacks_number rows then Err Number else order_if_one_mode rows (mode_in rows options)
 
--- The order that renamed words spell. Words that clap does not accept are the fault `Parse`.
+-- The order that the words give. If `--compare-errors` occurs twice, its second use already has its other name
+-- (`renamed`). If clap does not accept the words, they have the fault `Parse`.
 abbrev pub order_renamed : List Text → Result Order UsageFault
 order_renamed words = if is_empty (fault_of menhir_app words) then order_in (matches_of menhir_app words) else Err Parse
 

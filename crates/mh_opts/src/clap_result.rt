@@ -70,7 +70,7 @@ pub(crate) fn sample_number(matches: &ArgMatches<'_>) -> u32
     number_of(matches).unwrap_or(0)
 }
 
-/// The seed of the random sentence, if the value of `--random-sentence` is a number of its form.
+/// The seed of the random sentence, if the value of `--random-sentence` is a number that this option allows.
 pub(crate) fn seed_of(matches: &ArgMatches<'_>) -> Option<u64>
     ensures { result ≡ orders.seed_of (rows_of (found_of matches.now)) }
 {
@@ -84,7 +84,7 @@ pub(crate) fn seed_number(matches: &ArgMatches<'_>) -> u64
     seed_of(matches).unwrap_or(0)
 }
 
-/// The most tokens of the random sentence, if the value of `--length` is a number of its form.
+/// The most tokens of the random sentence, if the value of `--length` is a number that this option allows.
 pub(crate) fn length_of(matches: &ArgMatches<'_>) -> Option<u32>
     ensures { result ≡ orders.length_of (rows_of (found_of matches.now)) }
 {

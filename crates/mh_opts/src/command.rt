@@ -7,7 +7,7 @@ use crate::jobs::{GRAMMARS, Opt, options};
 use clap::{Arg, ArgAction, Command};
 use std::alloc::{AllocError, Global};
 
-/// The argument of an option.
+/// The `Arg` that declares the option to clap.
 fn argument<'a>(alloc: Global, option: &Opt<&'a str>) -> Arg<'a>
     ensures rule { rule_of result ≡ option_rule (plain option.now (λ name. name.now)) }
     ensures local { result.global ≡ false }
@@ -16,8 +16,8 @@ fn argument<'a>(alloc: Global, option: &Opt<&'a str>) -> Arg<'a>
     Arg::new(alloc, name).long(name).action(option.action)
 }
 
-/// Adds the options to the command. Each argument is made by a function of its own that holds no command, because steps
-/// that hold a command are slow to prove.
+/// Adds the options to the command. A function of its own (`argument`) makes each argument, because the proof of each
+/// step takes long where a command is in scope.
 fn with_all<'a>(
     alloc: Global,
     mut command: Command<'a>,
@@ -31,7 +31,7 @@ fn with_all<'a>(
     Ok(command)
 }
 
-/// The argument of the words that are not options: clap keeps all of them, in order.
+/// The `Arg` that declares the words that are not options to clap, which keeps all of them, in order.
 fn grammars<'a>(alloc: Global) -> Arg<'a>
     ensures rule { rule_of result ≡ grammars_rule }
     ensures local { result.global ≡ false }

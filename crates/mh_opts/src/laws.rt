@@ -1,5 +1,5 @@
-//! Laws of the command line for a reader who knows nothing of clap, as calls without effect whose contracts other
-//! crates can use.
+//! Laws of the command line for a reader who knows nothing of clap, as functions that do nothing and whose contracts
+//! state the laws.
 ghost use Rattle.std.specs.Prelude.{◌≡◌, ◌<◌, Err, Ok, map, string_bytes, true};
 ghost use Rattle.mh_opts.specs.declared.order.UsageFault.TheVariants.{Parse};
 ghost use Rattle.mh_opts.specs.Options.{options};

@@ -38,7 +38,7 @@ pub enum UsageFault {
     /// Clap does not accept the words.
     #[error("bad words")]
     Parse,
-    /// The value of `--sample`, `--random-sentence` or `--length` is not a number of its form.
+    /// The value of `--sample`, `--random-sentence` or `--length` is not a number that the option allows.
     #[error("bad number")]
     Number,
     /// No option selects a mode.

@@ -4,7 +4,7 @@ ghost use Rattle.clap.specs.Walk.{is_empty};
 ghost use Rattle.clap.specs.Words.{first_of, found_of, rows_of};
 ghost use Rattle.mh_opts.specs.Orders as orders;
 ghost use Rattle.mh_opts.specs.code.AllModes.{asked_in, only_of};
-ghost use Rattle.mh_opts.specs.Orders.{EqualsUnlessMemory, IsWithinLimits, grammars_of, lacks, misplaced_in, mode_at, mode_in, order_in, order_of, order_renamed, plain_need, plain_needs, written};
+ghost use Rattle.mh_opts.specs.Orders.{EqualsUnlessMemory, IsWithinLimits, grammars_of, lacks, misplaced_in, mode_at, mode_in, order_in, order_of, order_renamed, plain_need, plain_needs, with_hyphens};
 ghost use Rattle.mh_opts.specs.Options.{late_needs, needs, options};
 ghost use Rattle.mh_opts.specs.App.{plain};
 
@@ -115,7 +115,7 @@ fn grammars(alloc: Global, matches: &ArgMatches<'_>) -> Result<Sequence<Name>, M
 
 /// The option with its two hyphens.
 fn written_name(alloc: Global, option: &str) -> Result<Name, Memory>
-    ensures { IfOk result (λ name. name ≡ written option.now) }
+    ensures { IfOk result (λ name. name ≡ with_hyphens option.now) }
 {
     let text = format!(in alloc; "--{option}")?;
     from_bytes(alloc, text.as_bytes())
@@ -157,7 +157,7 @@ fn order_for(alloc: Global, matches: &ArgMatches<'_>, mode: JobKind) -> Result<O
     })
 }
 
-/// Returns true if an option that takes a number is given without a number of its form.
+/// Returns true if an option that takes a number is given, but its value is not a number that this option allows.
 fn lacks_number(matches: &ArgMatches<'_>) -> bool
     ensures { result ≡ orders.lacks_number (rows_of (found_of matches.now)) }
 {
@@ -182,8 +182,8 @@ fn clashes(matches: &ArgMatches<'_>, mode: JobKind) -> bool
 }
 
 /// True if `--show-expected` is given without `--interpret`, or with `--messages`.
-fn lists_nothing(matches: &ArgMatches<'_>) -> bool
-    ensures { result ≡ orders.lists_nothing (rows_of (found_of matches.now)) }
+fn misplaces_show_expected(matches: &ArgMatches<'_>) -> bool
+    ensures { result ≡ orders.misplaces_show_expected (rows_of (found_of matches.now)) }
 {
     is_given(matches, SHOW_EXPECTED)
         && (!is_given(matches, INTERPRET) || is_given(matches, MESSAGES))
@@ -203,8 +203,12 @@ fn writes_comments(mode: JobKind) -> bool
 }
 
 /// The order of a mode, or the first fault: a misplaced option, or no grammar.
-fn order_with(alloc: Global, matches: &ArgMatches<'_>, mode: JobKind) -> Result<Order, UsageFault>
-    ensures { let rows = rows_of (found_of matches.now) in EqualsUnlessMemory (orders.order_with rows mode (misplaced_in rows needs)) result }
+fn order_unless_misplaced(
+    alloc: Global,
+    matches: &ArgMatches<'_>,
+    mode: JobKind,
+) -> Result<Order, UsageFault>
+    ensures { let rows = rows_of (found_of matches.now) in EqualsUnlessMemory (orders.order_unless_misplaced rows mode (misplaced_in rows needs)) result }
 {
     if let Some(option) = misplaced(matches, needs()) {
         return Err(UsageFault::Misplaced {
@@ -221,7 +225,7 @@ fn order_with(alloc: Global, matches: &ArgMatches<'_>, mode: JobKind) -> Result<
             option: written_name(alloc, SAMPLE)?,
         });
     }
-    if lists_nothing(matches) {
+    if misplaces_show_expected(matches) {
         return Err(UsageFault::Misplaced {
             option: written_name(alloc, SHOW_EXPECTED)?,
         });
@@ -257,7 +261,7 @@ fn matched_order(alloc: Global, matches: &ArgMatches<'_>) -> Result<Order, Usage
         return Err(UsageFault::Number);
     }
     match only_mode(matches) {
-        Ok(mode) => order_with(alloc, matches, mode),
+        Ok(mode) => order_unless_misplaced(alloc, matches, mode),
         Err(fault) => Err(fault),
     }
 }
@@ -277,7 +281,7 @@ pub fn read_words(alloc: Global, words: &[String]) -> Result<Order, UsageFault>
     read_renamed(alloc, renamed.as_slice())
 }
 
-/// Reads the order from words that were renamed.
+/// Reads the order from the words. If `--compare-errors` occurs twice, its second use already has its other name.
 fn read_renamed(alloc: Global, words: &[String]) -> Result<Order, UsageFault>
     ensures { EqualsUnlessMemory (order_renamed (map string_bytes words.now)) result }
 {

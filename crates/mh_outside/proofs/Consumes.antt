@@ -39,7 +39,8 @@ HasNoLF-one byte ne (suc k) d lt = absurd (omega arith)
 pub HasNoLF-push : (line : List ℕ) (byte : ℕ) → HasNoLF line → byte ≢ 10 → HasNoLF (line ++ byte ∷ [])
 HasNoLF-push line byte p q = All-append (λ b. b ≢ 10) line (byte ∷ []) p (HasNoLF-one byte q)
 
--- If bytes without LF and one more such byte were taken, all of them are lost.
+-- If bytes without an LF were taken, and then one byte that is not an LF, then bytes without an LF were taken in all
+-- (`LosesBytes`), one more in number.
 pub loses_byte : (a b c : Option (List ℕ)) (line : List ℕ) (byte : ℕ) (Size : ℕ → Type 0) → Consumes a b line → HasNoLF line → Consumes b c (byte ∷ []) → byte ≢ 10 → Size (length line + 1) → LosesBytes a c Size
 loses_byte a b c line byte Size p q r ne size =
     let is : length (line ++ byte ∷ []) ≡ length line + 1 = length-append line (byte ∷ []) in

@@ -15,7 +15,7 @@ HasNoLF = All (λ b. b ≢ 10)
 abbrev pub TakesLine : Option (List ℕ) → Option (List ℕ) → List ℕ → Type 0
 TakesLine old new line = Consumes old new (line ++ 10 ∷ []) ⊎ (Consumes old new line × IsAtEnd new × (0 < length line))
 
--- Bytes without an LF were taken and are lost; their number has the property `Size`.
+-- Bytes without an LF were taken, and no line is returned for them; their number has the property `Size`.
 abbrev pub LosesBytes : Option (List ℕ) → Option (List ℕ) → (ℕ → Type 0) → Type 0
 LosesBytes old new Size = (got : List ℕ) × Consumes old new got × HasNoLF got × Size (length got)
 

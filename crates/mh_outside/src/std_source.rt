@@ -48,7 +48,7 @@ impl<R: Read> Source for StdSource<R> {
         ensures bytes { ReadConsumes None None result buf.new }
         ensures may_still { IfOk result (λ _. ⊤) }
         ensures counts { CountsFault (source_faults self.old) (source_faults self.new) result }
-        // The bytes come from the reader.
+        // More than the trait asks: the bytes read are the next of those that were buffered or left in the reader.
         ensures passed { ReadConsumes (std_source_left R.remaining self.old) (std_source_left R.remaining self.new) result buf.new }
     {
         match self.inner.read(buf) {

@@ -1,4 +1,4 @@
--- Proves that joining the looks of two kernels with one core at each index gives their join.
+-- Proves that, for two kernels with the same core, joining the looks index by index gives the join of the kernels.
 use Rattle.std.proofs.Common.{◌≡◌, ◌+◌, ◌<◌, ℕ, suc, List, [], ◌∷◌, ◌++◌, Some, length, refl, sym, ap, ◌∙◌, arith, inl, inr}
 use Rattle.std.specs.List.{slice_get, Contains, AllByRecursion}
 use Rattle.std.proofs.lemmas.List.{length_push}
@@ -8,18 +8,18 @@ use Rattle.mh_grammar.specs.Plain.{PlainGrammar, IsLookBelow, rhs_of}
 use Rattle.mh_grammar.specs.Edges.{IsRising}
 use Rattle.mh_grammar.proofs.Lists.{contains_at, at_contains, get_cases, recursion-from, recursion_at, recursion_contains, get_within}
 use Rattle.mh_items_kernels.specs.KernelTypes.{KernelItem, Kernel}
-use Rattle.mh_items_kernels.specs.Kernels.{Holds, IsItemList, IsKernelItem, IsItemBefore, IsJoined}
+use Rattle.mh_items_kernels.specs.Kernels.{Holds, IsItemList, IsKernelItem, IsItemBefore, HasLooksOfBoth}
 use Rattle.mh_pager_steps.specs.code.ItemLists.{HaveSameCoreList}
 use Rattle.mh_pager_steps.specs.WeakCompatibility.{IsJoin}
 
 pub record JoinedSoFar (xs ys zs : List KernelItem) (n : ℕ) : Type 0 where
   pub len : length zs ≡ n
-  pub each : (k : ℕ) (x y z : KernelItem) → slice_get xs k ≡ Some x → slice_get ys k ≡ Some y → slice_get zs k ≡ Some z → IsJoined x y z
+  pub each : (k : ℕ) (x y z : KernelItem) → slice_get xs k ≡ Some x → slice_get ys k ≡ Some y → slice_get zs k ≡ Some z → HasLooksOfBoth x y z
 
 pub JoinedSoFar-start : (xs ys : List KernelItem) → JoinedSoFar xs ys [] 0
 JoinedSoFar-start xs ys = record { len = refl; each = λ k x y z a b c. cc }
 
-pub JoinedSoFar-more : (xs ys zs : List KernelItem) (n : ℕ) (x y z : KernelItem) → slice_get xs n ≡ Some x → slice_get ys n ≡ Some y → IsJoined x y z → JoinedSoFar xs ys zs n → JoinedSoFar xs ys (zs ++ z ∷ []) (n + 1)
+pub JoinedSoFar-more : (xs ys zs : List KernelItem) (n : ℕ) (x y z : KernelItem) → slice_get xs n ≡ Some x → slice_get ys n ≡ Some y → HasLooksOfBoth x y z → JoinedSoFar xs ys zs n → JoinedSoFar xs ys (zs ++ z ∷ []) (n + 1)
 JoinedSoFar-more xs ys zs n x y z at to is h = record {
   len = omega (arith, length_push zs z, h.len);
   each = λ k u v w a b c. elim (get_cases zs z k w c) [

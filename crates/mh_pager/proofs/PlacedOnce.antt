@@ -1,4 +1,4 @@
--- Proves that a move does not lack the state to which a step of merging adds its items.
+-- Proves, as a double negation, that for each move there is a state to which a step of merging adds its items.
 use Rattle.mh_pager_steps.specs.code.ReachedByMerging.{IsWellFormed}
 use Rattle.mh_pager_steps.specs.FirstState.{HasNoneWith, IsFirst}
 use Rattle.std.proofs.Common.{◌≡◌, ℕ, zero, suc, ◌+◌, ◌<◌, ◌≤◌, ◌⊎◌, inl, inr, List, [], ◌∷◌, ◌++◌, Some, length, set, refl, sym, ap, subst, ◌∙◌, arith, below_more}
@@ -13,7 +13,7 @@ use Rattle.mh_items_kernels.specs.Kernels.{Holds, IsItemList}
 use Rattle.mh_pager_steps.specs.MergeSteps.{MergeState, ContainsMove, IsCompatibleWithMove, PlacesMove, Enqueues}
 use Rattle.mh_grammar_decided.specs.NotLacking.{NotLacking}
 use Rattle.mh_grammar_decided.proofs.NotLacking.{given, chain, decided}
-use Rattle.mh_canon_states.proofs.ListedKernels.{AreWithin, listed}
+use Rattle.mh_canon_states.proofs.ListedKernels.{HasItemsInRange, listed}
 use Rattle.mh_canon_states.proofs.MovedKernels.{kernel_in}
 
 module _ (P : Kernel → Type 0) (kernels : List Kernel) where
@@ -42,7 +42,7 @@ queued old n (inl c) = (old, inl (c, refl))
 queued old n (inr not) = (old ++ n ∷ [], inr (not, refl))
 
 module _ (g : PlainGrammar) (range : IsInRange g) where
-  both_in : (k move : Kernel) → IsItemList g k → IsItemList g move → AreWithin g (λ p d a. Holds k p d a ⊎ Holds move p d a)
+  both_in : (k move : Kernel) → IsItemList g k → IsItemList g move → HasItemsInRange g (λ p d a. Holds k p d a ⊎ Holds move p d a)
   both_in k move v w p d a (inl h) = kernel_in g range k v p d a h
   both_in k move v w p d a (inr h) = kernel_in g range move w p d a h
 

@@ -1,4 +1,5 @@
--- Proves that a grammar does not lack both a merged automaton within a limit and a list of more states than the limit.
+-- Proves the double negation (`NotLacking`) of: a grammar has a merged automaton within a limit, or a list of more
+-- states than the limit.
 use Rattle.mh_pager.specs.code.MergeStep.{IsPlacedRow, ExceedsAtPrefix}
 use Rattle.mh_pager_steps.specs.code.ReachedByMerging.{IsWellFormed, IsReachedByMerging}
 use Rattle.mh_items_kernels.specs.code.KernelMoves.{IsAfterDot}
@@ -101,8 +102,8 @@ module _ (g : PlainGrammar) (range : IsInRange g) (limit : ℕ) where
       let a : Automaton = record { kernels = ks.0; edges = r.1 } in
       given (inl (a, IsMerged-list g w l done a r.0 r.2 ks.1, few_list g w l done a r.0 r.2 ks.1 limit few)))
 
-  pub none_lacks : length g.starts ≤ limit → NotLacking HasMerged
-  none_lacks few =
+  pub merged_or_exceeds : length g.starts ≤ limit → NotLacking HasMerged
+  merged_or_exceeds few =
       let s = starts (length g.starts) in
       let len = s.1.len in
       let w : MergeState = record { kernels = s.0; rows = replicate (length g.starts) []; queue = start_numbers g } in

@@ -1,4 +1,4 @@
--- Proves that the reached states of a list do not lack their new numbers.
+-- Proves, as a double negation, that the states that are reached from the start states have new numbers.
 use Rattle.mh_pager_steps.specs.code.Renumbering.{IsRenumbered, AreReachedStates, AreTargetsInRange}
 use Rattle.std.proofs.Common.{◌≡◌, ℕ, zero, suc, ◌+◌, ◌<◌, ◌≤◌, ◌⊎◌, inl, inr, List, [], ◌∷◌, ◌++◌, Some, length, refl, sym, ap, subst, ◌∙◌, append_assoc, arith}
 use Rattle.std.specs.List.{slice_get, Contains, All, AllByRecursion, AllZip}

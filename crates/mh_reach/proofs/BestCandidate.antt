@@ -7,7 +7,7 @@ use Rattle.mh_tables_core.specs.Facts.{Facts}
 use Rattle.mh_tables_core.specs.Failing.{Fails, cost_by, cost_of_word}
 use Rattle.mh_tables_core.specs.Run.{Refuses, run_move_of}
 use Rattle.mh_facts.specs.declared.store.FactKey.{FactKey}
-use Rattle.mh_facts.specs.Stored.{Facts as Stored}
+use Rattle.mh_facts.specs.Stored.{StoredFacts}
 use Rattle.mh_facts.specs.code.BestFirst.{Label, extended_label}
 use Rattle.mh_facts.specs.Costs.{cap}
 use Rattle.mh_facts.proofs.LeastSentences.{fails_candidate, closed_reached, candidate_fails}
@@ -32,10 +32,10 @@ use Rattle.mh_reach_found.proofs.SentenceParts.{precedes_trans}
 use Rattle.mh_reach_found.proofs.LabelTrace.{arrived_at}
 use Rattle.mh_reach.proofs.ComingLabel.{coming_at, in_order, labels_closed, no_dearer_to}
 
-pub best_begins : (t : TableData) (c : TokenClasses) (facts : Stored) (spots : ArrivalList) (s : ℕ) → IsBestBelow t c facts spots s 0 None
+pub best_begins : (t : TableData) (c : TokenClasses) (facts : StoredFacts) (spots : ArrivalList) (s : ℕ) → IsBestBelow t c facts spots s 0 None
 best_begins t c facts spots s z r lt refuses e = absurd (omega arith)
 
-module _ (t : TableData) (facts : Stored) (spots : ArrivalList) where
+module _ (t : TableData) (facts : StoredFacts) (spots : ArrivalList) where
   leads_same : (a : FailureCandidate) → IsNoWorse t facts spots a a
   leads_same a = inr (refl, λ word_assignment label_assignment k l by by'. (let one = label_unique word_assignment.words label_assignment.labels (step_of a) k l by by' in rw one (lex_refl (numbers_of l))))
 
@@ -49,7 +49,7 @@ pub candidate_known : (t : TableData) (c : TokenClasses) (spots : ArrivalList) (
 candidate_known t c spots s z None on = tt
 candidate_known t c spots s z (Some b) on = let at : b.spot ≡ spot_of c s z = ap (λ (x : FailureCandidate). x.spot) on.3 in (on.0, rw at on.2)
 
-module _ (t : TableData) (c : TokenClasses) (facts : Stored) (spots : ArrivalList) (s n : ℕ) where
+module _ (t : TableData) (c : TokenClasses) (facts : StoredFacts) (spots : ArrivalList) (s n : ℕ) where
   same_for : (r : Arrival) (b : FailureCandidate) (h : IsCandidateOn t c spots s n (Some b)) → arrival_at spots (spot_of c s n) ≡ Some r → best_for t c s n r ≡ b
   same_for r b h e = let one : h.0 ≡ r = option_unique _ h.0 r h.2 e in rw (← one) (sym h.3)
 
@@ -184,10 +184,10 @@ least_cost t words labels s b h = (
   (h.label.start, h.label.word ++ b.token ∷ [], h.fails, h.cost_is),
 )
 
-pub all_begin : (t : TableData) (c : TokenClasses) (facts : Stored) (spots : ArrivalList) → AreBest t c facts spots 0 []
+pub all_begin : (t : TableData) (c : TokenClasses) (facts : StoredFacts) (spots : ArrivalList) → AreBest t c facts spots 0 []
 all_begin t c facts spots = record { len = refl; each = λ s b e. absurd (let y : None ≡ Some b = e in cc) }
 
-pub all_step : (t : TableData) (c : TokenClasses) (facts : Stored) (spots : ArrivalList) (n : ℕ) (best : List (Option FailureCandidate)) (b : Option FailureCandidate) → AreBest t c facts spots n best → IsBestBelow t c facts spots n t.grammar.tokens b → AreBest t c facts spots (n + 1) (best ++ b ∷ [])
+pub all_step : (t : TableData) (c : TokenClasses) (facts : StoredFacts) (spots : ArrivalList) (n : ℕ) (best : List (Option FailureCandidate)) (b : Option FailureCandidate) → AreBest t c facts spots n best → IsBestBelow t c facts spots n t.grammar.tokens b → AreBest t c facts spots (n + 1) (best ++ b ∷ [])
 all_step t c facts spots n best b h k = record {
   len = (let l = length-append best (b ∷ []) in let m = h.len in omega arith);
   each = λ s o e. elim (get_cases best b s o e) [ inl was ↦ h.each s o was | inr is ↦ (let at : s ≡ n = is.0 ∙ h.len in rw (at, is.1) k) ];

@@ -3,7 +3,7 @@ use Rattle.std.proofs.Common.{◌≡◌, ℕ, ◌+◌, inl, inr, Bool, true, fal
 use Rattle.std.specs.Prelude.{min}
 use Rattle.mh_tables_core.specs.Table.{TableData, cost_of_token}
 use Rattle.mh_tables_core.specs.Run.{Refuses, run_move_of}
-use Rattle.mh_facts.specs.Stored.{Facts}
+use Rattle.mh_facts.specs.Stored.{StoredFacts}
 use Rattle.mh_facts.specs.Costs.{cap}
 use Rattle.mh_facts.specs.declared.classes.TokenClasses.{TokenClasses}
 use Rattle.mh_reach_found.specs.declared.arrivals.Arrival.{Arrival}
@@ -22,7 +22,7 @@ module _ (t : TableData) (c : TokenClasses) (spots : ArrivalList) (s z : ℕ) wh
   pub candidate_on : (r : Arrival) (cost : ℕ) → run_move_of t s (z ∷ []) ≡ Refuses → arrival_at spots (spot_of c s z) ≡ Some r → cost ≡ min (r.cost + cost_of_token t z) cap → IsCandidateOn t c spots s z (Some (record { cost = cost; spot = spot_of c s z; token = z }))
   candidate_on r cost refuses there is = (r, refuses, there, sym (same_best cost r is))
 
-module _ (t : TableData) (facts : Facts) (spots : ArrivalList) where
+module _ (t : TableData) (facts : StoredFacts) (spots : ArrivalList) where
   -- The choice between two candidates of one cost.
   pub right_first : (left right : FailureCandidate) (later : Bool) → left.cost ≡ right.cost → ComesLater t facts spots (step_of left) (step_of right) later → later ≡ true → IsBetterOf t facts spots left right right
   right_first left right true same later is = inr (refl, inr (sym same, later))

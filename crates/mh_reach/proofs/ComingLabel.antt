@@ -1,5 +1,5 @@
--- Proves that the label of each arrival is the sentence that comes first of all that come to its state with its token
--- next.
+-- Proves for each pair of a state and a next token: the label is the first of the sentences that come to the state with
+-- this token next, if some such sentence is within the greatest cost.
 use Rattle.std.proofs.Common.{◌≡◌, ℕ, ◌<◌, ◌≤◌, inl, inr, List, [], Some, None, Option, refl, sym, ap, subst, arith, ◌∙◌}
 use Rattle.std.specs.Prelude.{min}
 use Rattle.std.specs.List.{AllByRecursion}
@@ -15,9 +15,9 @@ use Rattle.mh_facts.specs.code.BestFirst.{Label, HasNoLater, HasNoLaterLabel, La
 use Rattle.mh_facts.specs.code.Orders as orders
 use Rattle.mh_facts.specs.code.TokenClasses.{rep_of}
 use Rattle.mh_facts.specs.code.WordAssignment.{WordNoLater}
-use Rattle.mh_reach.proofs.Coming.{Comes-reaches, ReachesState-comes}
+use Rattle.mh_reach.proofs.Coming.{comes_if_reached, reaches_if_comes}
 use Rattle.mh_facts.proofs.LeastSentences.{closed_reached}
-use Rattle.mh_facts.proofs.SearchInvariant.{closes_all_at}
+use Rattle.mh_facts.proofs.SearchInvariant.{labels_closed_if_closed_by_gotos}
 use Rattle.mh_facts.proofs.Sound.{reaches_known}
 use Rattle.mh_facts.proofs.WordAssignment.{order_laws, option_unique, weigh_word}
 use Rattle.mh_reach_found.specs.declared.search_result.SearchResult.{SearchResult}
@@ -47,24 +47,24 @@ module _ (t : TableData) (f : Facts t) (c : TokenClasses) (found : SearchResult)
   words = h.found_is.word_assignment.words
 
   pub labels_closed : LabelsClosedBy t rep words (labels_at labels) (HasNoLaterLabel (LabelNoLater t) (labels_at labels))
-  labels_closed = closes_all_at t rep (WordNoLater t) (LabelNoLater t) (order_laws t) (label_laws t) words (GotoFactsIn c words found.work) (labels_at labels) (HasNoLater (WordNoLater t) words) h.found_is.closed h.arrived.closed
+  labels_closed = labels_closed_if_closed_by_gotos t rep (WordNoLater t) (LabelNoLater t) (order_laws t) (label_laws t) words (GotoFactsIn c words found.work) (labels_at labels) (HasNoLater (WordNoLater t) words) h.found_is.closed h.arrived.closed
 
   -- Some label comes no later than a sentence that comes to the state.
   no_later : (s z i : ℕ) (w : List ℕ) → Comes t i w s z → z < t.grammar.tokens → HasNoLaterLabel (LabelNoLater t) (labels_at labels) s (rep s z) (record { start = i; word = w })
   no_later s z i w comes known =
-      closed_reached t f rep (WordNoLater t) (LabelNoLater t) (order_laws t) (label_laws t) words h.found_is.complete (labels_at labels) labels_closed i s z w comes.sentence.known known (ReachesState-comes t f i w s z comes)
+      closed_reached t f rep (WordNoLater t) (LabelNoLater t) (order_laws t) (label_laws t) words h.found_is.complete (labels_at labels) labels_closed i s z w comes.sentence.known known (reaches_if_comes t f i w s z comes)
 
   coming_label : (s z : ℕ) (l : Label) → z < t.grammar.tokens → labels (spot_of c s z) ≡ Some l → IsComingLabel t s z l
   coming_label s z l known e =
       let there = h.arrived.sound s (rep s z) l e z known refl in
       let tokens = (reaches_known t f l.start s z l.word there.0 there.1).tokens in
       record {
-        comes = Comes-reaches t f l.start l.word s z there.0 known there.1;
+        comes = comes_if_reached t f l.start l.word s z there.0 known there.1;
         weighed = ap (λ (n : ℕ). min n cap) (weigh_word t f l.word tokens);
         first = λ i w other. (
             let k = no_later s z i w other known in
             let same : k.0 ≡ l = option_unique _ k.0 l k.1 e in
-            let others = (reaches_known t f i s z w other.sentence.known (ReachesState-comes t f i w s z other)).tokens in
+            let others = (reaches_known t f i s z w other.sentence.known (reaches_if_comes t f i w s z other)).tokens in
             in_order t f l (record { start = i; word = w }) tokens others (rw same at k.2));
       }
 
@@ -101,7 +101,8 @@ least_cost_to t s z cost l h e = (
   (l.start, l.word, h.comes, e),
 )
 
--- If some sentence comes to the state, its spot has a label.
+-- If some sentence within the greatest cost comes to the state s with the token z next, the pair of s and z has a
+-- label.
 pub label_there : (t : TableData) (s z : ℕ) (o : Option Label) → IsComingAt t s z o → ComesWithinMaxCost t s z → (l : Label) × (o ≡ Some l) × IsComingLabel t s z l
 label_there t s z None h cheap = absurd (h cheap.0 cheap.1 cheap.2)
 label_there t s z (Some l) h cheap = (l, refl, h)

@@ -9,7 +9,7 @@ use Rattle.mh_tables_core.specs.Table.{TableData}
 use Rattle.mh_facts.specs.declared.store.FactKey.{FactKey}
 use Rattle.mh_facts.specs.declared.store.Back.{Back}
 use Rattle.mh_facts.specs.declared.store.Back.TheVariants as backs
-use Rattle.mh_facts.specs.Stored.{Facts}
+use Rattle.mh_facts.specs.Stored.{StoredFacts}
 use Rattle.mh_facts.specs.code.WordAssignment.{WordAssignment, WordBy, before_dot, token_of, size_by, sizes_of}
 use Rattle.mh_reach.specs.code.Spelling.{WordsOf, WritesFact, WritesNextFact}
 use Rattle.mh_facts.proofs.WordAssignment.{option_unique, fact_of_word, size_positive}
@@ -42,7 +42,7 @@ size_push : (sizes : FactKey → ℕ) (ks : List FactKey) (k : FactKey) → size
 size_push sizes [] k = omega arith
 size_push sizes (x ∷ ks) k = let l = size_push sizes ks k in omega arith
 
-module _ (t : TableData) (facts : Facts) (word_assignment : WordAssignment t facts) (k : FactKey) (old new : List FactKey) (spelled more whole : List ℕ) where
+module _ (t : TableData) (facts : StoredFacts) (word_assignment : WordAssignment t facts) (k : FactKey) (old new : List FactKey) (spelled more whole : List ℕ) where
   -- One step keeps the whole word, by the facts that the top fact was derived from.
   one_on : (back : Back) (a v : List ℕ) → WordBy t word_assignment.words k back v → WordsOf word_assignment.words old a → a ++ (v ++ reverse spelled) ≡ whole → WritesFact t k back old new spelled more → StackSpells word_assignment.words new more whole
   one_on backs.Empty a v by h is s = rw (s.0, s.1) (a, h, rw by at is)

@@ -2,7 +2,7 @@
 ghost use Rattle.std.specs.Prelude.{◌≡◌, ◌<◌, IfOk, IfSome, length};
 ghost use Rattle.mh_facts.specs.code.TokenClasses.{AreTokenClasses};
 ghost use Rattle.mh_reach_found.specs.code.Arrivals.{AreLeastArrivalsFor, HasArrival};
-ghost use Rattle.mh_reach_found.specs.code.SentenceComparison.{ComesLater, HasAssignments};
+ghost use Rattle.mh_reach_found.specs.code.SentenceComparison.{HasAssignments};
 ghost use Rattle.mh_reach.specs.code.Candidates.{CostsAreCapped, IsCandidateOn, IsBestBelow, AreBest, IsBetterOf, IsBetterOfOptions, step_of};
 
 use crate::sentences::{FailureCandidate, Reach};
@@ -56,25 +56,6 @@ fn best_on(
     }
 }
 
-/// Whether the sentence of the left candidate comes later than that of the right one; both cost the same.
-fn is_later(
-    alloc: Global,
-    table: &Table,
-    found: &SearchResult,
-    arrivals: &Arrivals,
-    left: FailureCandidate,
-    right: FailureCandidate,
-) -> Result<bool, Memory>
-    requires assignments { HasAssignments table.now found.now arrivals.now.spots }
-    requires left { HasArrival arrivals.now.spots left.spot }
-    requires right { HasArrival arrivals.now.spots right.spot }
-    ensures { IfOk result (ComesLater table.now found.now.store arrivals.now.spots (step_of left) (step_of right)) }
-{
-    let one = step_of(left);
-    let two = step_of(right);
-    comes_later(alloc, table, found, arrivals, one, two)
-}
-
 /// The better of two candidates: by cost, then by sentence.
 fn sooner_of(
     alloc: Global,
@@ -95,7 +76,9 @@ fn sooner_of(
     if right.cost < left.cost {
         return Ok(right);
     }
-    if is_later(alloc, table, found, arrivals, left, right)? {
+    let one = step_of(left);
+    let two = step_of(right);
+    if comes_later(alloc, table, found, arrivals, one, two)? {
         Ok(right)
     } else {
         Ok(left)

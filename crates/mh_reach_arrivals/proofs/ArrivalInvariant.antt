@@ -31,7 +31,7 @@ use Rattle.mh_facts.specs.code.SearchRules.{complete_paths_at}
 use Rattle.mh_facts.specs.code.WordAssignment.{WordNoLater, cost_up_to_cap}
 use Rattle.mh_reach_found.specs.code.SearchResult.{GotoFactsIn, IsSoundCompletePath}
 use Rattle.mh_reach_found.specs.code.Arrivals.{LabelNoLater, ArrivalList, spot, LabelAssignment, LabelBy, HasArrival, AreLeastArrivals, labels_at}
-use Rattle.mh_reach_arrivals.specs.code.ArrivalSearch.{NoLaterBy, StepsAlong, StepsShift, StepsOverGoto, FollowsArrival, IsStartArrival, IsSoundArrival, Waiting, IsPendingLabel, ArrivalInvariant, ArrivalsInOrder, TakesUnreached}
+use Rattle.mh_reach_arrivals.specs.code.ArrivalSearch.{NoLaterBy, StepsAlong, StepsShift, StepsOverGoto, FollowsArrival, IsStartArrival, IsSoundArrival, WaitsOrIsBeside, IsPendingLabel, ArrivalInvariant, ArrivalsInOrder, TakesUnreached}
 use Rattle.mh_reach_words.specs.code.Sorting.{IsSorted}
 use Rattle.mh_facts.proofs.QueueRows.{row_past}
 use Rattle.mh_facts.proofs.WordAssignment.{option_unique, capped_one, capped_both, min_cap, no_lower}
@@ -48,7 +48,7 @@ abbrev pub arrival_for : ℕ → WaitingArrival → Arrival
 arrival_for level i = record { cost = level; step = i.step }
 
 -- No arrival waits with a cost for which the queue has no bucket.
-pub none_over : (q : ArrivalQueue) (level cost : ℕ) (o : WaitingArrival) → length q ≤ level → level ≤ cost → Waiting q level [] cost o → ⊥
+pub none_over : (q : ArrivalQueue) (level cost : ℕ) (o : WaitingArrival) → length q ≤ level → level ≤ cost → WaitsOrIsBeside q level [] cost o → ⊥
 none_over q level cost o over low (inl there) = contains_none o (rw (row_past q cost (omega arith)) at there)
 none_over q level cost o over low (inr beside) = contains_none o beside.1
 
@@ -92,7 +92,7 @@ module _ (t : TableData) (f : Facts t) (c : TokenClasses) (cls : AreTokenClasses
         before = λ k l m cost o e h by. absurd (let y : None ≡ Some l = e in cc);
       }
     where
-      begun : (cost : ℕ) (o : WaitingArrival) → Waiting q 0 [] cost o → IsStartArrival t c cost o
+      begun : (cost : ℕ) (o : WaitingArrival) → WaitsOrIsBeside q 0 [] cost o → IsStartArrival t c cost o
       begun cost o (inl h) = elim (g.only cost o h) [ inl none ↦ absurd (let l = none.1 in omega arith) | inr b ↦ b ]
       begun cost o (inr h) = absurd (let l = (h.1).1 in omega arith)
 
@@ -101,14 +101,14 @@ module _ (t : TableData) (f : Facts t) (c : TokenClasses) (cls : AreTokenClasses
     labels = good.label_assignment.labels
 
     -- If the spot of an arrival that waits is reached, its label comes no later than the sentence of the arrival.
-    pub stored_no_later : (s z cost : ℕ) (o : WaitingArrival) (k l : Label) → HasArrival spots o.spot → Waiting old level beside cost o → o.spot ≡ spot s z → LabelBy words labels o.step k → LabelNoLater t k l → HasNoLaterLabel (LabelNoLater t) (labels_at labels) s z l
+    pub stored_no_later : (s z cost : ℕ) (o : WaitingArrival) (k l : Label) → HasArrival spots o.spot → WaitsOrIsBeside old level beside cost o → o.spot ≡ spot s z → LabelBy words labels o.step k → LabelNoLater t k l → HasNoLaterLabel (LabelNoLater t) (labels_at labels) s z l
     stored_no_later s z cost o k l there waits is by le =
         let told = good.label_assignment.some o.spot there.0 there.1 in
         (told.label, rw (← is) told.is, laws.transitive told.label k l (good.before o.spot told.label k cost o told.is waits by) le)
 
     -- Arrivals that wait are moved or dropped; the spot of each arrival that is dropped is reached.
-    unfoldable pub invariant_moves : (mid : ArrivalQueue) (level' : ℕ) (other : List WaitingArrival) → ((cost : ℕ) (o : WaitingArrival) → Waiting old level beside cost o → Waiting mid level' other cost o ⊎ HasArrival spots o.spot) →
-        ((cost : ℕ) (o : WaitingArrival) → Waiting mid level' other cost o → Waiting old level beside cost o) → ((cost : ℕ) (o : WaitingArrival) → Waiting mid level' other cost o → level' ≤ cost) → level ≤ level' → ArrivalInvariant t c words work spots mid level' other
+    unfoldable pub invariant_moves : (mid : ArrivalQueue) (level' : ℕ) (other : List WaitingArrival) → ((cost : ℕ) (o : WaitingArrival) → WaitsOrIsBeside old level beside cost o → WaitsOrIsBeside mid level' other cost o ⊎ HasArrival spots o.spot) →
+        ((cost : ℕ) (o : WaitingArrival) → WaitsOrIsBeside mid level' other cost o → WaitsOrIsBeside old level beside cost o) → ((cost : ℕ) (o : WaitingArrival) → WaitsOrIsBeside mid level' other cost o → level' ≤ cost) → level ≤ level' → ArrivalInvariant t c words work spots mid level' other
     invariant_moves mid level' other on back low le = record {
       label_assignment = good.label_assignment;
       closed = record {
@@ -123,7 +123,7 @@ module _ (t : TableData) (f : Facts t) (c : TokenClasses) (cls : AreTokenClasses
       before = λ k l m cost o e h by. good.before k l m cost o e (back cost o h) by;
     }
       where
-        held : (s z : ℕ) (l : Label) → IsPendingLabel t words labels (Waiting old level beside) s z l → IsPendingLabel t words labels (Waiting mid level' other) s z l
+        held : (s z : ℕ) (l : Label) → IsPendingLabel t words labels (WaitsOrIsBeside old level beside) s z l → IsPendingLabel t words labels (WaitsOrIsBeside mid level' other) s z l
         held s z l (inl was) = inl was
         held s z l (inr (cost, o, k, waits, is, by, ahead)) = elim (on cost o waits) [
           | inl still ↦ inr (cost, o, k, still, is, by, ahead)
@@ -131,10 +131,10 @@ module _ (t : TableData) (f : Facts t) (c : TokenClasses) (cls : AreTokenClasses
         ]
 
     -- An arrival that waits has only one sentence.
-    pub waiting_label : (later : StateAndNext → Option Label) → ((o : StateAndNext) (u : Label) → labels o ≡ Some u → later o ≡ Some u) → (cost : ℕ) (o : WaitingArrival) (h : Waiting old level beside cost o) (m : Label) → LabelBy words later o.step m → m ≡ (good.items cost o h).label
+    pub waiting_label : (later : StateAndNext → Option Label) → ((o : StateAndNext) (u : Label) → labels o ≡ Some u → later o ≡ Some u) → (cost : ℕ) (o : WaitingArrival) (h : WaitsOrIsBeside old level beside cost o) (m : Label) → LabelBy words later o.step m → m ≡ (good.items cost o h).label
     waiting_label later kept cost o h m by = let ok = good.items cost o h in label_unique words later o.step m ok.label by (label_kept words labels later o.step ok.label kept ok.label_by)
 
-    module _ (flat : (x y : WaitingArrival) (cost : ℕ) → Waits old level x → Waiting old level beside cost y → NoLaterBy t words labels x y) (rising : IsSorted (NoLaterBy t words labels) beside)
+    module _ (flat : (x y : WaitingArrival) (cost : ℕ) → Waits old level x → WaitsOrIsBeside old level beside cost y → NoLaterBy t words labels x y) (rising : IsSorted (NoLaterBy t words labels) beside)
         (mid new : ArrivalQueue) (i : WaitingArrival) (next : TakesUnreached spots old mid level i) (more : QueueGains (FollowsArrival t c work i.spot level) mid new) (le_cap : level ≤ cap) where
       abbrev ok : IsSoundArrival t c words labels level i
       ok = good.items level i (inl next.waited)
@@ -155,11 +155,11 @@ module _ (t : TableData) (f : Facts t) (c : TokenClasses) (cls : AreTokenClasses
       only = labels_only t words spots good.label_assignment i.spot r ok.label next.fresh ok.label_by ok.cost_is
 
       -- Each arrival that waits waited before, or follows from the arrival that was settled.
-      came : (cost : ℕ) (o : WaitingArrival) → Waiting new level beside cost o → Waiting old level beside cost o ⊎ FollowsArrival t c work i.spot level cost o
+      came : (cost : ℕ) (o : WaitingArrival) → WaitsOrIsBeside new level beside cost o → WaitsOrIsBeside old level beside cost o ⊎ FollowsArrival t c work i.spot level cost o
       came cost o (inl h) = elim (more.only cost o h) [ inl was ↦ inl (inl (next.only cost o was)) | inr add ↦ inr add ]
       came cost o (inr h) = inl (inr h)
 
-      held : (s z : ℕ) (l : Label) → IsPendingLabel t words labels (Waiting old level beside) s z l → IsPendingLabel t words later (Waiting new level beside) s z l
+      held : (s z : ℕ) (l : Label) → IsPendingLabel t words labels (WaitsOrIsBeside old level beside) s z l → IsPendingLabel t words later (WaitsOrIsBeside new level beside) s z l
       held s z l (inl h) = inl (h.0, kept (spot s z) h.0 h.1, h.2)
       held s z l (inr (cost, o, k, inr aside, is, by, le)) = inr (cost, o, k, inr aside, is, label_kept words labels later o.step k kept by, le)
       held s z l (inr (cost, o, k, inl there, is, by, le)) = elim (next.kept cost o there) [
@@ -173,14 +173,14 @@ module _ (t : TableData) (f : Facts t) (c : TokenClasses) (cls : AreTokenClasses
             inl (ok.label, subst (λ (x : StateAndNext). later x ≡ Some ok.label) at here, rw same at le))
       ]
 
-      shift_on : (x z j : ℕ) → rep i.spot.state x ≡ i.spot.next → run_move_of t i.spot.state (x ∷ []) ≡ Shifts j → z < t.grammar.tokens → IsPendingLabel t words later (Waiting new level beside) j (rep j z) (extended_label ok.label (x ∷ []))
+      shift_on : (x z j : ℕ) → rep i.spot.state x ≡ i.spot.next → run_move_of t i.spot.state (x ∷ []) ≡ Shifts j → z < t.grammar.tokens → IsPendingLabel t words later (WaitsOrIsBeside new level beside) j (rep j z) (extended_label ok.label (x ∷ []))
       shift_on x z j token move lt =
           let o : WaitingArrival = record { spot = spot j (rep j z); step = steps.Shift i.spot x } in
           let edge : edge_of t i.spot.state (T x) ≡ Some j = f.shifts i.spot.state x j (shifts_from_move t i.spot.state x [] j move) in
           let s : StepsAlong t c i.spot level x (min (level + cost_of_token t x) cap) o = record { end = j; following = rep j z; token = token; move = move; listed = cls.list_all j z (f.each_target i.spot.state (T x) j edge) lt; cost_is = refl; is = refl } in
           inr (min (level + cost_of_token t x) cap, o, extended_label ok.label (x ∷ []), inl (more.all (min (level + cost_of_token t x) cap) o (inl (x, s))), refl, (ok.label, here, refl), laws.reflexive (extended_label ok.label (x ∷ [])))
 
-      way_on : (n x g : ℕ) (v : List ℕ) → GotoFactsIn c words work i.spot.state n i.spot.next x v → edge_of t i.spot.state (N n) ≡ Some g → IsPendingLabel t words later (Waiting new level beside) g x (extended_label ok.label v)
+      way_on : (n x g : ℕ) (v : List ℕ) → GotoFactsIn c words work i.spot.state n i.spot.next x v → edge_of t i.spot.state (N n) ≡ Some g → IsPendingLabel t words later (WaitsOrIsBeside new level beside) g x (extended_label ok.label v)
       way_on n x g v way edge =
           let w = way.0 in
           let known = ways_ok _ w way.1 in
@@ -230,7 +230,7 @@ module _ (t : TableData) (f : Facts t) (c : TokenClasses) (cls : AreTokenClasses
       follow_ok cost o (inl s) = shift_ok cost o s
       follow_ok cost o (inr s) = way_ok cost o s
 
-      each : (cost : ℕ) (o : WaitingArrival) → Waiting new level beside cost o → IsSoundArrival t c words later cost o
+      each : (cost : ℕ) (o : WaitingArrival) → WaitsOrIsBeside new level beside cost o → IsSoundArrival t c words later cost o
       each cost o h = elim (came cost o h) [
         | inl was ↦ (let k = good.items cost o was in record { state = k.state; token = k.token; few = k.few; label = k.label; label_by = label_kept words labels later o.step k.label kept k.label_by; cost_is = k.cost_is; sound = k.sound })
         | inr add ↦ follow_ok cost o add
@@ -240,7 +240,7 @@ module _ (t : TableData) (f : Facts t) (c : TokenClasses) (cls : AreTokenClasses
       low_follow cost o (inl s) = rw s.1.cost_is (no_lower level (cost_of_token t s.0) le_cap)
       low_follow cost o (inr s) = rw s.2.cost_is (no_lower level s.0.cost le_cap)
 
-      low_all : (cost : ℕ) (o : WaitingArrival) → Waiting new level beside cost o → level ≤ cost
+      low_all : (cost : ℕ) (o : WaitingArrival) → WaitsOrIsBeside new level beside cost o → level ≤ cost
       low_all cost o h = elim (came cost o h) [ inl was ↦ good.at_least_level cost o was | inr add ↦ low_follow cost o add ]
 
       -- The sentence of an arrival that follows extends the sentence of the settled arrival.
@@ -255,7 +255,7 @@ module _ (t : TableData) (f : Facts t) (c : TokenClasses) (cls : AreTokenClasses
           (h.1, rw same at h.4)
 
       -- All arrivals that wait come no earlier than the settled arrival.
-      no_sooner : (cost : ℕ) (o : WaitingArrival) → Waiting new level beside cost o → (m : Label) → LabelBy words later o.step m → LabelNoLater t ok.label m
+      no_sooner : (cost : ℕ) (o : WaitingArrival) → WaitsOrIsBeside new level beside cost o → (m : Label) → LabelBy words later o.step m → LabelNoLater t ok.label m
       no_sooner cost o h m by = elim (came cost o h) [
         | inl was ↦ (
             let one = waiting_label later kept cost o was m by in
@@ -264,7 +264,7 @@ module _ (t : TableData) (f : Facts t) (c : TokenClasses) (cls : AreTokenClasses
         | inr add ↦ (let k = goes_longer cost o add m by in rw k.1 (laws.prefix ok.label k.0))
       ]
 
-      before_all : (k : StateAndNext) (l m : Label) (cost : ℕ) (o : WaitingArrival) → later k ≡ Some l → Waiting new level beside cost o → LabelBy words later o.step m → LabelNoLater t l m
+      before_all : (k : StateAndNext) (l m : Label) (cost : ℕ) (o : WaitingArrival) → later k ≡ Some l → WaitsOrIsBeside new level beside cost o → LabelBy words later o.step m → LabelNoLater t l m
       before_all k l m cost o e h by = elim (only k l e) [
         | inl was ↦ laws.transitive l ok.label m (good.before k l ok.label level i was (inl next.waited) ok.label_by) (no_sooner cost o h m by)
         | inr is ↦ rw is.1 (no_sooner cost o h m by)
@@ -283,7 +283,7 @@ module _ (t : TableData) (f : Facts t) (c : TokenClasses) (cls : AreTokenClasses
             | inr ge ↦ rw more.1 (over_from t ok.label (extended_label ok.label more.0) l level ge ok.cost_is cost_is le)
           ]
 
-      flat_all : (x y : WaitingArrival) (cost : ℕ) → Waits new level x → Waiting new level beside cost y → NoLaterBy t words later x y
+      flat_all : (x y : WaitingArrival) (cost : ℕ) → Waits new level x → WaitsOrIsBeside new level beside cost y → NoLaterBy t words later x y
       flat_all x y cost there waits k l by by' = elim (more.only level x there) [
         | inl was ↦ (
             let before = next.only level x was in
@@ -341,7 +341,7 @@ module _ (t : TableData) (f : Facts t) (c : TokenClasses) (cls : AreTokenClasses
       unfolding settling_keeps_invariant
       settling_in_order = record { invariant = settling_keeps_invariant; none_earlier = flat_all; rising = rising_all }
 
-    pub are_least_arrivals : ((cost : ℕ) (o : WaitingArrival) → Waiting old level beside cost o → ⊥) → AreLeastArrivals t c words work spots
+    pub are_least_arrivals : ((cost : ℕ) (o : WaitingArrival) → WaitsOrIsBeside old level beside cost o → ⊥) → AreLeastArrivals t c words work spots
     are_least_arrivals none =
         record {
           label_assignment = good.label_assignment;
@@ -353,6 +353,6 @@ module _ (t : TableData) (f : Facts t) (c : TokenClasses) (cls : AreTokenClasses
           sound = good.sound;
         }
       where
-        held : (s z : ℕ) (l : Label) → IsPendingLabel t words labels (Waiting old level beside) s z l → HasNoLaterLabel (LabelNoLater t) (labels_at labels) s z l
+        held : (s z : ℕ) (l : Label) → IsPendingLabel t words labels (WaitsOrIsBeside old level beside) s z l → HasNoLaterLabel (LabelNoLater t) (labels_at labels) s z l
         held s z l (inl was) = was
         held s z l (inr (cost, o, k, waits, is, by, le)) = absurd (none cost o waits)

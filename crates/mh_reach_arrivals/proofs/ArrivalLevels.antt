@@ -6,14 +6,14 @@ use Rattle.std.proofs.lemmas.Bool.{cases_lt}
 use Rattle.mh_tables_core.specs.Table.{TableData}
 use Rattle.mh_tables_core.specs.Facts.{Facts}
 use Rattle.mh_facts.specs.declared.store.FactKey.{FactKey}
-use Rattle.mh_facts.specs.Stored.{Facts as Stored}
+use Rattle.mh_facts.specs.Stored.{StoredFacts}
 use Rattle.mh_facts.specs.code.BestFirst.{Label}
 use Rattle.mh_facts.specs.Costs.{cap}
 use Rattle.mh_facts.specs.declared.work.CompletePath.{CompletePath}
 use Rattle.mh_facts.specs.declared.work.SearchData.{SearchData}
 use Rattle.mh_facts.specs.declared.classes.TokenClasses.{TokenClasses}
 use Rattle.mh_reach_found.specs.declared.search_result.SearchResult.{SearchResult}
-use Rattle.mh_facts.specs.code.Queues.{QueueGains, IsOne}
+use Rattle.mh_facts.specs.code.Queues.{QueueGains, IsSameQueueEntry}
 use Rattle.mh_facts.specs.code.TokenClasses.{AreTokenClasses, rep_of}
 use Rattle.mh_facts.specs.code.SearchRules.{complete_paths_at}
 use Rattle.mh_facts.specs.code.WordAssignment.{WordAssignment, cost_up_to_cap}
@@ -25,7 +25,7 @@ use Rattle.mh_reach_found.specs.declared.arrivals.ArrivalStep.{ArrivalStep}
 use Rattle.mh_reach_found.specs.declared.arrivals.ArrivalStep.TheVariants as steps
 use Rattle.mh_reach_arrivals.specs.declared.queued_arrivals.WaitingArrival.{WaitingArrival}
 use Rattle.mh_reach_found.specs.code.Arrivals.{ArrivalList, LabelAssignment, LabelBy}
-use Rattle.mh_reach_arrivals.specs.code.ArrivalSearch.{NoLaterBy, Waiting, ArrivalInvariant, ArrivalsInOrder, ArrivalsReady, IsReachedAlready, NoUnreachedLeft, TakesAllUnreached, ArrivalInvariantFor}
+use Rattle.mh_reach_arrivals.specs.code.ArrivalSearch.{NoLaterBy, WaitsOrIsBeside, ArrivalInvariant, ArrivalsInOrder, ArrivalsReady, IsReachedAlready, NoUnreachedLeft, TakesAllUnreached, ArrivalInvariantFor}
 use Rattle.mh_reach_found.specs.code.SentenceComparison.{PrecedesBy, IsKnownStep, HasAssignments}
 use Rattle.mh_reach_arrivals.specs.code.ArrivalOrder.{AreKnownSteps, SentenceNoLater}
 use Rattle.mh_reach_words.specs.code.Sorting.{IsSorted, HaveSameElements}
@@ -70,7 +70,7 @@ module _ (t : TableData) (f : Facts t) (c : TokenClasses) (cls : AreTokenClasses
     level_over ge = rises_all (NoLaterBy t words labels) ys (λ x y in_x in_y k l by by'. both_over t k l level ge (level_cost x k in_x by) (level_cost y l in_y by'))
 
   -- The next arrival of the separate list is moved to the queue.
-  pub level_pushed : (mid : ArrivalQueue) (x : WaitingArrival) (xs : List WaitingArrival) → ArrivalsReady t c words work spots old level (x ∷ xs) → QueueGains (IsOne level x) old mid → ArrivalsInOrder t c words work spots mid level xs
+  pub level_pushed : (mid : ArrivalQueue) (x : WaitingArrival) (xs : List WaitingArrival) → ArrivalsReady t c words work spots old level (x ∷ xs) → QueueGains (IsSameQueueEntry level x) old mid → ArrivalsInOrder t c words work spots mid level xs
   unfolding invariant_moves
   level_pushed mid x xs ready gains = record {
     invariant = let m = moves_pushed (IsReachedAlready spots) old mid level x xs gains in invariant_moves t f c cls words work ways_ok spots old level (x ∷ xs) ready.invariant mid level xs m.kept_or_done m.back (λ cost o h. ready.invariant.at_least_level cost o (m.back cost o h)) (omega arith);
@@ -82,7 +82,7 @@ module _ (t : TableData) (f : Facts t) (c : TokenClasses) (cls : AreTokenClasses
   }
     where
       -- The arrival x comes no later than all arrivals that wait.
-      first : (y : WaitingArrival) (cost : ℕ) → Waiting mid level xs cost y → NoLaterBy t words ready.invariant.label_assignment.labels x y
+      first : (y : WaitingArrival) (cost : ℕ) → WaitsOrIsBeside mid level xs cost y → NoLaterBy t words ready.invariant.label_assignment.labels x y
       first y cost (inr beside) k l by by' = ready.rising.0 y beside.1 k l by by'
       first y cost (inl there) k l by by' = elim (gains.only cost y there) [
         | inl was ↦ (
@@ -118,7 +118,7 @@ module _ (t : TableData) (f : Facts t) (c : TokenClasses) (cls : AreTokenClasses
 -- The facts and arrivals that sentences are made of.
 
 -- If a step has a sentence, the fact and the arrival that the step refers to are stored.
-pub step_known : (t : TableData) (facts : Stored) (spots : ArrivalList) (word_assignment : WordAssignment t facts) (label_assignment : LabelAssignment t word_assignment.words spots) (step : ArrivalStep) (l : Label) → LabelBy word_assignment.words label_assignment.labels step l → IsKnownStep facts spots step
+pub step_known : (t : TableData) (facts : StoredFacts) (spots : ArrivalList) (word_assignment : WordAssignment t facts) (label_assignment : LabelAssignment t word_assignment.words spots) (step : ArrivalStep) (l : Label) → LabelBy word_assignment.words label_assignment.labels step l → IsKnownStep facts spots step
 step_known t facts spots word_assignment label_assignment (steps.Begin start) l by = tt
 step_known t facts spots word_assignment label_assignment (steps.Shift from token) l by = arrived_at t word_assignment.words spots label_assignment from by.0 by.1
 step_known t facts spots word_assignment label_assignment (steps.Goto from inner) l by = (arrived_at t word_assignment.words spots label_assignment from by.0 by.2, fact_of_word t facts word_assignment inner by.1 by.3)

@@ -40,7 +40,8 @@ no_end t r p d b x h symbol none (suc n) e lt (b', x', h', symbol', edge') = eli
       let y : None ≡ Some e = sym none ∙ edge in cc)
 ]
 
--- The set has the reductions of the paths from the states below n.
+-- The list `past` has the reduction of each path that begins in a state below n, follows a whole right side, and has a
+-- goto. All numbers in the list are in range.
 pub record AreReductionsBelow (t : TableData) (n : ℕ) (past : List Reduction) : Type 0 where
   pub all : (s q e g : ℕ) → s < n → length t.grammar.starts ≤ q → q < production_count t.grammar → IsPathEnd t s q (length (rhs_of t.grammar q)) e → edge_of t s (N (lhs_of t.grammar q)) ≡ Some g → Contains past (record { end = e; production = q; target = g })
   pub known : (r : Reduction) → Contains past r → (r.end < length t.states) × (r.target < length t.states) × (r.production < production_count t.grammar)

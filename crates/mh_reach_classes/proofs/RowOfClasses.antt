@@ -63,7 +63,7 @@ module _ (z : ℕ) (given : List ℕ) (row : List TokenClass) (list : List ℕ) 
     ];
   }
 
-  -- The row with one more token, which joins the class of an earlier token.
+  -- If one more token joins the class of an earlier token, the row of classes is extended by this token.
   pub row_follows : (k.representative ≡ z → ⊥) → IsClassRow (z + 1) given (row ++ k ∷ []) list new
   row_follows other = record {
     len = long_more;

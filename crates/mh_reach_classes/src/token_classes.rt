@@ -260,13 +260,15 @@ fn slot_of(row: &[Token], marks: &[usize], token: usize) -> usize {
         .wrapping_add(mark)
 }
 
-/// The scratch space of a pass of the refinement: the marks of the tokens, the first token of each pair of
-/// representative and mark, and the refined representatives. Between two reductions `seen` is filled with `u16::MAX`.
+/// The scratch space of the refinement: the marks of the tokens, the first token of each pair of representative and
+/// mark, the refined representatives, and for each state one more than the number of the last pass that split one of
+/// its classes, or 0. Between two reductions `seen` is filled with `u16::MAX`.
 #[derive(Drop)]
 struct Scratch {
     marks: Vec<usize>,
     seen: Vec<Token>,
     fresh: Vec<Token>,
+    splits: Vec<usize>,
 }
 
 /// Writes a token at an index. Returns whether the row changed.
@@ -337,13 +339,35 @@ fn rows_of(alloc: Global, states: u32, tokens: Token) -> Result<Vec<Vec<Token>>,
     Ok(rows)
 }
 
-fn scratch_for(alloc: Global, tokens: Token) -> Result<Scratch, Memory> {
+fn scratch_for(alloc: Global, states: u32, tokens: Token) -> Result<Scratch, Memory> {
     let count = tokens as usize;
     Ok(Scratch {
         marks: vec![in alloc; 0; count]?,
         seen: vec![in alloc; u16::MAX; count * (count + 1)]?,
         fresh: vec![in alloc; 0; count]?,
+        splits: vec![in alloc; 0; states as usize]?,
     })
+}
+
+/// Whether a reduction can split classes in a pass, counted from 0: a class of the reducing state was split in this
+/// pass or in the one before. In the first pass, all tokens of a state are in one class, so a reduction can also split
+/// classes if the state does not make the reduction by default.
+fn is_due(table: &Table, splits: &[usize], reduction: Reduction, pass: usize) -> bool {
+    if reduction.end >= table.states() {
+        return false;
+    }
+    match splits.get(reduction.end as usize) {
+        None => false,
+        Some(0) => pass == 0 && table.fallback(reduction.end).is_none(),
+        Some(last) => *last >= pass,
+    }
+}
+
+/// Records that a pass has split a class of a state.
+fn note_split(splits: &mut Vec<usize>, state: u32, pass: usize) {
+    if let Some(last) = splits.get_mut(state as usize) {
+        *last = pass.saturating_add(1);
+    }
 }
 
 /// Splits the classes of the target state of a reduction. Returns whether a class was split.
@@ -352,12 +376,20 @@ fn refine_by(
     reduction: Reduction,
     rows: &mut Vec<Vec<Token>>,
     scratch: &mut Scratch,
+    pass: usize,
 ) -> bool {
+    if !is_due(table, scratch.splits.as_slice(), reduction, pass) {
+        return false;
+    }
     mark(table, rows.as_slice(), reduction, &mut scratch.marks);
-    match rows.get_mut(reduction.target as usize) {
+    let changed = match rows.get_mut(reduction.target as usize) {
         None => false,
         Some(row) => split(row, table.tokens(), scratch),
+    };
+    if changed {
+        note_split(&mut scratch.splits, reduction.target, pass);
     }
+    changed
 }
 
 /// One pass of the refinement over all reductions. Returns whether a class was split.
@@ -366,11 +398,12 @@ fn refine_once(
     past: &IndexSet<Reduction>,
     rows: &mut Vec<Vec<Token>>,
     scratch: &mut Scratch,
+    pass: usize,
 ) -> bool {
     let mut changed = false;
     for place in 0..past.len() {
         if let Some(reduction) = past.get_index(place) {
-            changed |= refine_by(table, *reduction, rows, scratch);
+            changed |= refine_by(table, *reduction, rows, scratch, pass);
         }
     }
     changed
@@ -384,9 +417,9 @@ fn refine(
     rows: &mut Vec<Vec<Token>>,
 ) -> Result<(), Memory> {
     let tokens = table.tokens();
-    let mut scratch = scratch_for(alloc, tokens)?;
-    for _ in 0..table.states() as usize * tokens as usize {
-        if !refine_once(table, past, rows, &mut scratch) {
+    let mut scratch = scratch_for(alloc, table.states(), tokens)?;
+    for pass in 0..table.states() as usize * tokens as usize {
+        if !refine_once(table, past, rows, &mut scratch, pass) {
             break;
         }
     }

@@ -3,7 +3,7 @@ use Rattle.std.proofs.Common.{◌≡◌, ℕ, ◌+◌, ◌≤◌, ◌⊎◌, inl
 use Rattle.std.specs.Global.{Vec}
 use Rattle.std.proofs.lemmas.Bool.{cases_lt}
 use Rattle.std.proofs.lemmas.List.Elements.{Contains-append_left, Contains-append_right}
-use Rattle.mh_facts.specs.code.Queues.{Waits, WaitsOrIsListed, QueueGains, IsOne, TakesItem, TakesNothing}
+use Rattle.mh_facts.specs.code.Queues.{Waits, WaitsOrIsListed, QueueGains, IsSameQueueEntry, TakesItem, TakesNothing}
 use Rattle.mh_reach_found.specs.code.QueueDraws.{DrawsOne, DrawsNone, AppendsUnlessDone, DrawsSome, DrawsAll}
 use Rattle.mh_reach_words.specs.code.Sorting.{HaveSameElements}
 use Rattle.mh_grammar.proofs.Lists.{contains_here, contains_there, contains_cases, contains_none, contains_push}
@@ -116,7 +116,7 @@ module _ {X : Type 0} (Done : X → Type 0) where
       back cost o (inr beside) = inr (beside.0, same.only o beside.1)
 
   -- The first item of the separate list is moved to the queue.
-  pub moves_pushed : (old mid : List (Vec X)) (level : ℕ) (x : X) (xs : List X) → QueueGains (IsOne level x) old mid → Moves (WaitsOrIsListed old level (x ∷ xs)) (WaitsOrIsListed mid level xs)
+  pub moves_pushed : (old mid : List (Vec X)) (level : ℕ) (x : X) (xs : List X) → QueueGains (IsSameQueueEntry level x) old mid → Moves (WaitsOrIsListed old level (x ∷ xs)) (WaitsOrIsListed mid level xs)
   moves_pushed old mid level x xs gains = record { kept_or_done = on; back = back }
     where
       on : (cost : ℕ) (o : X) → WaitsOrIsListed old level (x ∷ xs) cost o → WaitsOrIsListed mid level xs cost o ⊎ Done o

@@ -5,7 +5,7 @@ use Rattle.std.proofs.lemmas.List.{append-nil}
 use Rattle.std.proofs.lemmas.Option.{same_Some}
 use Rattle.mh_tables_core.specs.Table.{TableData}
 use Rattle.mh_facts.specs.declared.store.FactKey.{FactKey}
-use Rattle.mh_facts.specs.Stored.{Facts as Stored}
+use Rattle.mh_facts.specs.Stored.{StoredFacts}
 use Rattle.mh_facts.specs.code.BestFirst.{Label, extended_label}
 use Rattle.mh_reach_found.specs.declared.word_comparison.WordPart.{WordPart}
 use Rattle.mh_reach_found.specs.code.WordComparison.{IsWordOf, AreWordOf, IsStackLater, AreComparable}
@@ -97,7 +97,7 @@ module _ (t : TableData) (words : FactKey → Option (List ℕ)) (spots : Arriva
 -- Whole sentences.
 
 -- A step whose facts and arrivals are stored has a sentence.
-pub known_label : (t : TableData) (facts : Stored) (spots : ArrivalList) (word_assignment : WordAssignment t facts) (label_assignment : LabelAssignment t word_assignment.words spots) (step : ArrivalStep) → IsKnownStep facts spots step → (l : Label) × LabelBy word_assignment.words label_assignment.labels step l
+pub known_label : (t : TableData) (facts : StoredFacts) (spots : ArrivalList) (word_assignment : WordAssignment t facts) (label_assignment : LabelAssignment t word_assignment.words spots) (step : ArrivalStep) → IsKnownStep facts spots step → (l : Label) × LabelBy word_assignment.words label_assignment.labels step l
 known_label t facts spots word_assignment label_assignment (steps.Begin start) h = (record { start = start; word = [] }, refl)
 known_label t facts spots word_assignment label_assignment (steps.Shift from token) h = let told = label_assignment.some from h.0 h.1 in (extended_label told.label (token ∷ []), (told.label, told.is, refl))
 known_label t facts spots word_assignment label_assignment (steps.Goto from inner) h =
@@ -128,7 +128,7 @@ module _ (t : TableData) (found : SearchResult) (spots : ArrivalList) (left righ
   steps_later false h = λ word_assignment label_assignment k l by by'. h word_assignment (numbers_of k) (numbers_of l) (left_of t word_assignment.words label_assignment k by) (right_of t word_assignment.words label_assignment l by')
 
 -- The order of steps is transitive.
-pub precedes_trans : (t : TableData) (facts : Stored) (spots : ArrivalList) (x y z : ArrivalStep) → IsKnownStep facts spots y → Precedes t facts spots x y → Precedes t facts spots y z → Precedes t facts spots x z
+pub precedes_trans : (t : TableData) (facts : StoredFacts) (spots : ArrivalList) (x y z : ArrivalStep) → IsKnownStep facts spots y → Precedes t facts spots x y → Precedes t facts spots y z → Precedes t facts spots x z
 precedes_trans t facts spots x y z known a b word_assignment label_assignment k m by by' =
     let l = known_label t facts spots word_assignment label_assignment y known in
     lex_trans (numbers_of k) (numbers_of l.0) (numbers_of m) (a word_assignment label_assignment k l.0 by l.1) (b word_assignment label_assignment l.0 m l.1 by')

@@ -15,7 +15,7 @@ use Rattle.mh_facts.specs.declared.store.FactKey.{FactKey}
 use Rattle.mh_facts.specs.declared.store.Fact.{Fact}
 use Rattle.mh_facts.specs.declared.store.Back.{Back}
 use Rattle.mh_facts.specs.declared.store.Back.TheVariants as backs
-use Rattle.mh_facts.specs.Stored.{Facts, fact_at}
+use Rattle.mh_facts.specs.Stored.{StoredFacts, fact_at}
 use Rattle.mh_grammar.specs.WordOrder.{LexLe}
 use Rattle.mh_reach_found.specs.declared.word_comparison.WordPart.{WordPart}
 use Rattle.mh_reach_found.specs.declared.word_comparison.WordPart.TheVariants as parts
@@ -31,7 +31,7 @@ use Rattle.mh_reach_found.specs.code.WordComparison.{IsNumberOrder, AgreesWithOr
 use Rattle.mh_facts.proofs.WordAssignment.{option_unique, fact_of_word}
 use Rattle.mh_grammar.proofs.Lists.{option_map_some}
 
--- The order of tokens.
+-- Two different first tokens decide the order of two words, and a shared beginning does not change the order.
 
 tokens_order : (x y : ℕ) (u v : List ℕ) (order : Ordering) → MatchOrdering order (x < y) (x ≡ y) (y < x) → (x ≡ y → ⊥) → IsOrderedBy (Some order) (x ∷ u) (y ∷ v)
 tokens_order x y u v Less lt other = inl lt
@@ -45,7 +45,7 @@ lex_append (x ∷ p) u v h = inr (refl, lex_append p u v h)
 lex_is : (u v a b : List ℕ) → u ≡ a → v ≡ b → LexLe a b → LexLe u v
 lex_is u v a b e g h = rw (e, g) h
 
--- Stacks of parts and their words.
+-- The word of two stacks of parts, one on the other, is the word of the upper stack and then the word of the lower one.
 
 one_part : (words : FactKey → Option (List ℕ)) (p : WordPart) (w : List ℕ) → IsWordOf words p w → AreWordOf words (p ∷ []) w
 one_part words p w h = ([], w, refl, h, refl)
@@ -70,7 +70,7 @@ pub weight_top : (sizes : FactKey → ℕ) (ps : List WordPart) (p : WordPart) �
 weight_top sizes ps (parts.Token x) = let h = weight_append sizes ps (parts.Token x ∷ []) in omega arith
 weight_top sizes ps (parts.Fact k) = let h = weight_append sizes ps (parts.Fact k ∷ []) in omega arith
 
--- The parts of a fact's word.
+-- The parts of a fact have the word of the fact, and together weigh less than the fact.
 
 shifted_parts : (words : FactKey → Option (List ℕ)) (path : FactKey) (u : List ℕ) (o : Option Symbol) → words path ≡ Some u → AreWordOf words (tokens_of (token_of o) ++ parts.Fact path ∷ []) (u ++ token_of o)
 shifted_parts words path u None e = subst (λ (l : List ℕ). AreWordOf words (parts.Fact path ∷ []) l) (sym (append-nil u)) (one_part words (parts.Fact path) u e)
@@ -97,7 +97,7 @@ some_size sizes k backs.Empty le = omega arith
 some_size sizes k (backs.Shifted path) le = omega arith
 some_size sizes k (backs.Reduced path inner) le = omega arith
 
-module _ (t : TableData) (facts : Facts) (word_assignment : WordAssignment t facts) where
+module _ (t : TableData) (facts : StoredFacts) (word_assignment : WordAssignment t facts) where
   fact_size : (k : FactKey) (v : List ℕ) → word_assignment.words k ≡ Some v → 0 < sizes_of facts k
   fact_size k v e = let f = fact_of_word t facts word_assignment k v e in let told = word_assignment.some k f.0 f.1 in some_size (sizes_of facts) k f.0.back told.size
 
@@ -195,7 +195,7 @@ turned book c m n a b tolds.Cheaper is x y never = absurd never
 turned book c m n a b tolds.Costlier is x y never = absurd never
 
 -- The numbers of two facts of one cost give the order of their words.
-pub order_by_numbers : (facts : Facts) (numbering : WordNumbering) (j k : FactKey) (c m n : ℕ) (told : WordOrder) → IsBook numbering.book → Some c ≡ option_map (λ (f : Fact). f.cost) (fact_at facts j) → Some c ≡ option_map (λ (f : Fact). f.cost) (fact_at facts k) → c < cap → IsNumberOfFact facts numbering j m → IsNumberOfFact facts numbering k n → IsNumberOrder m n told →
+pub order_by_numbers : (facts : StoredFacts) (numbering : WordNumbering) (j k : FactKey) (c m n : ℕ) (told : WordOrder) → IsBook numbering.book → Some c ≡ option_map (λ (f : Fact). f.cost) (fact_at facts j) → Some c ≡ option_map (λ (f : Fact). f.cost) (fact_at facts k) → c < cap → IsNumberOfFact facts numbering j m → IsNumberOfFact facts numbering k n → IsNumberOrder m n told →
     GivesWordOrder facts numbering j k told
 order_by_numbers facts numbering j k c m n told book left right lt one two turn words a b h e g =
     let f = option_map_some (λ (f : Fact). f.cost) (fact_at facts j) c (sym left) in
@@ -207,7 +207,7 @@ order_by_numbers facts numbering j k c m n told book left right lt one two turn 
     turned numbering.book c m n a b told book left_stands right_stands turn
 
 -- A fact of cost 0 has the empty word and is replaced by no parts.
-pub free_fact_replaced : (t : TableData) (facts : Facts) (k : FactKey) (old : List WordPart) → option_map (λ (f : Fact). f.cost) (fact_at facts k) ≡ Some 0 → ReplacesFactByParts t facts (parts.Fact k) old old
+pub free_fact_replaced : (t : TableData) (facts : StoredFacts) (k : FactKey) (old : List WordPart) → option_map (λ (f : Fact). f.cost) (fact_at facts k) ≡ Some 0 → ReplacesFactByParts t facts (parts.Fact k) old old
 free_fact_replaced t facts k old e word_assignment v is =
     let f = fact_of_word t facts word_assignment k v is in
     let told = word_assignment.some k f.0 f.1 in
@@ -226,12 +226,12 @@ is_some_zero (Some n) e = ap Some (none_equal n e)
 pub same_cost : (o : Option Fact) (m n : ℕ) → m ≡ n → Some m ≡ option_map (λ (f : Fact). f.cost) o → Some n ≡ option_map (λ (f : Fact). f.cost) o
 same_cost o m n e h = rw (← e) h
 
-pub opens_by : (t : TableData) (facts : Facts) (k : FactKey) (back : Back) (old new : List WordPart) → option_map (λ (f : Fact). f.back) (fact_at facts k) ≡ Some back → new ≡ old ++ parts_of t k back → ReplacesFactByParts t facts (parts.Fact k) old new
+pub opens_by : (t : TableData) (facts : StoredFacts) (k : FactKey) (back : Back) (old new : List WordPart) → option_map (λ (f : Fact). f.back) (fact_at facts k) ≡ Some back → new ≡ old ++ parts_of t k back → ReplacesFactByParts t facts (parts.Fact k) old new
 opens_by t facts k back old new e grown word_assignment v is = let f = option_map_some (λ (f : Fact). f.back) (fact_at facts k) back e in opened t facts word_assignment k f.0 v old new is f.1 (rw f.2 grown)
 
--- The whole comparison.
+-- The whole comparison decides which of two words is later.
 
-module _ (t : TableData) (facts : Facts) (all : Rests) where
+module _ (t : TableData) (facts : StoredFacts) (all : Rests) where
   pub remainders_begin : KeepRemainders t facts all all
   remainders_begin word_assignment u v is is' = record { prefix = []; left_rest = u; right_rest = v; left_word = is; right_word = is'; left_is = refl; right_is = refl }
 

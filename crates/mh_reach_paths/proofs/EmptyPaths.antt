@@ -11,14 +11,14 @@ use Rattle.mh_facts.specs.declared.left_sides.ByLeftSide.{ByLeftSide}
 use Rattle.mh_facts.specs.code.Queues.{QueueGains, Among}
 use Rattle.mh_facts.specs.code.TokenClasses.{representatives_at}
 use Rattle.mh_facts.specs.code.ByLeftSide.{IsByLeftSide}
-use Rattle.mh_facts.specs.code.SearchRules.{IsEmptyItem}
+use Rattle.mh_facts.specs.code.SearchRules.{IsEmptyPathFact}
 use Rattle.mh_facts.proofs.QueueGains.{gains_by}
 use Rattle.mh_facts.proofs.Edges.{edge_leads, edge_there}
 use Rattle.mh_reach_paths.specs.code.EmptyPaths.{BeginsOverEdge}
 
 module _ (t : TableData) (f : Facts t) (c : TokenClasses) (left : ByLeftSide) (l : IsByLeftSide t left) (from : ℕ) where
-  pub begin_gains : (old new : List (Vec QueuedFact)) → QueueGains (Among (BeginsOverEdge from (representatives_at c from) left) (state_at t from).edges) old new → QueueGains (IsEmptyItem t c from) old new
-  begin_gains old new g = gains_by (Among (BeginsOverEdge from (representatives_at c from) left) (state_at t from).edges) (IsEmptyItem t c from) old new
+  pub begin_gains : (old new : List (Vec QueuedFact)) → QueueGains (Among (BeginsOverEdge from (representatives_at c from) left) (state_at t from).edges) old new → QueueGains (IsEmptyPathFact t c from) old new
+  begin_gains old new g = gains_by (Among (BeginsOverEdge from (representatives_at c from) left) (state_at t from).edges) (IsEmptyPathFact t c from) old new
       (λ cost o h.
       let e = h.0 in
       let n = (h.2).0 in

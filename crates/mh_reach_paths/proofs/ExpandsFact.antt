@@ -29,7 +29,8 @@ two_symbols : (o : Option Symbol) (x n : ℕ) → o ≡ Some (T x) → o ≡ Som
 two_symbols o x n a b = (let y : Some (T x) ≡ Some (N n) = sym a ∙ b in let z : T x ≡ N n = cc in cc)
 
 module _ (t : TableData) (c : TokenClasses) (old new : SearchData) (p : SettledFact) where
-  -- The case of a token after the dot.
+  -- If a token follows the dot, and the queue gains the facts after its shift and nothing else changes, the fact is
+  -- expanded.
   pub shift_expands : (x : ℕ) → slice_get (rhs_of t.grammar p.key.production) p.key.dot ≡ Some (T x) → new.paths.items ≡ old.paths.items → new.complete_paths.items ≡ old.complete_paths.items → new.known.keys ≡ old.known.keys
       → QueueGains (FollowsShift t (rep_of c) p) (queue_of old) (queue_of new) → ExpandsFact t c old new p
   shift_expands x symbol paths complete_paths known g = record {
@@ -49,7 +50,8 @@ module _ (t : TableData) (c : TokenClasses) (old new : SearchData) (p : SettledF
     known_only = λ k h. inl (rw known at h);
   }
 
-  -- The case of a nonterminal after the dot.
+  -- If a nonterminal follows the dot, the path is stored and the queue gains the facts after the known goto facts of
+  -- this nonterminal, the fact is expanded.
   pub path_expands : (m : ℕ) → slice_get (rhs_of t.grammar p.key.production) p.key.dot ≡ Some (N m) → AddsToRow old.paths.items new.paths.items (place_of c p.end p.key.next) p → new.complete_paths.items ≡ old.complete_paths.items → new.known.keys ≡ old.known.keys
       → QueueGains (Among (FollowsGoto t p) (complete_paths_at old (place_of c p.end p.key.next))) (queue_of old) (queue_of new) → ExpandsFact t c old new p
   path_expands m symbol files complete_paths known g = record {
@@ -69,7 +71,7 @@ module _ (t : TableData) (c : TokenClasses) (old new : SearchData) (p : SettledF
     known_only = λ k h. inl (rw known at h);
   }
 
-  -- The case of a complete path without a goto on its left side.
+  -- A complete path without a goto on its left side is expanded by no change.
   pub dead_expands : length (rhs_of t.grammar p.key.production) ≤ p.key.dot → edge_of t p.key.from (N (lhs_of t.grammar p.key.production)) ≡ None → new ≡ old → ExpandsFact t c old new p
   dead_expands end none same =
       let symbol : slice_get (rhs_of t.grammar p.key.production) p.key.dot ≡ None = slice_get_past (rhs_of t.grammar p.key.production) p.key.dot end in
@@ -94,7 +96,8 @@ module _ (t : TableData) (c : TokenClasses) (old new : SearchData) (p : SettledF
         known_only = λ k h. inl (rw known at h);
       }
 
-  -- The case of a complete path with a goto on its left side.
+  -- A complete path with a goto on its left side is expanded by adding the goto facts of all representatives of the
+  -- target.
   pub complete_path_expands : (target : ℕ) → length (rhs_of t.grammar p.key.production) ≤ p.key.dot → edge_of t p.key.from (N (lhs_of t.grammar p.key.production)) ≡ Some target → AddsGotos t c old new p target (representatives_at c target) → ExpandsFact t c old new p
   complete_path_expands target end edge m =
       let symbol : slice_get (rhs_of t.grammar p.key.production) p.key.dot ≡ None = slice_get_past (rhs_of t.grammar p.key.production) p.key.dot end in
@@ -117,7 +120,7 @@ module _ (t : TableData) (c : TokenClasses) (old new : SearchData) (p : SettledF
         known_only = m.known_only;
       }
 
--- The goto facts for one more representative of the target.
+-- The goto facts of no representative are added by no change; those of one more are added by adding one goto fact.
 module _ (t : TableData) (c : TokenClasses) (old mid new : SearchData) (p : SettledFact) (target : ℕ) where
   pub adds_gotos_none : AddsGotos t c old old p target []
   adds_gotos_none = record {
@@ -155,7 +158,7 @@ module _ (t : TableData) (c : TokenClasses) (old mid new : SearchData) (p : Sett
         ];
       }
 
--- One goto fact.
+-- A goto fact is added by no change if it is known, and by storing it if it is new.
 module _ (t : TableData) (c : TokenClasses) (old new : SearchData) (p : SettledFact) (w : CompletePath) (paths : new.paths.items ≡ old.paths.items) (known : ListGains (λ (k : GotoFact). k ≡ goto_fact w) old.known.keys new.known.keys) where
   -- The case of a goto fact that is known.
   pub adds_known : queue_of new ≡ queue_of old → new.complete_paths.items ≡ old.complete_paths.items → new.known.keys ≡ old.known.keys → AddsGoto t c old new p w

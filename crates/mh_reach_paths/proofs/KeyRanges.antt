@@ -7,7 +7,7 @@ use Rattle.mh_grammar.specs.declared.types.Production.{Production}
 use Rattle.mh_grammar.specs.Plain.{PlainGrammar, IsInRange, rhs_of}
 use Rattle.mh_tables_core.specs.Table.{TableData}
 use Rattle.mh_tables_core.specs.Facts.{Facts}
-use Rattle.mh_facts.specs.Stored.{Facts as Stored, fact_at}
+use Rattle.mh_facts.specs.Stored.{StoredFacts, fact_at}
 use Rattle.mh_facts.specs.declared.store.Fact.{Fact}
 use Rattle.mh_facts.specs.declared.work.SettledFact.{SettledFact}
 use Rattle.mh_facts.specs.code.SearchRules.{InRange}
@@ -34,7 +34,7 @@ rhs_short g r p = by (nat_lt p (length g.starts))
     by false = some (slice_get g.productions (p - length g.starts)) refl
 
 -- A fact that is settled lowers the number of keys that are not stored.
-pub settles_less : (t : TableData) (f : Facts t) (facts : Stored) (p : SettledFact) (fact : Fact) → InRange t p → fact_at facts p.key ≡ None → unsettled (facts ++ (p.key, fact) ∷ []) < unsettled facts
+pub settles_less : (t : TableData) (f : Facts t) (facts : StoredFacts) (p : SettledFact) (fact : Fact) → InRange t p → fact_at facts p.key ≡ None → unsettled (facts ++ (p.key, fact) ∷ []) < unsettled facts
 settles_less t f facts p fact r fresh =
     let few = f.ranges.few_states in
     let many = f.ranges.grammar.few in

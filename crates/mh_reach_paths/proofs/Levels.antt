@@ -8,22 +8,22 @@ use Rattle.mh_grammar.proofs.Lists.{contains_there, contains_none}
 use Rattle.mh_tables_core.specs.Table.{TableData}
 use Rattle.mh_tables_core.specs.Facts.{Facts}
 use Rattle.mh_facts.specs.declared.store.FactKey.{FactKey}
-use Rattle.mh_facts.specs.Stored.{Facts as Stored}
+use Rattle.mh_facts.specs.Stored.{StoredFacts}
 use Rattle.mh_facts.specs.code.BestFirst.{IsPending}
 use Rattle.mh_facts.specs.Costs.{cap}
 use Rattle.mh_facts.specs.declared.work.QueuedFact.{QueuedFact}
 use Rattle.mh_facts.specs.declared.work.SearchData.{SearchData}
 use Rattle.mh_facts.specs.declared.classes.TokenClasses.{TokenClasses}
-use Rattle.mh_facts.specs.code.Queues.{Waits, QueueGains, IsOne}
+use Rattle.mh_facts.specs.code.Queues.{Waits, QueueGains, IsSameQueueEntry}
 use Rattle.mh_facts.specs.code.TokenClasses.{AreTokenClasses, rep_of}
 use Rattle.mh_facts.specs.code.SearchRules.{queue_of}
 use Rattle.mh_facts.specs.code.WordAssignment.{WordNoLater, WordBy}
-use Rattle.mh_reach_paths.specs.code.LevelInvariant.{IsItemSettled, NoUnsettledLeft, WaitsWithWord, Waiting, IsSoundItem, LevelInvariant, AreSortedByWord, LevelInOrder, LevelReady, TakesAllUnsettled}
+use Rattle.mh_reach_paths.specs.code.LevelInvariant.{IsItemSettled, NoUnsettledLeft, WaitsWithWord, WaitsOrIsBeside, IsSoundItem, LevelInvariant, AreSortedByWord, LevelInOrder, LevelReady, TakesAllUnsettled}
 use Rattle.mh_reach_found.proofs.QueueDraws.{moves_taken, moves_sorted, moves_pushed, moves_drained, moves_higher, above}
 use Rattle.mh_facts.proofs.WordAssignment.{word_one, order_laws, no_later_if_cheaper, no_later_at_cap}
 use Rattle.mh_reach_paths.proofs.SearchSteps.{EqualButQueue, invariant_moves}
 
-module _ (t : TableData) (f : Facts t) (c : TokenClasses) (cls : AreTokenClasses t c) (facts : Stored) (old : SearchData) (level : ℕ) where
+module _ (t : TableData) (f : Facts t) (c : TokenClasses) (cls : AreTokenClasses t c) (facts : StoredFacts) (old : SearchData) (level : ℕ) where
   -- The items of the level's cost are moved from the queue to a separate list.
   unfoldable pub level_taken : (mid : SearchData) (all : List QueuedFact) → LevelInvariant t c facts old level [] → EqualButQueue old mid → TakesAllUnsettled facts (queue_of old) (queue_of mid) level all → LevelInvariant t c facts mid level all
   level_taken mid all good same taken = let m = moves_taken (IsItemSettled facts) (queue_of old) (queue_of mid) level all taken in invariant_moves t f c cls facts old level [] good mid all same m.kept_or_done m.back
@@ -48,7 +48,7 @@ module _ (t : TableData) (f : Facts t) (c : TokenClasses) (cls : AreTokenClasses
   )
 
   -- The next item of the separate list is moved to the queue.
-  unfoldable pub level_pushed : (mid : SearchData) (x : QueuedFact) (xs : List QueuedFact) → LevelReady t c facts old level (x ∷ xs) → EqualButQueue old mid → QueueGains (IsOne level x) (queue_of old) (queue_of mid) → LevelInOrder t c facts mid level xs
+  unfoldable pub level_pushed : (mid : SearchData) (x : QueuedFact) (xs : List QueuedFact) → LevelReady t c facts old level (x ∷ xs) → EqualButQueue old mid → QueueGains (IsSameQueueEntry level x) (queue_of old) (queue_of mid) → LevelInOrder t c facts mid level xs
   unfolding invariant_moves
   level_pushed mid x xs ready same gains = record {
     invariant = let m = moves_pushed (IsItemSettled facts) (queue_of old) (queue_of mid) level x xs gains in invariant_moves t f c cls facts old level (x ∷ xs) ready.invariant mid xs same m.kept_or_done m.back;
@@ -60,7 +60,7 @@ module _ (t : TableData) (f : Facts t) (c : TokenClasses) (cls : AreTokenClasses
       here = ready.invariant.items level x (inr (refl, (0, omega arith, refl)))
 
       -- The item x comes no later than all items that wait.
-      first : (i : QueuedFact) (cost : ℕ) (u v : List ℕ) → Waiting mid level xs cost i → WordBy t ready.invariant.word_assignment.words x.key x.back u → WordBy t ready.invariant.word_assignment.words i.key i.back v → WordNoLater t u v
+      first : (i : QueuedFact) (cost : ℕ) (u v : List ℕ) → WaitsOrIsBeside mid level xs cost i → WordBy t ready.invariant.word_assignment.words x.key x.back u → WordBy t ready.invariant.word_assignment.words i.key i.back v → WordNoLater t u v
       first i cost u v (inl there) by by' = elim (gains.only cost i there) [
         | inl was ↦ (
             let ok = ready.invariant.items cost i (inl was) in
@@ -78,7 +78,7 @@ module _ (t : TableData) (f : Facts t) (c : TokenClasses) (cls : AreTokenClasses
       ]
       first i cost u v (inr beside) by by' = ready.rising.0 i u v beside.1 by by'
 
-      flat : (o i : QueuedFact) (cost : ℕ) (u v : List ℕ) → Waits (queue_of mid) level o → Waiting mid level xs cost i → WordBy t ready.invariant.word_assignment.words o.key o.back u → WordBy t ready.invariant.word_assignment.words i.key i.back v → WordNoLater t u v
+      flat : (o i : QueuedFact) (cost : ℕ) (u v : List ℕ) → Waits (queue_of mid) level o → WaitsOrIsBeside mid level xs cost i → WordBy t ready.invariant.word_assignment.words o.key o.back u → WordBy t ready.invariant.word_assignment.words i.key i.back v → WordNoLater t u v
       flat o i cost u v there waits by by' = elim (gains.only level o there) [
         | inl was ↦ absurd (ready.none o was)
         | inr is ↦ first i cost u v waits (rw is.1 at by) by'
@@ -100,16 +100,16 @@ module _ (t : TableData) (f : Facts t) (c : TokenClasses) (cls : AreTokenClasses
       record {
         word_assignment = good.word_assignment;
         ready = good.ready;
-        frontier = record {
+        search_invariant = record {
           closed = record {
-            begins = λ r p a known lt o pk goto. next (good.frontier.closed.begins r p a known lt o pk goto);
-            shifts = λ r p d a x z s j v e end symbol move lt. next (good.frontier.closed.shifts r p d a x z s j v e end symbol move lt);
-            complete_paths = good.frontier.closed.complete_paths;
-            joins = λ r p d a y s n x u v path end symbol way. next (good.frontier.closed.joins r p d a y s n x u v path end symbol way);
+            begins = λ r p a known lt o pk goto. next (good.search_invariant.closed.begins r p a known lt o pk goto);
+            shifts = λ r p d a x z s j v e end symbol move lt. next (good.search_invariant.closed.shifts r p d a x z s j v e end symbol move lt);
+            complete_paths = good.search_invariant.closed.complete_paths;
+            joins = λ r p d a y s n x u v path end symbol way. next (good.search_invariant.closed.joins r p d a y s n x u v path end symbol way);
           };
-          stored = good.frontier.stored;
-          queued = λ k u h. good.frontier.queued k u (h.0, h.1, was h.0 h.1 h.2, h.3, h.4);
-          before = λ k l u m e h. good.frontier.before k l u m e (h.0, h.1, was h.0 h.1 h.2, h.3, h.4);
+          stored = good.search_invariant.stored;
+          queued = λ k u h. good.search_invariant.queued k u (h.0, h.1, was h.0 h.1 h.2, h.3, h.4);
+          before = λ k l u m e h. good.search_invariant.before k l u m e (h.0, h.1, was h.0 h.1 h.2, h.3, h.4);
         };
         items = λ cost i h. good.items cost i (was cost i h);
         at_least_level = above (queue_of old) level good.at_least_level ready.none;
@@ -120,14 +120,14 @@ module _ (t : TableData) (f : Facts t) (c : TokenClasses) (cls : AreTokenClasses
         filed = good.filed;
       }
     where
-      was : (cost : ℕ) (i : QueuedFact) → Waiting old (level + 1) [] cost i → Waiting old level [] cost i
+      was : (cost : ℕ) (i : QueuedFact) → WaitsOrIsBeside old (level + 1) [] cost i → WaitsOrIsBeside old level [] cost i
       was = (moves_higher (IsItemSettled facts) (queue_of old) level).back
 
-      waits : (cost : ℕ) (i : QueuedFact) → Waiting old level [] cost i → Waiting old (level + 1) [] cost i
+      waits : (cost : ℕ) (i : QueuedFact) → WaitsOrIsBeside old level [] cost i → WaitsOrIsBeside old (level + 1) [] cost i
       waits cost i (inl there) = inl there
       waits cost i (inr beside) = absurd (contains_none i beside.1)
 
-      next : {k : FactKey} {u : List ℕ} → IsPending (WordNoLater t) ready.invariant.word_assignment.words (WaitsWithWord t ready.invariant.word_assignment.words (Waiting old level [])) k u → IsPending (WordNoLater t) ready.invariant.word_assignment.words (WaitsWithWord t ready.invariant.word_assignment.words (Waiting old (level + 1) [])) k u
+      next : {k : FactKey} {u : List ℕ} → IsPending (WordNoLater t) ready.invariant.word_assignment.words (WaitsWithWord t ready.invariant.word_assignment.words (WaitsOrIsBeside old level [])) k u → IsPending (WordNoLater t) ready.invariant.word_assignment.words (WaitsWithWord t ready.invariant.word_assignment.words (WaitsOrIsBeside old (level + 1) [])) k u
       next (inl held) = inl held
       next (inr w) = inr (w.0, ((w.1).0, (w.1).1, waits (w.1).0 (w.1).1 (w.1).2, (w.1).3, (w.1).4), w.2)
 

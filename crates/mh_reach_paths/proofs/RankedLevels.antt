@@ -22,7 +22,7 @@ use Rattle.mh_facts.specs.declared.classes.TokenClasses.{TokenClasses}
 use Rattle.mh_reach_found.specs.declared.numbers.WordNumbering.{WordNumbering}
 use Rattle.mh_reach_paths.specs.declared.ranking.RankedFact.{RankedFact}
 use Rattle.mh_reach_found.specs.declared.search_result.SearchResult.{SearchResult}
-use Rattle.mh_facts.specs.code.Queues.{Waits, QueueGains, IsOne}
+use Rattle.mh_facts.specs.code.Queues.{Waits, QueueGains, IsSameQueueEntry}
 use Rattle.mh_facts.specs.code.TokenClasses.{AreTokenClasses, rep_of}
 use Rattle.mh_reach_paths.specs.code.EmptyPaths.{IsBegun}
 use Rattle.mh_facts.specs.code.SearchRules.{settled_of, queue_of, ExpandsFact}
@@ -36,7 +36,7 @@ use Rattle.mh_reach_paths.proofs.SearchSteps.{EqualButQueue, invariant_moves, fa
 use Rattle.mh_reach_paths.proofs.Levels.{level_taken, level_sorted, level_pushed, level_drained, level_done, rises_over}
 use Rattle.mh_reach_paths.proofs.WordNumbers.{numbered_more, numbered_push, numbered_higher, none_numbered, no_later}
 
--- Items paired with the numbers of their words.
+-- Pairing the items with the numbers of their words and sorting the pairs by number ranks the items.
 
 pub none_paired : (items : List QueuedFact) (words : List ℕ) → ArePaired items words 0 []
 none_paired items words = record { len = refl; each = λ n r there. absurd (let y : None ≡ Some r = there in cc) }
@@ -67,7 +67,7 @@ pairs_ranked items words pairs rs h same rises = record {
   is_sorted = rises;
 }
 
--- The items of one level.
+-- The ranked items of one level are sorted by their words.
 
 module _ (t : TableData) (c : TokenClasses) (words : FactKey → Option (List ℕ)) (book : Words) (level : ℕ) (is : IsBook book) (lt : level < cap) where
   -- Items with rising numbers have rising words.
@@ -136,11 +136,11 @@ module _ (t : TableData) (f : Facts t) (c : TokenClasses) (cls : AreTokenClasses
       ranked = stands;
     }
 
--- One item of the level.
+-- Moving one item of the level to the queue and settling it keeps the invariant of the level.
 
 module _ (t : TableData) (f : Facts t) (c : TokenClasses) (cls : AreTokenClasses t c) (found : SearchResult) (level : ℕ) where
   -- The next item is moved to the queue.
-  pub ranked_pushed : (mid : SearchData) (r : RankedFact) (rs : List RankedFact) → InLevel t c found level (r ∷ rs) → EqualButQueue found.work mid → QueueGains (IsOne level r.item) (queue_of found.work) (queue_of mid) → SettlesOneWord t c (record { store = found.store; work = mid; numbering = found.numbering }) level r.word rs
+  pub ranked_pushed : (mid : SearchData) (r : RankedFact) (rs : List RankedFact) → InLevel t c found level (r ∷ rs) → EqualButQueue found.work mid → QueueGains (IsSameQueueEntry level r.item) (queue_of found.work) (queue_of mid) → SettlesOneWord t c (record { store = found.store; work = mid; numbering = found.numbering }) level r.word rs
   unfolding level_pushed invariant_moves
   ranked_pushed mid r rs h same gains = record {
     order = level_pushed t f c cls found.store found.work level mid r.item (unranked rs) h.ready same gains;

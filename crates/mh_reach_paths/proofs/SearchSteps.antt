@@ -13,7 +13,7 @@ use Rattle.mh_tables_core.specs.Run.{Shifts, Reduces, run_move_of}
 use Rattle.mh_facts.specs.declared.store.FactKey.{FactKey}
 use Rattle.mh_facts.specs.declared.store.Fact.{Fact}
 use Rattle.mh_facts.specs.declared.store.Back.TheVariants as backs
-use Rattle.mh_facts.specs.Stored.{Facts as Stored, highest_cost}
+use Rattle.mh_facts.specs.Stored.{StoredFacts, highest_cost}
 use Rattle.mh_facts.proofs.StoreEntries.{highest_cost-push}
 use Rattle.mh_facts.specs.code.BestFirst.{key, IsPathEnd, WordOrderLaws, SoundFact, SearchInvariant, SettlingStep, IsPending}
 use Rattle.mh_facts.specs.Costs.{cap}
@@ -33,12 +33,12 @@ use Rattle.mh_reach_found.specs.declared.search_result.SearchResult.{SearchResul
 use Rattle.mh_facts.specs.declared.classes.TokenClasses.{TokenClasses}
 use Rattle.mh_facts.specs.code.Queues.{Waits}
 use Rattle.mh_facts.specs.code.TokenClasses.{AreTokenClasses, rep_of, place_of}
-use Rattle.mh_facts.specs.code.SearchRules.{InRange, settled_of, key_further, FollowsShift, Fits, FollowsGoto, IsReducedOn, complete_path_of, goto_fact, IsCompletePathOf, queue_of, paths_at, complete_paths_at, KnowsGoto, HasRows, IsReady, Follows, ExpandsFact, IsEmptyItem}
+use Rattle.mh_facts.specs.code.SearchRules.{InRange, settled_of, key_further, FollowsShift, Fits, FollowsGoto, IsReducedOn, complete_path_of, goto_fact, IsCompletePathOf, queue_of, paths_at, complete_paths_at, KnowsGoto, HasRows, HasBoundedRows, Follows, ExpandsFact, IsEmptyPathFact}
 use Rattle.mh_facts.specs.code.SearchRules as rules
-use Rattle.mh_reach_paths.specs.code.EmptyPaths.{IsEmptyPath, IsBegun, empty_item}
+use Rattle.mh_reach_paths.specs.code.EmptyPaths.{IsEmptyPath, IsBegun, empty_path_fact}
 use Rattle.mh_facts.specs.code.WordAssignment.{WordNoLater, cost_up_to_cap, weigh, WordBy, before_dot}
 use Rattle.mh_reach_found.specs.code.SearchResult.{IsStored, GotoFactsIn, IsSoundCompletePath, IsSearchResult}
-use Rattle.mh_reach_paths.specs.code.LevelInvariant.{TakesUnsettled, WaitsWithWord, Waiting, IsSoundItem, IsSoundPath, LevelInvariant, AreSortedByWord, LevelInOrder}
+use Rattle.mh_reach_paths.specs.code.LevelInvariant.{TakesUnsettled, WaitsWithWord, WaitsOrIsBeside, IsSoundItem, IsSoundPath, LevelInvariant, AreSortedByWord, LevelInOrder}
 use Rattle.mh_reach_found.specs.code.WordNumbers.{FactsAreNumbered}
 use Rattle.mh_reach_paths.specs.code.Levels.{BeforeLevel}
 use Rattle.mh_facts.proofs.WordAssignment.{word_kept, word_one, option_unique, order_laws, no_later_at_cap, part_of_cost_zero, word_of_cost_zero, no_lower, no_lower_back, assignment_with_fact, new_words, words_kept, words_here, words_only}
@@ -87,7 +87,7 @@ pub record EqualButQueue (old mid : SearchData) : Type 0 where
   pub complete_paths : mid.complete_paths.items ≡ old.complete_paths.items
   pub known : mid.known.keys ≡ old.known.keys
 
-module _ (t : TableData) (f : Facts t) (c : TokenClasses) (cls : AreTokenClasses t c) (facts : Stored) (old : SearchData) (level : ℕ) (aside : List QueuedFact) (good : LevelInvariant t c facts old level aside) where
+module _ (t : TableData) (f : Facts t) (c : TokenClasses) (cls : AreTokenClasses t c) (facts : StoredFacts) (old : SearchData) (level : ℕ) (aside : List QueuedFact) (good : LevelInvariant t c facts old level aside) where
   abbrev rep : ℕ → ℕ → ℕ
   rep = rep_of c
 
@@ -101,17 +101,17 @@ module _ (t : TableData) (f : Facts t) (c : TokenClasses) (cls : AreTokenClasses
   stored_word k h = let told = good.word_assignment.some k h.0 h.1 in (told.word, told.is)
 
   -- Items that wait are moved or dropped; each item that is dropped is stored.
-  unfoldable pub invariant_moves : (mid : SearchData) (other : List QueuedFact) → EqualButQueue old mid → ((cost : ℕ) (i : QueuedFact) → Waiting old level aside cost i → Waiting mid level other cost i ⊎ IsStored facts i.key) →
-      ((cost : ℕ) (i : QueuedFact) → Waiting mid level other cost i → Waiting old level aside cost i) → LevelInvariant t c facts mid level other
+  unfoldable pub invariant_moves : (mid : SearchData) (other : List QueuedFact) → EqualButQueue old mid → ((cost : ℕ) (i : QueuedFact) → WaitsOrIsBeside old level aside cost i → WaitsOrIsBeside mid level other cost i ⊎ IsStored facts i.key) →
+      ((cost : ℕ) (i : QueuedFact) → WaitsOrIsBeside mid level other cost i → WaitsOrIsBeside old level aside cost i) → LevelInvariant t c facts mid level other
   invariant_moves mid other beside on back = record {
     word_assignment = good.word_assignment;
     ready = record {
       rows = record { paths = ap length beside.paths ∙ good.ready.rows.paths; complete_paths = ap length beside.complete_paths ∙ good.ready.rows.complete_paths; each_path = λ n p h. good.ready.rows.each_path n p (rw (← beside.paths) h) };
       each_complete_path = λ n w h. good.ready.each_complete_path n w (rw (← beside.complete_paths) h);
     };
-    frontier = drops t f rep (WordNoLater t) laws words (GotoFactsIn c words mid) (WaitsWithWord t words (Waiting old level aside))
-        (ways_same good.frontier)
-        (WaitsWithWord t words (Waiting mid level other))
+    search_invariant = drops t f rep (WordNoLater t) laws words (GotoFactsIn c words mid) (WaitsWithWord t words (WaitsOrIsBeside old level aside))
+        (ways_same good.search_invariant)
+        (WaitsWithWord t words (WaitsOrIsBeside mid level other))
         (λ k u h. elim (on h.0 h.1 h.2) [
           | inl still ↦ inl (h.0, h.1, still, h.3, h.4)
           | inr stored ↦ inr (let s = stored_word h.1.key stored in (s.0, rw (← h.3) s.1))
@@ -126,7 +126,7 @@ module _ (t : TableData) (f : Facts t) (c : TokenClasses) (cls : AreTokenClasses
     filed = λ k h. (let found = good.filed k (rw (← beside.known) h) in (found.0, rw beside.complete_paths found.1, found.2));
   }
     where
-      ways_same : SearchInvariant t rep (WordNoLater t) words (GotoFactsIn c words old) (WaitsWithWord t words (Waiting old level aside)) → SearchInvariant t rep (WordNoLater t) words (GotoFactsIn c words mid) (WaitsWithWord t words (Waiting old level aside))
+      ways_same : SearchInvariant t rep (WordNoLater t) words (GotoFactsIn c words old) (WaitsWithWord t words (WaitsOrIsBeside old level aside)) → SearchInvariant t rep (WordNoLater t) words (GotoFactsIn c words mid) (WaitsWithWord t words (WaitsOrIsBeside old level aside))
       ways_same h = record {
         closed = record {
           begins = h.closed.begins;
@@ -140,10 +140,10 @@ module _ (t : TableData) (f : Facts t) (c : TokenClasses) (cls : AreTokenClasses
       }
 
   -- An item that waits has only one word.
-  waiting_word : (cost : ℕ) (i : QueuedFact) (h : Waiting old level aside cost i) (u : List ℕ) → WordBy t words i.key i.back u → u ≡ (good.items cost i h).word
+  waiting_word : (cost : ℕ) (i : QueuedFact) (h : WaitsOrIsBeside old level aside cost i) (u : List ℕ) → WordBy t words i.key i.back u → u ≡ (good.items cost i h).word
   waiting_word cost i h u by = let ok = good.items cost i h in word_one t words i.key i.back u ok.word by ok.word_by
 
-  module _ (le_cap : level ≤ cap) (flat : (o i : QueuedFact) (cost : ℕ) (u v : List ℕ) → Waits (queue_of old) level o → Waiting old level aside cost i → WordBy t words o.key o.back u → WordBy t words i.key i.back v → WordNoLater t u v) (rising : AreSortedByWord t words aside)
+  module _ (le_cap : level ≤ cap) (flat : (o i : QueuedFact) (cost : ℕ) (u v : List ℕ) → Waits (queue_of old) level o → WaitsOrIsBeside old level aside cost i → WordBy t words o.key o.back u → WordBy t words i.key i.back v → WordNoLater t u v) (rising : AreSortedByWord t words aside)
       (mid new : SearchData) (i : QueuedFact) (beside : EqualButQueue old mid) (next : TakesUnsettled facts (queue_of old) (queue_of mid) level i) (more : ExpandsFact t c mid new (settled_of level i)) where
     abbrev pub item_sound : IsSoundItem t rep words level i
     item_sound = good.items level i (inl next.waited)
@@ -176,7 +176,7 @@ module _ (t : TableData) (f : Facts t) (c : TokenClasses) (cls : AreTokenClasses
     old_whole v h = record { few = h.few; at_most_level = h.at_most_level; from = h.from; edge = h.edge; next = h.next; word = h.word; stored = kept v.inner h.word h.stored; cost_is = h.cost_is; short = h.short; sound = h.sound }
 
     sound : (k : FactKey) (u : List ℕ) → later k ≡ Some u → SoundFact t rep k u
-    sound k u e = elim (only k u e) [ inl was ↦ good.frontier.stored k u was | inr is ↦ rw (is.0, is.1) item_sound.sound ]
+    sound k u e = elim (only k u e) [ inl was ↦ good.search_invariant.stored k u was | inr is ↦ rw (is.0, is.1) item_sound.sound ]
 
     path_ok : IsSoundPath t later (settled_of level i)
     path_ok = record { range = item_sound.range; word = w; stored = here; cost_is = item_sound.cost_is; short = item_sound.short }
@@ -199,11 +199,11 @@ module _ (t : TableData) (f : Facts t) (c : TokenClasses) (cls : AreTokenClasses
     each_follow cost o (rules.Follows.Meet v q way there s) = join_sound t f c cls later sound level q v (old_path q (good.paths (place_of c i.key.from i.key.first) q (rw (← beside.paths) there))) (complete_path_sound t f c cls later sound level (settled_of level i) v path_ok (omega arith) way) cost o s
 
     -- Each item that waits waited before, or follows from the fact that was settled.
-    came : (cost : ℕ) (o : QueuedFact) → Waiting new level aside cost o → Waiting old level aside cost o ⊎ Follows t c mid new (settled_of level i) cost o
+    came : (cost : ℕ) (o : QueuedFact) → WaitsOrIsBeside new level aside cost o → WaitsOrIsBeside old level aside cost o ⊎ Follows t c mid new (settled_of level i) cost o
     came cost o (inl h) = elim (more.only cost o h) [ inl was ↦ inl (inl (next.only cost o was)) | inr add ↦ inr add ]
     came cost o (inr h) = inl (inr h)
 
-    pub each_item : (cost : ℕ) (o : QueuedFact) → Waiting new level aside cost o → IsSoundItem t rep later cost o
+    pub each_item : (cost : ℕ) (o : QueuedFact) → WaitsOrIsBeside new level aside cost o → IsSoundItem t rep later cost o
     each_item cost o h = elim (came cost o h) [ inl was ↦ old_item cost o (good.items cost o was) | inr add ↦ each_follow cost o add ]
 
     low_follow : (cost : ℕ) (o : QueuedFact) → Follows t c mid new (settled_of level i) cost o → level ≤ cost
@@ -213,7 +213,7 @@ module _ (t : TableData) (f : Facts t) (c : TokenClasses) (cls : AreTokenClasses
         let e : v.cost ≡ level = ap (λ (x : CompletePath). x.cost) way.is in
         rw (s.cost_is, e) (no_lower_back q.cost level le_cap)
 
-    pub low_all : (cost : ℕ) (o : QueuedFact) → Waiting new level aside cost o → level ≤ cost
+    pub low_all : (cost : ℕ) (o : QueuedFact) → WaitsOrIsBeside new level aside cost o → level ≤ cost
     low_all cost o h = elim (came cost o h) [ inl was ↦ good.at_least_level cost o was | inr add ↦ low_follow cost o add ]
 
     -- The settled word is a prefix or a suffix of the word of each fact that follows from it.
@@ -240,13 +240,13 @@ module _ (t : TableData) (f : Facts t) (c : TokenClasses) (cls : AreTokenClasses
     follow_later cost o add u by = elim (follow_parts cost o add u by) [ inl p ↦ rw p.1 (laws.prefix w p.0) | inr p ↦ rw p.1 (laws.suffix p.0 w) ]
 
     -- An item that waited comes no earlier than the settled fact.
-    waited_later : (cost : ℕ) (o : QueuedFact) (was : Waiting old level aside cost o) (u : List ℕ) → WordBy t later o.key o.back u → WordNoLater t w u
+    waited_later : (cost : ℕ) (o : QueuedFact) (was : WaitsOrIsBeside old level aside cost o) (u : List ℕ) → WordBy t later o.key o.back u → WordNoLater t w u
     waited_later cost o was u by =
         let ok = good.items cost o was in
         let one : u ≡ ok.word = word_one t later o.key o.back u ok.word by (word_kept t words later o.key o.back ok.word kept ok.word_by) in
         rw one (flat i o cost w ok.word next.waited was item_sound.word_by ok.word_by)
 
-    no_sooner : (cost : ℕ) (o : QueuedFact) → Waiting new level aside cost o → (u : List ℕ) → WordBy t later o.key o.back u → WordNoLater t w u
+    no_sooner : (cost : ℕ) (o : QueuedFact) → WaitsOrIsBeside new level aside cost o → (u : List ℕ) → WordBy t later o.key o.back u → WordNoLater t w u
     no_sooner cost o h u by = elim (came cost o h) [ inl was ↦ waited_later cost o was u by | inr add ↦ follow_later cost o add u by ]
 
     pub filed : (k : GotoFact) → KnowsGoto new k → (v : CompletePath) × Contains (complete_paths_at new (place_of c k.from k.first)) v × (goto_fact v ≡ k)
@@ -264,11 +264,11 @@ module _ (t : TableData) (f : Facts t) (c : TokenClasses) (cls : AreTokenClasses
     ]
 
     -- The word of an item that waits is pending for its key.
-    waits : (cost : ℕ) (o : QueuedFact) (k : FactKey) (u : List ℕ) → Waits (queue_of new) cost o → o.key ≡ k → WordBy t later o.key o.back u → IsPending (WordNoLater t) later (WaitsWithWord t later (Waiting new level aside)) k u
+    waits : (cost : ℕ) (o : QueuedFact) (k : FactKey) (u : List ℕ) → Waits (queue_of new) cost o → o.key ≡ k → WordBy t later o.key o.back u → IsPending (WordNoLater t) later (WaitsWithWord t later (WaitsOrIsBeside new level aside)) k u
     waits cost o k u there is by = inr (u, (cost, o, inl there, is, by), laws.reflexive u)
 
     asks_shift : (x z j : ℕ) → rep i.end x ≡ i.key.next → slice_get (rhs_of t.grammar i.key.production) i.key.dot ≡ Some (T x) → run_move_of t i.end (x ∷ []) ≡ Shifts j → z < t.grammar.tokens
-        → IsPending (WordNoLater t) later (WaitsWithWord t later (Waiting new level aside)) (key i.key.from i.key.production (suc i.key.dot) i.key.first (rep j z)) (w ++ x ∷ [])
+        → IsPending (WordNoLater t) later (WaitsWithWord t later (WaitsOrIsBeside new level aside)) (key i.key.from i.key.production (suc i.key.dot) i.key.first (rep j z)) (w ++ x ∷ [])
     asks_shift x z j token symbol move lt =
         let o : QueuedFact = record { key = key_further i.key (rep j z); end = j; back = backs.Shifted i.key } in
         let s : FollowsShift t rep (settled_of level i) (min (level + cost_of_token t x) cap) o = record { shifted = x; end = j; following = z; symbol = symbol; token = token; move = move; known = lt; cost_is = refl; is = refl } in
@@ -279,7 +279,7 @@ module _ (t : TableData) (f : Facts t) (c : TokenClasses) (cls : AreTokenClasses
 
     -- A path followed by a goto fact is pending.
     asks_join : (p : SettledFact) (v : CompletePath) (u m : List ℕ) → Waits (queue_of new) (min (p.cost + v.cost) cap) (record { key = key_further p.key v.next; end = v.target; back = backs.Reduced p.key v.inner }) → later p.key ≡ Some u → later v.inner ≡ Some m
-        → IsPending (WordNoLater t) later (WaitsWithWord t later (Waiting new level aside)) (key p.key.from p.key.production (suc p.key.dot) p.key.first v.next) (u ++ m)
+        → IsPending (WordNoLater t) later (WaitsWithWord t later (WaitsOrIsBeside new level aside)) (key p.key.from p.key.production (suc p.key.dot) p.key.first v.next) (u ++ m)
     asks_join p v u m there a b =
         let o : QueuedFact = record { key = key_further p.key v.next; end = v.target; back = backs.Reduced p.key v.inner } in
         let d : p.key.dot + 1 ≡ suc p.key.dot = omega arith in
@@ -294,12 +294,12 @@ module _ (t : TableData) (f : Facts t) (c : TokenClasses) (cls : AreTokenClasses
         let found = filed k (more.gotos_known g (rep g z) goes) in
         let ok = each_complete_path (place_of c i.key.from i.key.first) found.0 found.1 in
         let sooner : WordNoLater t ok.word w = elim (only found.0.inner ok.word ok.stored) [
-          | inl was ↦ good.frontier.before found.0.inner i.key ok.word w was (level, i, inl next.waited, refl, item_sound.word_by)
+          | inl was ↦ good.search_invariant.before found.0.inner i.key ok.word w was (level, i, inl next.waited, refl, item_sound.word_by)
           | inr is ↦ rw is.1 (laws.reflexive w)
         ] in
         (ok.word, (found.0, found.1, found.2, ok.stored), sooner)
 
-    pub settling_step : SettlingStep t rep (WordNoLater t) words later (GotoFactsIn c words old) (GotoFactsIn c later new) (WaitsWithWord t words (Waiting old level aside)) (WaitsWithWord t later (Waiting new level aside)) i.key w
+    pub settling_step : SettlingStep t rep (WordNoLater t) words later (GotoFactsIn c words old) (GotoFactsIn c later new) (WaitsWithWord t words (WaitsOrIsBeside old level aside)) (WaitsWithWord t later (WaitsOrIsBeside new level aside)) i.key w
     settling_step = record {
       only = only;
       kept = kept;
@@ -311,7 +311,7 @@ module _ (t : TableData) (f : Facts t) (c : TokenClasses) (cls : AreTokenClasses
             | inr stored ↦ (
                 let s = stored_word h.1.key stored in
                 let e : words k ≡ Some s.0 = rw (← h.3) s.1 in
-                inr (s.0, kept k s.0 e, good.frontier.before k k s.0 u e h))
+                inr (s.0, kept k s.0 e, good.search_invariant.before k k s.0 u e h))
           ])
           | inr is ↦ (
               let same : h.1 ≡ i = is.1 in
@@ -387,7 +387,7 @@ module _ (t : TableData) (f : Facts t) (c : TokenClasses) (cls : AreTokenClasses
             let s' : FollowsGoto t q m (min (q.cost + m.cost) cap) o = record { fits = record { symbol = rw (nonterminal, e2, e3) symbol; at_end = from ∙ sym ends; begins = first ∙ sym e5 }; cost_is = refl; is = refl } in
             let held = asks_join q m u v (fresh.1 q (min (q.cost + m.cost) cap) o row s') (rw q_is (kept (key r p d a y) u stored)) way.3 in
             let same : key q.key.from q.key.production (suc q.key.dot) q.key.first m.next ≡ key r p (suc d) a x = rw (e1, e2, e3, e4, after) refl in
-            inr (subst (λ (k : FactKey). IsPending (WordNoLater t) later (WaitsWithWord t later (Waiting new level aside)) k (u ++ v)) same held))
+            inr (subst (λ (k : FactKey). IsPending (WordNoLater t) later (WaitsWithWord t later (WaitsOrIsBeside new level aside)) k (u ++ v)) same held))
       ];
       sound = λ k u h. (let ok = each_item h.0 h.1 h.2 in let one = word_one t later h.1.key h.1.back u ok.word h.4 ok.word_by in rw (← h.3, one) ok.sound);
       after = λ k u h. no_sooner h.0 h.1 h.2 u h.4;
@@ -400,7 +400,7 @@ module _ (t : TableData) (f : Facts t) (c : TokenClasses) (cls : AreTokenClasses
         rows = record { paths = more.paths_rows ∙ ap length beside.paths ∙ good.ready.rows.paths; complete_paths = more.complete_paths_rows ∙ ap length beside.complete_paths ∙ good.ready.rows.complete_paths; each_path = λ n p h. (each_path n p h).range };
         each_complete_path = λ n v h. (each_complete_path n v h).few;
       };
-      frontier = settles t f rep (WordNoLater t) laws words (GotoFactsIn c words old) (WaitsWithWord t words (Waiting old level aside)) good.frontier later (GotoFactsIn c later new) (WaitsWithWord t later (Waiting new level aside)) i.key w (level, i, inl next.waited, refl, item_sound.word_by) settling_step;
+      search_invariant = settles t f rep (WordNoLater t) laws words (GotoFactsIn c words old) (WaitsWithWord t words (WaitsOrIsBeside old level aside)) good.search_invariant later (GotoFactsIn c later new) (WaitsWithWord t later (WaitsOrIsBeside new level aside)) i.key w (level, i, inl next.waited, refl, item_sound.word_by) settling_step;
       items = each_item;
       at_least_level = low_all;
       at_most_level = (let e : highest_cost (facts ++ (i.key, fact) ∷ []) ≡ level = highest_cost-push facts i.key fact good.at_most_level in omega arith);
@@ -432,7 +432,7 @@ module _ (t : TableData) (f : Facts t) (c : TokenClasses) (cls : AreTokenClasses
           no_later_at_cap t u v (sym top ∙ rw one ok.cost_is) (over_up t w v (sym top ∙ item_sound.cost_is) le))
     ]
 
-    pub settling_no_later : (o q : QueuedFact) (cost : ℕ) (u v : List ℕ) → Waits (queue_of new) level o → Waiting new level aside cost q → WordBy t later o.key o.back u → WordBy t later q.key q.back v → WordNoLater t u v
+    pub settling_no_later : (o q : QueuedFact) (cost : ℕ) (u v : List ℕ) → Waits (queue_of new) level o → WaitsOrIsBeside new level aside cost q → WordBy t later o.key o.back u → WordBy t later q.key q.back v → WordNoLater t u v
     settling_no_later o q cost u v there waits by by' = elim (more.only level o there) [
       | inl was ↦ (
           let before = next.only level o was in
@@ -456,7 +456,7 @@ module _ (t : TableData) (f : Facts t) (c : TokenClasses) (cls : AreTokenClasses
   abbrev nothing : FactKey → Option (List ℕ)
   nothing k = None
 
-  none_beside : (cost : ℕ) (o : QueuedFact) → Waiting work 0 [] cost o → Waits (queue_of work) cost o
+  none_beside : (cost : ℕ) (o : QueuedFact) → WaitsOrIsBeside work 0 [] cost o → Waits (queue_of work) cost o
   none_beside cost o (inl h) = h
   none_beside cost o (inr h) = absurd (let l = (h.1).1 in omega arith)
 
@@ -477,11 +477,11 @@ module _ (t : TableData) (f : Facts t) (c : TokenClasses) (cls : AreTokenClasses
   search_begins = record {
     word_assignment = record { words = nothing; none = λ k e. refl; some = λ k g e. absurd (let y : None ≡ Some g = e in cc) };
     ready = record { rows = record { paths = b.paths; complete_paths = b.complete_paths; each_path = λ n p h. absurd (b.no_path n p h) }; each_complete_path = λ n w h. absurd (b.no_complete_path n w h) };
-    frontier = record {
+    search_invariant = record {
       closed = record {
         begins = λ r p a known lt o pk goto.
             let x = rep_of c r a in
-            let i = empty_item r p x in
+            let i = empty_path_fact r p x in
             inr ([], (0, i, inl (b.all 0 i (r, known, record { production = p; x = x; ordinary = o; known = pk; goto = goto; listed = cls.list_all r a known lt; cost_is = refl; is = refl })), refl, refl), (order_laws t).reflexive []);
         shifts = λ r p d a x z s j v e end symbol move lt. absurd (let y : None ≡ Some v = e in cc);
         complete_paths = λ y z q s e g v stored end move edge lt. absurd (let y : None ≡ Some v = stored in cc);
@@ -501,15 +501,15 @@ module _ (t : TableData) (f : Facts t) (c : TokenClasses) (cls : AreTokenClasses
   }
 
 -- The invariant gives the result at the end of the search.
-search_left : (t : TableData) (f : Facts t) (c : TokenClasses) (found : SearchResult) (level : ℕ) (good : LevelInvariant t c found.store found.work level []) → FactsAreNumbered found.store good.word_assignment.words (max 1 level) found.numbering → level ≤ cap + 1 → ((k : FactKey) (u : List ℕ) → WaitsWithWord t good.word_assignment.words (Waiting found.work level []) k u → ⊥) → IsSearchResult t c found
+search_left : (t : TableData) (f : Facts t) (c : TokenClasses) (found : SearchResult) (level : ℕ) (good : LevelInvariant t c found.store found.work level []) → FactsAreNumbered found.store good.word_assignment.words (max 1 level) found.numbering → level ≤ cap + 1 → ((k : FactKey) (u : List ℕ) → WaitsWithWord t good.word_assignment.words (WaitsOrIsBeside found.work level []) k u → ⊥) → IsSearchResult t c found
 search_left t f c found level good numbered le none =
-    let waiting = Waiting found.work level [] in
+    let waiting = WaitsOrIsBeside found.work level [] in
     record {
       word_assignment = good.word_assignment;
-      sound = good.frontier.stored;
+      sound = good.search_invariant.stored;
       rows = good.ready.rows.complete_paths;
-      closed = empty_closed t f (rep_of c) (WordNoLater t) (order_laws t) good.word_assignment.words (GotoFactsIn c good.word_assignment.words found.work) (WaitsWithWord t good.word_assignment.words waiting) good.frontier none;
-      complete = empty_complete t f (rep_of c) (WordNoLater t) (order_laws t) good.word_assignment.words (GotoFactsIn c good.word_assignment.words found.work) (WaitsWithWord t good.word_assignment.words waiting) good.frontier none;
+      closed = empty_closed t f (rep_of c) (WordNoLater t) (order_laws t) good.word_assignment.words (GotoFactsIn c good.word_assignment.words found.work) (WaitsWithWord t good.word_assignment.words waiting) good.search_invariant none;
+      complete = empty_complete t f (rep_of c) (WordNoLater t) (order_laws t) good.word_assignment.words (GotoFactsIn c good.word_assignment.words found.work) (WaitsWithWord t good.word_assignment.words waiting) good.search_invariant none;
       complete_paths = λ n w h. (let ok = good.complete_paths n w h in record { few = ok.few; at_most_level = ok.few; from = ok.from; edge = ok.edge; next = ok.next; word = ok.word; stored = ok.stored; cost_is = ok.cost_is; short = ok.short; sound = ok.sound });
       numbered = record { len = numbered.len; each = numbered.each; below = λ n lt. (let less = numbered.below n lt in let high : max 1 level ≤ cap + 1 = grind (arith, common_steps, le) in omega arith) };
     }
@@ -527,6 +527,6 @@ has_row (r ∷ rows) (suc n) x h = let l = has_row rows n x h in omega arith
 pub search_done : (t : TableData) (f : Facts t) (c : TokenClasses) (found : SearchResult) (level : ℕ) → BeforeLevel t c found level → level ≤ cap + 1 → length (queue_of found.work) ≤ level → IsSearchResult t c found
 search_done t f c found level before most le = search_left t f c found level before.invariant before.numbered most (λ k u h. none h.0 h.1 h.2)
   where
-    none : (cost : ℕ) (i : QueuedFact) → Waiting found.work level [] cost i → ⊥
+    none : (cost : ℕ) (i : QueuedFact) → WaitsOrIsBeside found.work level [] cost i → ⊥
     none cost i (inl there) = let lt = has_row (queue_of found.work) cost i there in let low = before.invariant.at_least_level cost i (inl there) in omega arith
     none cost i (inr beside) = let l = (beside.1).1 in omega arith

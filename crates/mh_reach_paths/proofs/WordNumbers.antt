@@ -13,7 +13,7 @@ use Rattle.mh_tables_core.specs.Failing.{cost_by}
 use Rattle.mh_facts.specs.declared.store.FactKey.{FactKey}
 use Rattle.mh_facts.specs.declared.store.Fact.{Fact}
 use Rattle.mh_facts.specs.declared.store.Back.TheVariants as backs
-use Rattle.mh_facts.specs.Stored.{Facts, fact_at, same_fact}
+use Rattle.mh_facts.specs.Stored.{StoredFacts, fact_at, same_fact}
 use Rattle.mh_facts.specs.Costs.{cap}
 use Rattle.mh_facts.specs.code.Orders as orders
 use Rattle.mh_facts.proofs.OrderLaws.{cost_append}
@@ -27,11 +27,11 @@ use Rattle.mh_facts.specs.declared.work.QueuedFact.{QueuedFact}
 use Rattle.mh_reach_found.specs.declared.numbers.WordNumbering.{WordNumbering}
 use Rattle.mh_facts.specs.code.WordAssignment.{WordNoLater, cost_up_to_cap, weigh, WordBy, WordAssignment, before_dot}
 use Rattle.mh_reach_found.specs.code.WordNumbers.{IsNumberOfWord, FactsAreNumbered, IsNumberOfFact}
-use Rattle.mh_reach_paths.specs.code.Numbering.{IsLastPart, SpellsWord, SpellsItem, SpellItems, AreEmpty, AreToNumber, ItemsAreNumbered}
+use Rattle.mh_reach_paths.specs.code.Numbering.{IsLastPart, SpellsWord, SpellsItem, SpellItems, AreNumbersOfEmptyWord, AreToNumber, ItemsAreNumbered}
 use Rattle.mh_facts.proofs.FactKeys.{fact_same}
 use Rattle.mh_facts.proofs.WordAssignment.{option_unique, order_laws, part_of_cost_zero, word_of_cost_zero, fact_of_word}
 
--- A number has the same word in a longer book.
+-- A book is the list of the numbered words. If two books have the same entry at a number, the number has the same word.
 stands_at : (old new : Words) (m cost : ℕ) (w : List ℕ) (x : GroupedWord) → slice_get old m ≡ Some x → slice_get new m ≡ Some x → IsNumberOfWord old m cost w → IsNumberOfWord new m cost w
 stands_at old new m cost w x was now h = record {
   known = slice_get_within new m x now;
@@ -44,16 +44,16 @@ number_of_word_more book added m cost w h =
     let there = get_within book m h.known in
     stands_at book (book ++ added) m cost w there.0 there.1 (get_left book added m there.0 there.1) h
 
--- The facts keep their numbers in a longer book.
-pub numbered_more : (facts : Facts) (words : FactKey → Option (List ℕ)) (level : ℕ) (old new : WordNumbering) (added : Words) → new.numbers.items ≡ old.numbers.items → new.book ≡ old.book ++ added → AreBelowGroup new.book (level + 1) → FactsAreNumbered facts words (max 1 level) old → FactsAreNumbered facts words (level + 1) new
+-- The facts keep their numbers if words are appended to the book.
+pub numbered_more : (facts : StoredFacts) (words : FactKey → Option (List ℕ)) (level : ℕ) (old new : WordNumbering) (added : Words) → new.numbers.items ≡ old.numbers.items → new.book ≡ old.book ++ added → AreBelowGroup new.book (level + 1) → FactsAreNumbered facts words (max 1 level) old → FactsAreNumbered facts words (level + 1) new
 numbered_more facts words level old new added same grown below h = record {
   len = ap length same ∙ h.len;
   each = λ n m k f w at num is lt. rw grown (number_of_word_more old.book added m f.cost w (h.each n m k f w at (rw same at num) is lt));
   below = below;
 }
 
--- The key of an entry is stored.
-listed_stored : (facts : Facts) (n : ℕ) (k : FactKey) (f : Fact) → slice_get facts n ≡ Some (k, f) → fact_at facts k ≡ None → ⊥
+-- If the list of stored facts has an entry, the look-up of its key finds a fact.
+listed_stored : (facts : StoredFacts) (n : ℕ) (k : FactKey) (f : Fact) → slice_get facts n ≡ Some (k, f) → fact_at facts k ≡ None → ⊥
 listed_stored [] n k f at none = absurd (let y : None ≡ Some (k, f) = at in cc)
 listed_stored (x ∷ facts) zero k f at none =
     let y : Some x ≡ Some (k, f) = at in
@@ -70,7 +70,7 @@ listed_stored (x ∷ facts) (suc n) k f at none = by (same_fact k x.0) none (lis
     by false e go = go e
 
 -- One more fact is stored, and its number is appended.
-module _ (facts : Facts) (words later : FactKey → Option (List ℕ)) (level : ℕ) (old : WordNumbering) (v : Vec ℕ) (k : FactKey) (f : Fact) (w : List ℕ) (word : ℕ) (fresh : fact_at facts k ≡ None) (here : later k ≡ Some w)
+module _ (facts : StoredFacts) (words later : FactKey → Option (List ℕ)) (level : ℕ) (old : WordNumbering) (v : Vec ℕ) (k : FactKey) (f : Fact) (w : List ℕ) (word : ℕ) (fresh : fact_at facts k ≡ None) (here : later k ≡ Some w)
     (only : (o : FactKey) (u : List ℕ) → later o ≡ Some u → (words o ≡ Some u) ⊎ ((o ≡ k) × (u ≡ w))) (pushed : v.items ≡ old.numbers.items ++ word ∷ []) (stands : f.cost < cap → IsNumberOfWord old.book word f.cost w) (h : FactsAreNumbered facts words level old) where
   number_was : (n m : ℕ) (l : FactKey) (g : Fact) (u : List ℕ) → slice_get facts n ≡ Some (l, g) → slice_get v.items n ≡ Some m → later l ≡ Some u → g.cost < cap → IsNumberOfWord old.book m g.cost u
   number_was n m l g u at num is lt =
@@ -116,7 +116,7 @@ no_later t book level m n u v is lt le a b e g = elim (cases_lt m n) [
       rw one ((order_laws t).reflexive v))
 ]
 
--- The parts of words.
+-- The parts (front and last) that are made for an item spell the word of the item.
 
 cheap_front : (a b s : ℕ) → s ≡ a + b → min s cap < cap → min a cap < cap
 cheap_front a b s e lt = grind (arith, common_steps, e, lt)
@@ -127,8 +127,8 @@ free_cost n e = grind (arith, common_steps, e)
 cheap_back : (a b s : ℕ) → s ≡ a + b → min s cap < cap → min b cap < cap
 cheap_back a b s e lt = grind (arith, common_steps, e, lt)
 
-module _ (t : TableData) (facts : Facts) (numbering : WordNumbering) where
-  -- The number of a settled fact has the word of the fact.
+module _ (t : TableData) (facts : StoredFacts) (numbering : WordNumbering) where
+  -- The number of a settled fact is the number of the fact's word.
   part_stands : (word_assignment : WordAssignment t facts) (level : ℕ) → FactsAreNumbered facts word_assignment.words level numbering → (k : FactKey) (m : ℕ) (v : List ℕ) → IsNumberOfFact facts numbering k m → word_assignment.words k ≡ Some v → cost_up_to_cap t v < cap → (m < length numbering.book) × (letters_of numbering.book m ≡ v)
   part_stands word_assignment level h k m v placed is lt =
       let f = fact_of_word t facts word_assignment k v is in
@@ -140,26 +140,26 @@ module _ (t : TableData) (facts : Facts) (numbering : WordNumbering) where
       let stands = h.each place.0 m k f.0 v place.1 place.2 is cheap in
       (stands.known, stands.letters)
 
-  pub made_shifted : (i : QueuedFact) (path : FactKey) (front : ℕ) (last : LastPart) → i.back ≡ backs.Shifted path → IsNumberOfFact facts numbering path front → IsLastPart t i.key last → SpellsItem t facts numbering i (record { front = front; last = last })
-  made_shifted i path front last back placed ends word_assignment level w book h by lt =
+  pub parts_of_shifted : (i : QueuedFact) (path : FactKey) (front : ℕ) (last : LastPart) → i.back ≡ backs.Shifted path → IsNumberOfFact facts numbering path front → IsLastPart t i.key last → SpellsItem t facts numbering i (record { front = front; last = last })
+  parts_of_shifted i path front last back placed ends word_assignment level w book h by lt =
       let b : WordBy t word_assignment.words i.key (backs.Shifted path) w = rw back at by in
       let end = ends numbering.book book in
       let less : cost_up_to_cap t (b.0 ++ before_dot t i.key) < cap = rw b.2 at lt in
       let one = part_stands word_assignment level h path front b.0 placed b.1 (cheap_front _ _ _ (cost_append (weigh t) b.0 (before_dot t i.key)) less) in
       record { known = (one.0, end.0); is = rw (one.1, end.1) (sym b.2) }
 
-  pub made_reduced : (i : QueuedFact) (path inner : FactKey) (front last : ℕ) → i.back ≡ backs.Reduced path inner → IsNumberOfFact facts numbering path front → IsNumberOfFact facts numbering inner last → SpellsItem t facts numbering i (record { front = front; last = lasts.Word last })
-  made_reduced i path inner front last back placed other word_assignment level w book h by lt =
+  pub parts_of_reduced : (i : QueuedFact) (path inner : FactKey) (front last : ℕ) → i.back ≡ backs.Reduced path inner → IsNumberOfFact facts numbering path front → IsNumberOfFact facts numbering inner last → SpellsItem t facts numbering i (record { front = front; last = lasts.Word last })
+  parts_of_reduced i path inner front last back placed other word_assignment level w book h by lt =
       let b : WordBy t word_assignment.words i.key (backs.Reduced path inner) w = rw back at by in
       let less : cost_up_to_cap t (b.0 ++ b.1) < cap = rw b.4 at lt in
       let one = part_stands word_assignment level h path front b.0 placed b.2 (cheap_front _ _ _ (cost_append (weigh t) b.0 b.1) less) in
       let two = part_stands word_assignment level h inner last b.1 other b.3 (cheap_back _ _ _ (cost_append (weigh t) b.0 b.1) less) in
       record { known = (one.0, two.0); is = rw (one.1, two.1) (sym b.4) }
 
-pub none_made : (t : TableData) (facts : Facts) (numbering : WordNumbering) (items : List QueuedFact) → SpellItems t facts numbering items 0 []
+pub none_made : (t : TableData) (facts : StoredFacts) (numbering : WordNumbering) (items : List QueuedFact) → SpellItems t facts numbering items 0 []
 none_made t facts numbering items = record { len = refl; each = λ n i m at num. absurd (let y : None ≡ Some m = num in cc) }
 
-pub made_more : (t : TableData) (facts : Facts) (numbering : WordNumbering) (items : List QueuedFact) (count : ℕ) (made : List WordParts) (i : QueuedFact) (m : WordParts) → SpellItems t facts numbering items count made → slice_get items count ≡ Some i → SpellsItem t facts numbering i m → SpellItems t facts numbering items (count + 1) (made ++ m ∷ [])
+pub made_more : (t : TableData) (facts : StoredFacts) (numbering : WordNumbering) (items : List QueuedFact) (count : ℕ) (made : List WordParts) (i : QueuedFact) (m : WordParts) → SpellItems t facts numbering items count made → slice_get items count ≡ Some i → SpellsItem t facts numbering i m → SpellItems t facts numbering items (count + 1) (made ++ m ∷ [])
 made_more t facts numbering items count made i m h at is = record {
   len = (let a = h.len in let b = length_push made m in omega arith);
   each = λ n j o there other. elim (get_cases made m n o other) [
@@ -171,7 +171,7 @@ made_more t facts numbering items count made i m h at is = record {
   ];
 }
 
-pub all_empty : (count : ℕ) (numbers : List ℕ) → numbers ≡ replicate count 0 → AreEmpty count numbers
+pub all_empty : (count : ℕ) (numbers : List ℕ) → numbers ≡ replicate count 0 → AreNumbersOfEmptyWord count numbers
 all_empty count numbers is = record {
   len = ap length is ∙ length-replicate count 0;
   each = λ n m at.
@@ -190,7 +190,7 @@ same_cost_even t u v level lt e g (x, r, is) =
     let y : x ∷ r ≡ [] = word_of_cost_zero t (x ∷ r) none in
     absurd cc
 
-module _ (t : TableData) (facts : Facts) (numbering : WordNumbering) (book : IsBook numbering.book) (cost : ℕ) (lt : cost < cap) (items : List QueuedFact) (made : List WordParts) (all : SpellItems t facts numbering items (length items) made) (h : AreToNumber t facts numbering cost items) where
+module _ (t : TableData) (facts : StoredFacts) (numbering : WordNumbering) (book : IsBook numbering.book) (cost : ℕ) (lt : cost < cap) (items : List QueuedFact) (made : List WordParts) (all : SpellItems t facts numbering items (length items) made) (h : AreToNumber t facts numbering cost items) where
   -- Each of the parts spells the word of an item.
   spelled_by : (m : WordParts) → Contains made m → (w : List ℕ) × SpellsWord numbering.book m w × (cost ≡ cost_up_to_cap t w)
   spelled_by m there =
@@ -246,7 +246,7 @@ between cost le apart = (
 )
 
 -- Items of cost 0 have the number of the empty word, and for items of the highest cost numbers do not matter.
-pub plain_numbered : (t : TableData) (facts : Facts) (numbering : WordNumbering) (cost : ℕ) (items : List QueuedFact) (numbers : List ℕ) → IsBook numbering.book → (cost ≡ 0) ⊎ (cost ≡ cap) → AreEmpty (length items) numbers → ItemsAreNumbered t facts numbering numbering cost items numbers
+pub plain_numbered : (t : TableData) (facts : StoredFacts) (numbering : WordNumbering) (cost : ℕ) (items : List QueuedFact) (numbers : List ℕ) → IsBook numbering.book → (cost ≡ 0) ⊎ (cost ≡ cap) → AreNumbersOfEmptyWord (length items) numbers → ItemsAreNumbered t facts numbering numbering cost items numbers
 plain_numbered t facts numbering cost items numbers book plain empty = record {
   len = empty.len;
   same = refl;
@@ -261,7 +261,7 @@ plain_numbered t facts numbering cost items numbers book plain empty = record {
   ];
 }
 
--- An empty store has the book of the empty word alone.
+-- If no fact is stored, the book that holds only the empty word numbers all facts.
 pub none_numbered : (numbering : WordNumbering) (words : FactKey → Option (List ℕ)) → numbering.numbers.items ≡ [] → numbering.book ≡ empty_word ∷ [] → FactsAreNumbered [] words 1 numbering
 none_numbered numbering words none only = record {
   len = ap length none;
@@ -273,9 +273,9 @@ none_numbered numbering words none only = record {
     empty_below zero lt = omega arith
     empty_below (suc n) lt = absurd (omega arith)
 
--- A numbering below one level is a numbering below each higher level.
-pub numbered_higher : (facts : Facts) (words : FactKey → Option (List ℕ)) (low high : ℕ) (numbering : WordNumbering) → low ≤ high → FactsAreNumbered facts words low numbering → FactsAreNumbered facts words high numbering
+-- If the stored facts are numbered and the groups of all words are below `low`, the groups are below each higher level.
+pub numbered_higher : (facts : StoredFacts) (words : FactKey → Option (List ℕ)) (low high : ℕ) (numbering : WordNumbering) → low ≤ high → FactsAreNumbered facts words low numbering → FactsAreNumbered facts words high numbering
 numbered_higher facts words low high numbering le h = record { len = h.len; each = h.each; below = λ n lt. (let less = h.below n lt in omega arith) }
 
-pub some_level : (level : ℕ) → 0 < level → max 1 level ≤ level
-some_level level lt = grind (arith, common_steps, lt)
+pub max_one_of_positive : (level : ℕ) → 0 < level → max 1 level ≤ level
+max_one_of_positive level lt = grind (arith, common_steps, lt)

@@ -3,9 +3,9 @@ ghost use Rattle.std.specs.Prelude.{◌≡◌, ◌<◌, ℕ, [], OnOk, IfOk, len
 ghost use Rattle.mh_grammar.specs.declared.types.Symbol.TheVariants.{N};
 ghost use Rattle.mh_facts.specs.code.Queues.{QueueGains, Among, row_of};
 ghost use Rattle.mh_facts.specs.code.TokenClasses.{AreTokenClasses};
-ghost use Rattle.mh_facts.specs.code.SearchRules.{IsEmptyItem};
+ghost use Rattle.mh_facts.specs.code.SearchRules.{IsEmptyPathFact};
 ghost use Rattle.mh_facts.specs.code.ByLeftSide.{IsByLeftSide};
-ghost use Rattle.mh_reach_paths.specs.code.EmptyPaths.{IsBegun, EmptyOn, BeginsOn, BeginsOverEdge, IsEmptyPath, empty_item};
+ghost use Rattle.mh_reach_paths.specs.code.EmptyPaths.{IsBegun, EmptyOn, BeginsOn, BeginsOverEdge, IsEmptyPath, empty_path_fact};
 
 use mh_facts::queue::{Queue, empty_queue, push};
 use mh_facts::{
@@ -19,7 +19,7 @@ use std::collections::HashSet;
 
 /// The fact of an empty path, with one token that is both the first and the next one.
 fn empty_at(from: u32, production: u32, token: Token) -> QueuedFact
-    ensures { result ≡ empty_item from production token }
+    ensures { result ≡ empty_path_fact from production token }
 {
     QueuedFact {
         key: FactKey {
@@ -105,7 +105,7 @@ fn begin_in(
     requires classes { AreTokenClasses table.now classes.now }
     requires left { IsByLeftSide table.now left.now }
     requires from { from < length table.now.states }
-    ensures { OnOk result (QueueGains (IsEmptyItem table.now classes.now from) queue.old.buckets.items queue.new.buckets.items) }
+    ensures { OnOk result (QueueGains (IsEmptyPathFact table.now classes.now from) queue.old.buckets.items queue.new.buckets.items) }
 {
     table.facts();
     for edge in table.edges(from) {

@@ -10,7 +10,7 @@ ghost use Rattle.mh_facts.specs.declared.work.CompletePath.{CompletePath};
 ghost use Rattle.mh_facts.specs.declared.work.SettledFact.{SettledFact};
 ghost use Rattle.mh_facts.specs.code.Queues.{QueueGains, Among, AddsToRow};
 ghost use Rattle.mh_facts.specs.code.TokenClasses.{AreTokenClasses, rep_of, place_of};
-ghost use Rattle.mh_facts.specs.code.SearchRules.{InRange, FollowsShift, FollowsGoto, IsUniqueItem, IsReady, ExpandsFact, complete_path_of, complete_paths_at};
+ghost use Rattle.mh_facts.specs.code.SearchRules.{InRange, FollowsShift, FollowsGoto, IsUniqueItem, HasBoundedRows, ExpandsFact, complete_path_of, complete_paths_at};
 ghost use Rattle.mh_tables_core.specs.Run.{Reduces, run_move_of};
 ghost use Rattle.mh_reach_paths.specs.code.GotoFacts.{WithNext, AddsGoto, AddsGotos, IsCompletePathIn};
 ghost use Rattle.mh_facts.specs.code.Queues.{ListGains};
@@ -187,7 +187,7 @@ fn meet_path(
     path: SettledFact,
 ) -> Result<(), Memory>
     requires classes { AreTokenClasses table.now classes.now }
-    requires ready { IsReady table.now classes.now work.old }
+    requires ready { HasBoundedRows table.now classes.now work.old }
     requires path { InRange table.now path }
     ensures queue { OnOk result (QueueGains (Among (FollowsGoto table.now path) (complete_paths_at work.old (place_of classes.now path.end path.key.next))) work.old.queue.buckets.items work.new.queue.buckets.items) }
     ensures paths { OnOk result (AddsToRow work.old.paths.items work.new.paths.items (place_of classes.now path.end path.key.next) path) }
@@ -310,7 +310,7 @@ pub fn expand(
     path: SettledFact,
 ) -> Result<(), Memory>
     requires classes { AreTokenClasses table.now classes.now }
-    requires ready { IsReady table.now classes.now work.old }
+    requires ready { HasBoundedRows table.now classes.now work.old }
     requires path { InRange table.now path }
     ensures { OnOk result (ExpandsFact table.now classes.now work.old work.new path) }
 {

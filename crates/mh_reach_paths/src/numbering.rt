@@ -1,7 +1,7 @@
 //! The numbering of the words of settled facts. Words with numbers are compared by their numbers and never token by
 //! token again.
 ghost use Rattle.std.specs.Prelude.{◌≡◌, IfOk, length};
-ghost use Rattle.mh_reach_paths.specs.code.Numbering.{AreEmpty, SpellItems, ItemsAreNumbered, AreToNumber, IsLastPart, SpellsItem};
+ghost use Rattle.mh_reach_paths.specs.code.Numbering.{AreNumbersOfEmptyWord, SpellItems, ItemsAreNumbered, AreToNumber, IsLastPart, SpellsItem};
 
 use mh_facts::{Back, CAP, FactKey, FactStore, QueuedFact};
 use mh_grammar::Memory;
@@ -64,7 +64,7 @@ fn all_made(
 
 /// Returns the number of the empty word for each item.
 fn no_numbers(alloc: Global, items: &[QueuedFact]) -> Result<Vec<usize>, Memory>
-    ensures { IfOk result (λ numbers. AreEmpty (length items.now) numbers.items) }
+    ensures { IfOk result (λ numbers. AreNumbersOfEmptyWord (length items.now) numbers.items) }
 {
     let numbers = vec![in alloc; EMPTY; items.len()]?;
     Ok(numbers)

@@ -5,7 +5,7 @@ ghost use Rattle.mh_facts.specs.Stored.{highest_cost};
 ghost use Rattle.mh_facts.specs.Costs.{cap};
 ghost use Rattle.mh_facts.specs.code.TokenClasses.{AreTokenClasses};
 ghost use Rattle.mh_reach_found.specs.code.SearchResult.{IsSearchResult};
-ghost use Rattle.mh_reach_paths.specs.code.LevelInvariant.{SettlesNext, KeepsNew, TakesAllUnsettled};
+ghost use Rattle.mh_reach_paths.specs.code.LevelInvariant.{SettlesNext, AppendsIfUnsettled, TakesAllUnsettled};
 ghost use Rattle.mh_reach_paths.specs.code.Levels.{BeforeLevel, InLevel};
 
 use crate::begins::begin;
@@ -44,7 +44,7 @@ fn settle_next(
 
 /// Appends an item to a list, unless its key has a fact.
 fn keep_new(all: &mut Vec<QueuedFact>, store: &FactStore, item: QueuedFact) -> Result<(), Memory>
-    ensures { OnOk result (KeepsNew store.now item all.old.items all.new.items) }
+    ensures { OnOk result (AppendsIfUnsettled store.now item all.old.items all.new.items) }
 {
     if store.place(&item.key).is_none() {
         all.push(item)?;

@@ -48,7 +48,7 @@ apart_before u v (inl (inr h)) le alone none = absurd (alone h)
 apart_before u v (inr (inl h)) le alone none = absurd (before_once u v h le)
 apart_before u v (inr (inr h)) le alone none = absurd (none h)
 
--- The order of two words by the result of their comparison.
+-- The result of comparing two words gives their order.
 pub compared_left : (words : Words) (left right : WordParts) (o : Ordering) → IsComparison (spelled words left) (spelled words right) o → (o ≡ Greater → ⊥) → LexNoLater words left right
 compared_left words left right Less (inl h) other = before_no_later (spelled words left) (spelled words right) h
 compared_left words left right Less (inr h) other = front_no_later (spelled words left) (spelled words right) h

@@ -69,7 +69,7 @@ module _ (words : Words) (old : Rests) where
     smaller = (let a = weight_append old.left.items (p ∷ []) in let b = weight_append old.right.items (q ∷ []) in let some = some_part p in omega arith);
   }
 
-  -- The case of different top parts that decide the order.
+  -- Two top tokens, or two top words of one group, are compared by their numbers.
 
   pub tokens_compared : (x y : ℕ) (o : Option Ordering) → IsTokenComparison x y o → AreTops words old (Some (lasts.Token x)) (Some (lasts.Token y)) → IsComparisonStep words old old (Some (lasts.Token x)) (Some (lasts.Token y)) o
   tokens_compared x y None e tops = same_parts (lasts.Token x) (lasts.Token y) (ap lasts.Token e) tops

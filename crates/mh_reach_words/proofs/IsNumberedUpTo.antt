@@ -17,7 +17,7 @@ use Rattle.mh_reach_words.specs.code.Numbering.{ArePrefixFree, InsertsOnce, IsEq
 use Rattle.mh_reach_words.specs.code.Sorting.{LexNoLater, IsSorted, HaveSameElements}
 use Rattle.mh_reach_words.proofs.ComparisonOrder.{before_trans, apart_before}
 
--- Equality of the parts of words.
+-- The test `ghosts.eq` decides the equality of the parts of words.
 
 made_Decides : (a b : WordParts) → Decides (ghosts.eq a b) (a ≡ b)
 made_Decides a b = search rules
@@ -28,7 +28,7 @@ equal_from_eq x y e = (made_Decides x y).0 e
 pub eq_refl : (x : WordParts) → ghosts.eq x x ≡ true
 eq_refl x = (made_Decides x x).1 refl
 
--- Insertion into a set of words.
+-- Inserting the parts of a word adds them to the set at most once.
 
 pub puts_once : (old new : List WordParts) (m : WordParts) → new ≡ insert_key ghosts.eq old m → InsertsOnce old new m
 puts_once old new m keys = by (list_any (ghosts.eq m) old) refl keys
@@ -79,7 +79,7 @@ repeated_by words made place p m o false e at there h = λ q n r f at' there'. (
     let b : o ≡ r = get_unique made place o r there there' in
     rw (a, b) at h)
 
--- The numbers of the words.
+-- The loop that numbers the words in their order keeps its invariant.
 
 rises_at : (R : WordParts → WordParts → Type 0) (made : List WordParts) (i j : ℕ) (m o : WordParts) → i < j → slice_get made i ≡ Some m → slice_get made j ≡ Some o → IsSorted R made → R m o
 rises_at R [] i j m o lt at there h = absurd (let y : None ≡ Some m = at in cc)

@@ -157,7 +157,7 @@ module _ (entries es : List WordEntry) (group : ℕ) (sound : AreSoundEntries en
   pub new_long : length new ≡ length old + length es
   new_long = ap (λ (ws : Words). length ws) (grown_append (empty_word ∷ []) entries es) ∙ grown_long old es
 
-  -- The word of a new entry.
+  -- Each new number has the word of its entry, and the given group.
   pub new_word : (n j : ℕ) (e : WordEntry) → n ≡ length old + j → slice_get es j ≡ Some e → (letters_of new n ≡ spelled old e.made) × (group_of new n ≡ group)
   new_word n j e is at =
       let has = known j e at in

@@ -15,14 +15,14 @@ use Rattle.mh_reader_parser.specs.code.ParserSteps.{start, step_by_lexeme, finis
 use Rattle.mh_reader_parser.specs.Faults.{IsUnexpectedLine, IsSyntaxLine}
 use Rattle.mh_reader_parser.proofs.ParserExact.{HasReadTokens, HasReadTokens-step, unexpected_lexeme, file_at_end, unexpected_end, LexedOnce, spelled_unique}
 
--- The result for the lexemes of the bytes.
+-- The lexemes form a module, or they form no module and stop at some line being the beginning of a file.
 abbrev Comes : List ℕ → List Lexeme → Type 0
 Comes bytes ls = ((m : Module) × File no_module (file_tokens bytes ls) m) ⊎ ((line : ℕ) × IsUnexpectedLine bytes ls line × ((m : Module) → File no_module (file_tokens bytes ls) m → ⊥))
 
 module _ (bytes : List ℕ) where
   ended : (ls : List Lexeme) (s : Parser) (o : Option Module) → finish_at s.made s.place ≡ o → HasReadTokens (file_tokens bytes ls) s → Comes bytes ls
   ended ls s (Some m) e g = inl (m, file_at_end bytes ls s m g e)
-  ended ls s None e g = let h = unexpected_end bytes ls s (line_at bytes (length bytes)) g e refl in inr (line_at bytes (length bytes), h.0, h.1)
+  ended ls s None e g = let h = unexpected_end bytes ls s (length bytes) g e refl in inr (line_at bytes (length bytes), (length bytes, h.0, refl), h.1)
 
   walk : (ls before after : List Lexeme) (s : Parser) → ls ≡ before ++ after → HasReadTokens (file_tokens bytes before) s → Comes bytes ls
   walk ls before [] s is g = let all : before ≡ ls = sym (is ∙ append-nil before) in ended ls s (finish_at s.made s.place) refl (subst (λ k. HasReadTokens (file_tokens bytes k) s) all g)
@@ -32,7 +32,7 @@ module _ (bytes : List ℕ) where
       step : (o : Option Parser) → step_by_lexeme s (token_kind_by l.kind (bytes_of bytes l)) (text_by l.kind (bytes_of bytes l)) (cost_of (bytes_of bytes l)) ≡ o
           → ((t : Parser) → step_by_lexeme s (token_kind_by l.kind (bytes_of bytes l)) (text_by l.kind (bytes_of bytes l)) (cost_of (bytes_of bytes l)) ≡ Some t → Comes bytes ls) → Comes bytes ls
       step (Some t) e onward = onward t e
-      step None e onward = let h = unexpected_lexeme bytes ls before after l s (line_at bytes l.start) is g e refl in inr (line_at bytes l.start, h.0, h.1)
+      step None e onward = let h = unexpected_lexeme bytes ls before after l s l.start is g e refl in inr (line_at bytes l.start, (l.start, h.0, refl), h.1)
 
   read : LexedOnce → (ls : List Lexeme) (f : Option ℕ) → Lexes bytes ls f → ((m : Module) × Spells bytes m) ⊎ ((line : ℕ) × IsSyntaxLine bytes line × ((m : Module) → Spells bytes m → ⊥))
   read once ls (Some place) lx = inr (line_at bytes place, IsSyntaxLine.lexical lx refl, λ m (ks, ly, f). let e = (once bytes ls ks (Some place) None lx ly).1 in cc)

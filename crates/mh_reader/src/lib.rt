@@ -10,4 +10,5 @@ pub use mh_reader_parser::{
     Actual, Alternative, LevelDecl, Module, Ref, Rule, TokenDecl, cost_is_spelled, line_once,
     read_module, spelled_once,
 };
+pub use mh_reader_places::{Mention, PlacedFault, PlacedModule, Role, read_placed};
 pub use printing::print_module;

@@ -6,8 +6,9 @@ use Rattle.std.proofs.Math.Seq.{take-suc, split_at}
 use Rattle.std.proofs.lemmas.List.{append-nil, take_all}
 use Rattle.std.proofs.lemmas.Option.{none-some}
 use Rattle.mh_lex.specs.declared.kinds.Lexeme.{Lexeme}
+use Rattle.mh_lex.specs.declared.kinds.PlacedFault.{PlacedFault}
+use Rattle.mh_lex.specs.declared.kinds.PlacedFault.TheVariants as placed
 use Rattle.mh_lex.specs.declared.kinds.SyntaxFault.{SyntaxFault}
-use Rattle.mh_lex.specs.declared.kinds.SyntaxFault.TheVariants.{Syntax, Memory}
 use Rattle.mh_lex_bytes.specs.Lines.{line_at}
 use Rattle.mh_lex.specs.Lexing.{Lexes}
 use Rattle.mh_lex.specs.LexemeTexts.{bytes_of}
@@ -29,8 +30,8 @@ use Rattle.mh_reader_parser.specs.TokenKinds.{FileToken, file_tokens, file_token
 use Rattle.mh_rules.specs.Modules.{applied, no_module}
 use Rattle.mh_reader_parser.specs.Spelling.{File, Spells, BeginsFile}
 use Rattle.mh_reader_parser.specs.code.DepthLimit.{IsStateShallow}
-use Rattle.mh_reader_parser.specs.Faults.{IsUnexpectedLine, IsSyntaxLine, ReportsUnexpectedLine, ReportsSyntaxLine}
-use Rattle.mh_reader_parser.specs.Faults.IsUnexpectedLine.{unexpected, unfinished}
+use Rattle.mh_reader_parser.specs.Faults.{IsUnexpectedPlace, IsSyntaxLine, line_fault, ReportsUnexpectedPlace, ReportsSyntaxLine}
+use Rattle.mh_reader_parser.specs.Faults.IsUnexpectedPlace.{unexpected, unfinished}
 use Rattle.mh_reader_parser.specs.code.ParserSteps.{at, next_at, finish_at, run, go_on, start, step_by_lexeme, parser_with_cost, state_with_cost}
 use Rattle.mh_reader_parser.proofs.ParserComplete.{run-file, option_or-none}
 use Rattle.mh_reader_parser.proofs.ParserSound.{run_spells, Safe, next_at_shallow, costed_shallow}
@@ -323,10 +324,10 @@ whole_begins bytes before after l m f =
     BeginsFile-prefix bytes before after l ([], m, subst (λ k. File no_module k m) (sym (append-nil all)) f)
 
 -- The parser stops at the first lexeme with which no file can begin.
-pub unexpected_lexeme : (bytes : List ℕ) (ls before after : List Lexeme) (l : Lexeme) (s : Parser) (line : ℕ) → ls ≡ before ++ l ∷ after → HasReadTokens (file_tokens bytes before) s →
-    step_by_lexeme s (token_kind_by l.kind (bytes_of bytes l)) (text_by l.kind (bytes_of bytes l)) (cost_of (bytes_of bytes l)) ≡ None → line ≡ line_at bytes l.start →
-    IsUnexpectedLine bytes ls line × ((m : Module) → File no_module (file_tokens bytes ls) m → ⊥)
-unexpected_lexeme bytes ls before after l s line is h e n =
+pub unexpected_lexeme : (bytes : List ℕ) (ls before after : List Lexeme) (l : Lexeme) (s : Parser) (place : ℕ) → ls ≡ before ++ l ∷ after → HasReadTokens (file_tokens bytes before) s →
+    step_by_lexeme s (token_kind_by l.kind (bytes_of bytes l)) (text_by l.kind (bytes_of bytes l)) (cost_of (bytes_of bytes l)) ≡ None → place ≡ l.start →
+    IsUnexpectedPlace bytes ls place × ((m : Module) → File no_module (file_tokens bytes ls) m → ⊥)
+unexpected_lexeme bytes ls before after l s place is h e n =
     let never = refused_lexeme bytes before l s h e in (
       unexpected before after l is (begins (file_tokens bytes before) s h) never n,
       λ m f. never (whole_begins bytes before after l m (subst (λ k. File no_module (file_tokens bytes k) m) is f)),
@@ -338,9 +339,9 @@ ends_run bytes ls s h = ap (λ k. run start k) (sym (append-nil (file_tokens byt
 pub file_at_end : (bytes : List ℕ) (ls : List Lexeme) (s : Parser) (m : Module) → HasReadTokens (file_tokens bytes ls) s → finish_at s.made s.place ≡ Some m → File no_module (file_tokens bytes ls) m
 file_at_end bytes ls s m h e = File-if_run (file_tokens bytes ls) m (ends_run bytes ls s h ∙ e)
 
-pub unexpected_end : (bytes : List ℕ) (ls : List Lexeme) (s : Parser) (line : ℕ) → HasReadTokens (file_tokens bytes ls) s → finish_at s.made s.place ≡ None → line ≡ line_at bytes (length bytes) →
-    IsUnexpectedLine bytes ls line × ((m : Module) → File no_module (file_tokens bytes ls) m → ⊥)
-unexpected_end bytes ls s line h e n =
+pub unexpected_end : (bytes : List ℕ) (ls : List Lexeme) (s : Parser) (place : ℕ) → HasReadTokens (file_tokens bytes ls) s → finish_at s.made s.place ≡ None → place ≡ length bytes →
+    IsUnexpectedPlace bytes ls place × ((m : Module) → File no_module (file_tokens bytes ls) m → ⊥)
+unexpected_end bytes ls s place h e n =
     let never : (m : Module) → File no_module (file_tokens bytes ls) m → ⊥ = λ m f. not_both (run start (file_tokens bytes ls)) m (run-if_file (file_tokens bytes ls) m f) (ends_run bytes ls s h ∙ e) in
     (unfinished (begins (file_tokens bytes ls) s h) never n, never)
 
@@ -359,11 +360,11 @@ pub spelled_if_file : (bytes : List ℕ) (ls : List Lexeme) (r : Result Module S
 spelled_if_file bytes ls (Ok m) lx f = (ls, lx, f)
 spelled_if_file bytes ls (Err e) lx f = f
 
-pub syntax_line_if_unexpected : LexedOnce → (bytes : List ℕ) (ls : List Lexeme) (r : Result Module SyntaxFault) → Lexes bytes ls None → ReportsUnexpectedLine bytes ls r → ReportsSyntaxLine bytes r
-syntax_line_if_unexpected once bytes ls (Ok m) lx h = tt
-syntax_line_if_unexpected once bytes ls (Err Memory) lx h = tt
-syntax_line_if_unexpected once bytes ls (Err (Syntax line)) lx (halt, never) =
-    (IsSyntaxLine.syntactic lx halt, λ m (ks, ly, f). never m (subst (λ k. File no_module (file_tokens bytes k) m) (once bytes ls ks None None lx ly).0 f))
+-- The fault of the lexemes, with the line of its position.
+pub syntax_line_of_fault : LexedOnce → (bytes : List ℕ) (ls : List Lexeme) (fault : PlacedFault) → Lexes bytes ls None → ReportsUnexpectedPlace bytes ls (Err fault) → ReportsSyntaxLine bytes (Err (line_fault bytes fault))
+syntax_line_of_fault once bytes ls placed.Memory lx h = tt
+syntax_line_of_fault once bytes ls (placed.Syntax place) lx (halt, never) =
+    (IsSyntaxLine.syntactic lx (place, halt, refl), λ m (ks, ly, f). never m (subst (λ k. File no_module (file_tokens bytes k) m) (once bytes ls ks None None lx ly).0 f))
 
 lexical_fault : LexedOnce → (bytes : List ℕ) (line : ℕ) → (ls : List Lexeme) × (place : ℕ) × Lexes bytes ls (Some place) × (line ≡ line_at bytes place) →
     IsSyntaxLine bytes line × ((m : Module) → Spells bytes m → ⊥)
@@ -377,10 +378,10 @@ pub HasReadTokens-at : (bytes : List ℕ) (ls : List Lexeme) (i : ℕ) (d : Lexe
 HasReadTokens-at bytes ls i d s t h g e = subst (λ k. HasReadTokens (file_tokens bytes k) t) (sym (ap (λ n. take n ls) (add-one i) ∙ take-suc ls i d h)) (HasReadTokens-step bytes (take i ls) (get_or ls i d) s t g e)
 
 -- The loop stops at a lexeme.
-pub unexpected_lexeme_at : (bytes : List ℕ) (ls : List Lexeme) (i : ℕ) (d : Lexeme) (s : Parser) (line : ℕ) → i < length ls → HasReadTokens (file_tokens bytes (take i ls)) s →
-    step_by_lexeme s (token_kind_by (get_or ls i d).kind (bytes_of bytes (get_or ls i d))) (text_by (get_or ls i d).kind (bytes_of bytes (get_or ls i d))) (cost_of (bytes_of bytes (get_or ls i d))) ≡ None → line ≡ line_at bytes (get_or ls i d).start →
-    IsUnexpectedLine bytes ls line × ((m : Module) → File no_module (file_tokens bytes ls) m → ⊥)
-unexpected_lexeme_at bytes ls i d s line h g e n = unexpected_lexeme bytes ls (take i ls) (drop (suc i) ls) (get_or ls i d) s line (split_at ls i d h) g e n
+pub unexpected_lexeme_at : (bytes : List ℕ) (ls : List Lexeme) (i : ℕ) (d : Lexeme) (s : Parser) (place : ℕ) → i < length ls → HasReadTokens (file_tokens bytes (take i ls)) s →
+    step_by_lexeme s (token_kind_by (get_or ls i d).kind (bytes_of bytes (get_or ls i d))) (text_by (get_or ls i d).kind (bytes_of bytes (get_or ls i d))) (cost_of (bytes_of bytes (get_or ls i d))) ≡ None → place ≡ (get_or ls i d).start →
+    IsUnexpectedPlace bytes ls place × ((m : Module) → File no_module (file_tokens bytes ls) m → ⊥)
+unexpected_lexeme_at bytes ls i d s place h g e n = unexpected_lexeme bytes ls (take i ls) (drop (suc i) ls) (get_or ls i d) s place (split_at ls i d h) g e n
 
 HasReadTokens-all : (bytes : List ℕ) (ls : List Lexeme) (i : ℕ) (s : Parser) → length ls ≤ i → HasReadTokens (file_tokens bytes (take i ls)) s → HasReadTokens (file_tokens bytes ls) s
 HasReadTokens-all bytes ls i s h g = subst (λ k. HasReadTokens (file_tokens bytes k) s) (take_all i ls h) g
@@ -389,9 +390,9 @@ HasReadTokens-all bytes ls i s h g = subst (λ k. HasReadTokens (file_tokens byt
 pub file_at_end_at : (bytes : List ℕ) (ls : List Lexeme) (i : ℕ) (s : Parser) (m : Module) → length ls ≤ i → HasReadTokens (file_tokens bytes (take i ls)) s → finish_at s.made s.place ≡ Some m → File no_module (file_tokens bytes ls) m
 file_at_end_at bytes ls i s m h g e = file_at_end bytes ls s m (HasReadTokens-all bytes ls i s h g) e
 
-pub unexpected_end_at : (bytes : List ℕ) (ls : List Lexeme) (i : ℕ) (s : Parser) (line : ℕ) → length ls ≤ i → HasReadTokens (file_tokens bytes (take i ls)) s → finish_at s.made s.place ≡ None → line ≡ line_at bytes (length bytes) →
-    IsUnexpectedLine bytes ls line × ((m : Module) → File no_module (file_tokens bytes ls) m → ⊥)
-unexpected_end_at bytes ls i s line h g e n = unexpected_end bytes ls s line (HasReadTokens-all bytes ls i s h g) e n
+pub unexpected_end_at : (bytes : List ℕ) (ls : List Lexeme) (i : ℕ) (s : Parser) (place : ℕ) → length ls ≤ i → HasReadTokens (file_tokens bytes (take i ls)) s → finish_at s.made s.place ≡ None → place ≡ length bytes →
+    IsUnexpectedPlace bytes ls place × ((m : Module) → File no_module (file_tokens bytes ls) m → ⊥)
+unexpected_end_at bytes ls i s place h g e n = unexpected_end bytes ls s place (HasReadTokens-all bytes ls i s h g) e n
 
 pub shallow_at : (bytes : List ℕ) (l : Lexeme) (s t : Parser) → IsStateShallow s.place → step_by_lexeme s (token_kind_by l.kind (bytes_of bytes l)) (text_by l.kind (bytes_of bytes l)) (cost_of (bytes_of bytes l)) ≡ Some t → IsStateShallow t.place
 shallow_at bytes l s t h e = step_shallow (token_kind_by l.kind (bytes_of bytes l)) (text_by l.kind (bytes_of bytes l)) (cost_of (bytes_of bytes l)) s t h e

@@ -9,7 +9,6 @@ use Rattle.mh_reader_parser.specs.declared.token_kinds.TokenKind.TheVariants as 
 use Rattle.mh_reader_parser.specs.declared.parser_states.RuleDraft.{RuleDraft}
 use Rattle.mh_reader_parser.specs.declared.parser_states.OpenList.{OpenList}
 use Rattle.mh_reader_parser.specs.declared.parser_states.OpenList.TheVariants as lists
-use Rattle.mh_reader_parser.specs.declared.parser_states.ParserState.TheVariants as places
 use Rattle.mh_reader_parser.specs.code.ParserSteps.{declare, close, list_item, list_word, list_quoted, at_items, at_modified, token_of, at_token, at_aliased, in_rules, in_production, at_begin, new_draft, after_producer, after_group, with_rule, at_group, with_productions, at_rule_end}
 
 -- A list ends at a lexeme that is neither an item nor a comma.

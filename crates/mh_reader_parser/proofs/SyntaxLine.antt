@@ -7,8 +7,8 @@ use Rattle.mh_lex.proofs.LexesUnique.{LexesFrom-unique}
 use Rattle.mh_rules.specs.declared.modules.Module.{Module}
 use Rattle.mh_reader_parser.specs.TokenKinds.{file_tokens}
 use Rattle.mh_reader_parser.specs.Spelling.{Spells, BeginsFile}
-use Rattle.mh_reader_parser.specs.Faults.{IsUnexpectedLine, IsSyntaxLine}
-use Rattle.mh_reader_parser.specs.Faults.IsUnexpectedLine.{unexpected, unfinished}
+use Rattle.mh_reader_parser.specs.Faults.{IsUnexpectedPlace, IsUnexpectedLine, IsSyntaxLine}
+use Rattle.mh_reader_parser.specs.Faults.IsUnexpectedPlace.{unexpected, unfinished}
 use Rattle.mh_reader_parser.specs.Faults.IsSyntaxLine.{lexical, syntactic}
 use Rattle.mh_reader_parser.proofs.ParserExact.{BeginsFile-prefix, spelled_unique}
 
@@ -43,13 +43,16 @@ module _ (bytes : List ℕ) where
   places_once before behind l k b c never nor (earlier mid e) = absurd (not_earlier before behind mid l e never c)
   places_once before behind l k b c never nor (later mid e) = absurd (not_earlier behind before mid k e nor b)
 
-  halt_once : (ls : List Lexeme) (a b : ℕ) → IsUnexpectedLine bytes ls a → IsUnexpectedLine bytes ls b → a ≡ b
-  halt_once ls a b (unexpected before after l e begins never line) (unexpected behind rest k f starts nor other) =
+  halt_once : (ls : List Lexeme) (a b : ℕ) → IsUnexpectedPlace bytes ls a → IsUnexpectedPlace bytes ls b → a ≡ b
+  halt_once ls a b (unexpected before after l e begins never place) (unexpected behind rest k f starts nor other) =
       let one : l ≡ k = places_once before behind l k begins starts never nor (meets before behind after rest l k (sym e ∙ f)) in
-      line ∙ ap (λ (x : Lexeme). line_at bytes x.start) one ∙ sym other
-  halt_once ls a b (unexpected before after l e begins never line) (unfinished starts none other) = absurd (not_earlier before ls after l e never starts)
-  halt_once ls a b (unfinished starts none other) (unexpected before after l e begins never line) = absurd (not_earlier before ls after l e never starts)
-  halt_once ls a b (unfinished starts none line) (unfinished begins never other) = line ∙ sym other
+      place ∙ ap (λ (x : Lexeme). x.start) one ∙ sym other
+  halt_once ls a b (unexpected before after l e begins never place) (unfinished starts none other) = absurd (not_earlier before ls after l e never starts)
+  halt_once ls a b (unfinished starts none other) (unexpected before after l e begins never place) = absurd (not_earlier before ls after l e never starts)
+  halt_once ls a b (unfinished starts none place) (unfinished begins never other) = place ∙ sym other
+
+  line_once : (ls : List Lexeme) (a b : ℕ) → IsUnexpectedLine bytes ls a → IsUnexpectedLine bytes ls b → a ≡ b
+  line_once ls a b (place, halt, line) (other, stop, e) = line ∙ ap (λ p. line_at bytes p) (halt_once ls place other halt stop) ∙ sym e
 
 -- Bytes have at most one line of a syntax fault.
 pub syntax_line_unique : (bytes : List ℕ) (a b : ℕ) → IsSyntaxLine bytes a → IsSyntaxLine bytes b → a ≡ b
@@ -60,7 +63,7 @@ syntax_line_unique bytes a b (lexical {place = place} lx line) (lexical {place =
 syntax_line_unique bytes a b (lexical {place = place} lx line) (syntactic ly halt) = absurd (none-some place (LexesFrom-unique lx ly).1)
 syntax_line_unique bytes a b (syntactic lx halt) (lexical {place = place} ly line) = absurd (none-some place (LexesFrom-unique ly lx).1)
 syntax_line_unique bytes a b (syntactic {ls = ls} lx halt) (syntactic {ls = ks} ly stop) =
-    halt_once bytes ls a b halt (subst (λ k. IsUnexpectedLine bytes k b) (LexesFrom-unique lx ly).0 stop)
+    line_once bytes ls a b halt (subst (λ k. IsUnexpectedLine bytes k b) (LexesFrom-unique lx ly).0 stop)
 
 -- Bytes spell at most one module.
 pub spelled_module_unique : (bytes : List ℕ) (one two : Module) → Spells bytes one → Spells bytes two → one ≡ two

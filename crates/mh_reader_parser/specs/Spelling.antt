@@ -1,6 +1,6 @@
--- The grammar of grammar files (Menhir manual, syntax of grammars; the choice is a rule of this project). Each relation
--- says that the lexemes begin with a phrase of its name, which lexemes follow the phrase, and what the phrase gives, or
--- adds to what was given before.
+-- The grammar of grammar files (Menhir manual, syntax of grammars, of which this project supports a part). Each
+-- relation says that the lexemes begin with a phrase of its name, which lexemes follow the phrase, and what the phrase
+-- gives, or adds to what was given before.
 use Rattle.std.specs.Prelude.{◌≡◌, ◌≤◌, ℕ, suc, max, List, [], ◌∷◌, ◌++◌, map, Option, Some, None, Bool, true, false}
 use Rattle.std.specs.Option.{option_or}
 use Rattle.mh_grammar.specs.declared.types.Assoc.{Assoc}

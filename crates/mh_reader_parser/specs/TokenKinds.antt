@@ -1,5 +1,5 @@
--- The lexemes of a file as the grammar of grammar files sees them (Menhir manual, syntax of grammars; the choice is a
--- rule of this project).
+-- The lexemes of a file as the grammar of grammar files sees them (Menhir manual, syntax of grammars, of which this
+-- project supports a part).
 use Rattle.std.specs.Prelude.{ℕ, ◌-◌, ◌==◌, ◌&&◌, Bool, false, cond, List, [], ◌∷◌, ◌++◌, length, Option, Some, None, drop, take, nat_le}
 use Rattle.std.specs.Option.{option_or}
 use Rattle.mh_grammar.specs.declared.types.Assoc.TheVariants.{Left, Right, Nonassoc}

@@ -18,8 +18,8 @@ use crate::token_kinds::TokenKind;
 use mh_rules::Module;
 use std::alloc::Global;
 
-/// Returns the module, for a state without other data. The state is dropped in one call, because to drop it in each arm
-/// is much more expensive to prove.
+/// Returns the module and drops the parser's state, which holds nothing unfinished here. The state is dropped in one
+/// call, because to drop it in each arm is much more expensive to prove.
 fn made_of(made: Module, place: ParserState) -> Module
     ensures { result ≡ made }
 {

@@ -1,9 +1,10 @@
 //! The costs of tokens in attributes.
 ghost use Rattle.std.specs.Prelude.{◌≡◌, ◌≤◌, ◌==◌, List, drop, length, nat_eq, take};
 ghost use Rattle.std.specs.Cmp.Lexicographic.{pointwise};
+ghost use Rattle.std.specs.List.{prefix_len};
 ghost use Rattle.mh_lex_bytes.specs.Bytes.{byte_at, is_blank, is_decimal};
 ghost use Rattle.mh_reader_parser.specs.Costs as spec;
-ghost use Rattle.mh_reader_parser.specs.Costs.{prefix_length, is_closing_text, cost_in_range, cost_from_number, cost_from_blanks, value};
+ghost use Rattle.mh_reader_parser.specs.Costs.{is_closing_text, cost_in_range, cost_from_number, cost_from_blanks, decimal_value_from};
 
 use mh_grammar::MAX_COST;
 use mh_lex_bytes::is_blank_byte;
@@ -16,32 +17,18 @@ fn is_digit(byte: u8) -> bool
 
 /// The number of blanks at the beginning.
 fn blanks_length(text: &[u8]) -> usize
-    ensures value { result ≡ prefix_length is_blank text.now }
+    ensures value { result ≡ prefix_len is_blank text.now }
     ensures within { result ≤ length text.now }
 {
-    let mut length = 0;
-    for byte in text {
-        if !is_blank_byte(*byte) {
-            return length;
-        }
-        length += 1;
-    }
-    length
+    text.iter().take_while(|&&byte| is_blank_byte(byte)).count()
 }
 
 /// The number of digits at the beginning.
 fn digits_length(text: &[u8]) -> usize
-    ensures value { result ≡ prefix_length is_decimal text.now }
+    ensures value { result ≡ prefix_len is_decimal text.now }
     ensures within { result ≤ length text.now }
 {
-    let mut length = 0;
-    for byte in text {
-        if !is_digit(*byte) {
-            return length;
-        }
-        length += 1;
-    }
-    length
+    text.iter().take_while(|&&byte| is_digit(byte)).count()
 }
 
 fn are_equal(bytes: &[u8], text: &[u8]) -> bool
@@ -59,7 +46,7 @@ fn closes(text: &[u8]) -> bool
 
 /// The number that the digits write, if it is a cost.
 fn cost_by(digits: &[u8]) -> Option<u32>
-    ensures { result ≡ cost_in_range (value 0 digits.now) }
+    ensures { result ≡ cost_in_range (decimal_value_from 0 digits.now) }
 {
     let mut number = 0;
     for digit in digits {
@@ -129,7 +116,7 @@ fn other_bytes(text: &[u8]) -> &[u8]
 
 /// The cost that an attribute with this text gives, if it is a cost attribute.
 #[tactic(auto, unfolding(crate::specs::Costs::cost_of))]
-pub(crate) fn cost_of(text: &[u8]) -> Option<u32>
+pub fn cost_of(text: &[u8]) -> Option<u32>
     ensures { result ≡ spec.cost_of text.now }
 {
     if are_equal(first_bytes(text), b"[@cost") {

@@ -5,13 +5,13 @@ ghost use Rattle.mh_reader_parser.specs.Spelling.{Spells};
 ghost use Rattle.mh_reader_parser.specs.Faults.{IsSyntaxLine};
 ghost use Rattle.mh_reader_parser.specs.Costs.{IsCostText, cost_of};
 
-use mh_lex::lexed_once;
+use mh_lex::lexemes_are_unique;
 
 /// Law: bytes spell at most one module.
 pub fn spelled_once()
     ensures { (bytes : List ℕ) (one two : Module) → Spells bytes one → Spells bytes two → one ≡ two }
 {
-    lexed_once();
+    lexemes_are_unique();
 }
 
 /// Law: bytes that spell no module have at most one line of a syntax fault.

@@ -49,8 +49,8 @@ pub struct RuleDraft {
     pub producers: Sequence<Actual>,
 }
 
-/// The list of a declaration. Tokens and starts are added to the module at once; a list of actuals is kept only if the
-/// flag is true, as for `%on_error_reduce`.
+/// The list of a declaration. Tokens and starts are added to the module at once. In a list of actuals the flag says
+/// whether the module keeps the list: true for `%on_error_reduce`, false for `%type` and `%attribute`.
 #[derive(Drop)]
 pub enum OpenList {
     Tokens,

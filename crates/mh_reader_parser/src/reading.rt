@@ -1,8 +1,7 @@
 //! Reads the module of a grammar file.
-ghost use Rattle.std.specs.Prelude.{◌≡◌, ◌<◌, ◌^◌, ◌≤◌, ℕ, List, length, take, drop, IfOk, None};
+ghost use Rattle.std.specs.Prelude.{◌≡◌, ◌<◌, ◌^◌, ◌≤◌, ℕ, List, length, take, drop, IfErr, IfOk, None};
 ghost use Rattle.std.specs.List.{All};
-ghost use Rattle.mh_lex.specs.Lexing.{IsLexemeWithin};
-ghost use Rattle.mh_lex_bytes.specs.Lines.{line_at};
+ghost use Rattle.mh_lex.specs.Lexing.{IsLexemeWithin, IsPlaceWithin};
 ghost use Rattle.mh_lex.specs.LexemeTexts.{bytes_of};
 ghost use Rattle.mh_rules.specs.declared.modules.Module.{Module};
 ghost use Rattle.mh_rules.specs.Ready.{IsModuleReady};
@@ -13,7 +12,7 @@ ghost use Rattle.mh_reader_parser.specs.Spelling.{File, Spells};
 ghost use Rattle.mh_reader_parser.specs.code.ParserSteps.{AgreesWithStep, parser_with_cost, finish_at, start, step_by_lexeme};
 ghost use Rattle.mh_reader_parser.specs.Costs as spec;
 ghost use Rattle.std.specs.Option.{option_or};
-ghost use Rattle.mh_reader_parser.specs.Faults.{ReportsSyntaxLine, ReportsUnexpectedLine};
+ghost use Rattle.mh_reader_parser.specs.Faults.{line_fault, ReportsSyntaxLine, ReportsUnexpectedPlace};
 
 use crate::advance::advance;
 use crate::costs::cost_of;
@@ -21,7 +20,7 @@ use crate::parser_states::{ParseFault, Parser, ParserState, no_memory, unexpecte
 use crate::rules::{add_rule, group_of};
 use crate::token_kinds::{content_of, token_kind_of};
 use mh_grammar::Sequence;
-use mh_lex::{Lexeme, SyntaxFault, lex, lexed_once, line_of};
+use mh_lex::{Lexeme, PlacedFault, SyntaxFault, lex, lexemes_are_unique, line_of};
 use mh_rules::Module;
 use std::alloc::Global;
 
@@ -109,51 +108,48 @@ fn take_lexeme(
     }
 }
 
-/// The line, from 1, on which a lexeme begins.
-fn first_line(bytes: &[u8], lexeme: &Lexeme) -> u32
-    requires short { length bytes.now < 2 ^ 31 }
-    requires within { IsLexemeWithin (length bytes.now) lexeme.now }
-    ensures { result ≡ line_at bytes.now lexeme.now.start }
-{
-    line_of(bytes, lexeme.start)
-}
-
-/// The line, from 1, after all line feeds.
-fn last_line(bytes: &[u8]) -> u32
-    requires { length bytes.now < 2 ^ 31 }
-    ensures { result ≡ line_at bytes.now (length bytes.now) }
-{
-    line_of(bytes, bytes.len())
-}
-
-/// The module that the lexemes spell, or the line of the first lexeme with which no file can continue.
-fn read_lexemes(alloc: Global, bytes: &[u8], lexemes: &[Lexeme]) -> Result<Module, SyntaxFault>
+/// The module that the lexemes spell, or the position of the first lexeme with which no file can continue; the end of the
+/// file if the file ends too early.
+pub fn read_lexemes(alloc: Global, bytes: &[u8], lexemes: &[Lexeme]) -> Result<Module, PlacedFault>
     requires short { length bytes.now < 2 ^ 31 }
     requires within { All (IsLexemeWithin (length bytes.now)) lexemes.now }
     ensures spelled { IfOk result (λ m. File no_module (file_tokens bytes.now lexemes.now) m) }
-    ensures fault { ReportsUnexpectedLine bytes.now lexemes.now result }
+    ensures bound { IfErr result (IsPlaceWithin (length bytes.now)) }
+    ensures fault { ReportsUnexpectedPlace bytes.now lexemes.now result }
 {
     let mut reader = fresh(alloc);
     for lexeme in lexemes {
         match take_lexeme(alloc, reader, bytes, lexeme) {
             Ok(next) => reader = next,
-            Err(ParseFault::Unexpected) => return Err(SyntaxFault::Syntax {
-                line: first_line(bytes, lexeme),
+            Err(ParseFault::Unexpected) => return Err(PlacedFault::Syntax {
+                place: lexeme.start,
             }),
-            Err(ParseFault::Memory) => return Err(SyntaxFault::Memory),
+            Err(ParseFault::Memory) => return Err(PlacedFault::Memory),
         }
     }
     match ended(reader) {
         Ok(made) => Ok(made),
-        Err(ParseFault::Unexpected) => Err(SyntaxFault::Syntax {
-            line: last_line(bytes),
-        }),
-        Err(ParseFault::Memory) => Err(SyntaxFault::Memory),
+        Err(ParseFault::Unexpected) => Err(PlacedFault::Syntax { place: bytes.len() }),
+        Err(ParseFault::Memory) => Err(PlacedFault::Memory),
     }
 }
 
-/// Reads the module that a grammar file spells (Menhir manual, syntax of grammars; the choice is a rule of this
-/// project). Each rule of the module has an alternative. The depth of an actual is at most 1,000: it is 1 without
+/// The fault with the line of its position.
+fn with_line(bytes: &[u8], fault: PlacedFault) -> SyntaxFault
+    requires short { length bytes.now < 2 ^ 31 }
+    requires within { IsPlaceWithin (length bytes.now) fault }
+    ensures { result ≡ line_fault bytes.now fault }
+{
+    match fault {
+        PlacedFault::Syntax { place } => SyntaxFault::Syntax {
+            line: line_of(bytes, place),
+        },
+        PlacedFault::Memory => SyntaxFault::Memory,
+    }
+}
+
+/// Reads the module that a grammar file spells (Menhir manual, syntax of grammars, of which this project supports a
+/// part). Each rule of the module has an alternative. The depth of an actual is at most 1,000: it is 1 without
 /// arguments, or one more than that of the deepest argument, and one more for each suffix.
 ///
 /// # Errors
@@ -169,9 +165,12 @@ pub fn read_module(alloc: Global, bytes: &[u8]) -> Result<Module, SyntaxFault>
     ensures fault { ReportsSyntaxLine bytes.now result }
 {
     // The law that the list of lexemes is unique; the call does nothing else.
-    lexed_once();
+    lexemes_are_unique();
     match lex(alloc, bytes) {
-        Ok(lexemes) => read_lexemes(alloc, bytes, lexemes.as_slice()),
+        Ok(lexemes) => match read_lexemes(alloc, bytes, lexemes.as_slice()) {
+            Ok(made) => Ok(made),
+            Err(fault) => Err(with_line(bytes, fault)),
+        },
         Err(SyntaxFault::Syntax { line }) => Err(SyntaxFault::Syntax { line }),
         Err(SyntaxFault::Memory) => Err(SyntaxFault::Memory),
     }

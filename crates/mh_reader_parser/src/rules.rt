@@ -14,7 +14,7 @@ use mh_rules::{Alternative, Module, Ref, Rule};
 use std::alloc::Global;
 use std::mem;
 
-/// Returns the reference that a word or a string is.
+/// Converts a word or a string to a reference to a symbol.
 pub(crate) fn reference(alloc: Global, sign: TokenKind, text: &[u8]) -> Result<Ref, ParseFault>
     ensures { AgreesWithStep (ref_by sign text.now) result }
 {
@@ -193,7 +193,17 @@ fn draft_of(alloc: Global, rule: Rule) -> RuleDraft
     }
 }
 
-/// The draft after a production.
+/// The same list, in memory for just its items.
+fn fitted<T>(list: Sequence<T>) -> Sequence<T>
+    ensures { result ≡ list }
+{
+    let mut items = list.into_vec();
+    items.shrink_to_fit();
+    Sequence::from_vec(items)
+}
+
+/// The draft after a production. Its producers take memory for themselves alone, since a file can have millions of
+/// productions.
 fn end_production(
     alloc: Global,
     mut draft: RuleDraft,
@@ -201,14 +211,15 @@ fn end_production(
 ) -> Result<RuleDraft, Memory>
     ensures { IfOk result (λ d. d ≡ with_production draft prec) }
 {
-    let producers = mem::replace(&mut draft.producers, Sequence::new(alloc));
+    let producers = fitted(mem::replace(&mut draft.producers, Sequence::new(alloc)));
     match draft.productions.push(Alternative { producers, prec }) {
         Ok(()) => Ok(draft),
         Err(_) => Err(lost(draft)),
     }
 }
 
-/// Takes a lexeme after a production without a `%prec`. The same lexemes may follow it as follow a production with one.
+/// Takes a lexeme after a production without a `%prec`. The lexemes that may follow a `%prec` may also follow this
+/// production.
 fn end_without_prec(
     alloc: Global,
     made: Module,
@@ -334,13 +345,17 @@ pub(crate) fn at_closed(
     }
 }
 
-/// Appends alternatives.
+/// Appends alternatives. The alternatives of a rule's first group are not copied.
 fn joined(
     all: Sequence<Alternative>,
     more: Sequence<Alternative>,
 ) -> Result<Sequence<Alternative>, Memory>
     ensures { IfOk result (λ s. s ≡ all ++ more) }
 {
+    if all.is_empty() {
+        drop(all);
+        return Ok(more);
+    }
     let mut items = all.into_vec();
     let mut last = more.into_vec();
     match items.append(&mut last) {
@@ -376,11 +391,24 @@ pub(crate) fn group_of(draft: RuleDraft) -> Result<Rule, Memory>
     with_group(draft.rule, draft.productions)
 }
 
+/// The same rule. Its alternatives take memory for themselves alone.
+fn fitted_rule(rule: Rule) -> Rule
+    ensures { result ≡ rule }
+{
+    Rule {
+        public: rule.public,
+        inlined: rule.inlined,
+        name: rule.name,
+        formals: rule.formals,
+        alternatives: fitted(rule.alternatives),
+    }
+}
+
 /// The module with one more rule. It fails only for lack of memory.
 pub(crate) fn add_rule(mut made: Module, rule: Rule) -> Result<Module, Memory>
     ensures { IfOk result (λ m. m ≡ with_rule made rule) }
 {
-    match made.rules.push(rule) {
+    match made.rules.push(fitted_rule(rule)) {
         Ok(()) => Ok(made),
         Err(_) => Err(lost(made)),
     }

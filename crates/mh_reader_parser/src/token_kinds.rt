@@ -116,7 +116,7 @@ fn after_first(text: &[u8]) -> &[u8]
 }
 
 /// The token kind of a lexeme with this kind and these bytes; an attribute has none.
-pub(crate) fn token_kind_of(kind: Kind, text: &[u8]) -> Option<TokenKind>
+pub fn token_kind_of(kind: Kind, text: &[u8]) -> Option<TokenKind>
     ensures { result ≡ token_kind_by kind text.now }
 {
     match kind {
@@ -133,7 +133,7 @@ pub(crate) fn token_kind_of(kind: Kind, text: &[u8]) -> Option<TokenKind>
 }
 
 /// The bytes between the quotes of a string; all bytes of any other lexeme.
-pub(crate) fn content_of(kind: Kind, text: &[u8]) -> &[u8]
+pub fn content_of(kind: Kind, text: &[u8]) -> &[u8]
     ensures { result.now ≡ text_by kind text.now }
 {
     match kind {

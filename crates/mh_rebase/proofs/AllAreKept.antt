@@ -20,7 +20,7 @@ use Rattle.mh_check.proofs.CheckedOnce.{no_refusal_not_rejected}
 use Rattle.mh_rebase_form.specs.declared.reason.DropReason.{DropReason}
 use Rattle.mh_rebase_form.specs.Decisions.{Decision, Keep, Drop, DecidedLine, is_keep, kept_line, IsReason, LineIsUnreadable, StartIsUnknown, StartIsMissing, TokenIsUnknown, SentenceIsNotRefused, SentenceIsRefusedEarly, StateIsShared, IsDecision, AreDecided}
 use Rattle.mh_rebase_form.specs.RebasedText.{has_kept, dropped_line_text, dropped_lines_text}
-use Rattle.mh_rebase.proofs.StatesOfSentences.{FailingSentence, OtherState, content, failing_of_decision, failing_of_lines, line_has, FailsThere}
+use Rattle.mh_rebase.proofs.StatesOfSentences.{FailingSentence, OtherState, content, failing_of_decision, failing_of_lines, sentence_of_kept_line, FailsThere}
 use Rattle.mh_rebase.proofs.IsWritten.{kept_content, kept_contents}
 
 abbrev pub IsKeep : DecidedLine → Type 0
@@ -29,7 +29,7 @@ IsKeep j = is_keep j.decision ≡ true
 abbrev pub texts_in : List DecidedLine → List Text
 texts_in js = map (λ (j : DecidedLine). j.line.text) js
 
--- In a rising list, each item before an item `z` is in relation to `z`.
+-- If all sentences of a list fail in different states, each sentence before z fails in another state than z.
 pub rising_before : (xs : List FailingSentence) (z : FailingSentence) (zs : List FailingSentence) → IsRising OtherState (xs ++ z ∷ zs) → (y : FailingSentence) → Contains xs y → OtherState y z
 rising_before xs z zs rising y c = before xs rising y c
   where
@@ -44,7 +44,7 @@ module _ (g : Grammar) (t : TableData) where
   pub state_once : (start : ℕ) (w : List ℕ) (s r : ℕ) → Fails t start w s → Fails t start w r → s ≡ r
   state_once start w s r p q = let same : Rejected (length w - 1) s ≡ Rejected (length w - 1) r = ending_unique t (initial start w) _ _ p.verdict q.verdict in cc
 
-  -- A line whose sentence is to be kept is dropped for no reason.
+  -- No drop reason applies to a line whose sentence is to be kept.
   pub reason_never : (before : List DecidedLine) (text : Text) (x : Sentence) (s : ℕ) (reason : DropReason) → IsReason (vocabulary_of g) t before text reason → sentence_in (vocabulary_of g) text ≡ IsSentence x → Fails t x.start x.tokens s → kept_line before s ≡ None → ⊥
   reason_never before text x s reason (LineIsUnreadable read) is fails none = (let same : IsUnreadable ≡ IsSentence x = sym read ∙ is in cc)
   reason_never before text x s reason (StartIsUnknown name read) is fails none = (let same : NamesNoStart name ≡ IsSentence x = sym read ∙ is in cc)
@@ -72,7 +72,7 @@ module _ (expected : Bool) (g : Grammar) (a : Automaton) (t : TableData) where
 
   free_line : (before : List DecidedLine) (s : ℕ) (o : Option ℕ) → kept_line before s ≡ o → ((y : FailingSentence) → Contains (failing_of_lines before) y → y.1 ≡ s → ⊥) → kept_line before s ≡ None
   free_line before s None is free = is
-  free_line before s (Some n) is free = let found = line_has before s n is in absurd (free found.0 found.1 found.2)
+  free_line before s (Some n) is free = let found = sentence_of_kept_line before s n is in absurd (free found.0 found.1 found.2)
 
   keep_by : (before : List DecidedLine) (text : Text) (d : Decision) (x : Sentence) (z : FailingSentence) → IsDecision expected g a t before text d → sentence_in (vocabulary_of g) text ≡ IsSentence x → (x.start, x.tokens) ≡ content z → FailsThere expected g a t z → kept_line before z.1 ≡ None
       → (is_keep d ≡ true) × (failing_of_decision d ≡ z ∷ [])

@@ -23,7 +23,8 @@ kept_on : (s : ℕ) (k : DecidedLine) (ks : List DecidedLine) (j : DecidedLine) 
 kept_on s k ks j true is later = rw is refl
 kept_on s k ks j false is later = rw is later
 
--- The kept line of a state after one more line.
+-- After one more line, the kept line of a state is the earlier one, or the new line if the new line is kept in this
+-- state.
 pub kept_push : (s : ℕ) (js : List DecidedLine) (j : DecidedLine) → kept_line (js ++ j ∷ []) s ≡ or_else (kept_line js s) (line_kept s j)
 kept_push s [] j = refl
 kept_push s (k ∷ ks) j = kept_on s k ks j (keeps_in s k.decision) refl (kept_push s ks j)

@@ -39,7 +39,7 @@ module _ (expected : Bool) (g : Grammar) (a : Automaton) (t : TableData) where
   decided_append before [] ks p q = subst (λ (l : List DecidedLine). AreDecided expected g a t l ks) (append-nil before) q
   decided_append before (j ∷ js) ks p q = (p.0, decided_append (before ++ j ∷ []) js ks p.1 (subst (λ (l : List DecidedLine). AreDecided expected g a t l ks) (sym (append_assoc before (j ∷ []) js)) q))
 
-  -- ---- Lines.
+  -- ---- Deciding on one line after the other decides on all lines.
 
   pub lines_none : (p : Parts) → DecidesLines expected g a t [] false p p
   lines_none p = record {
@@ -70,9 +70,9 @@ module _ (expected : Bool) (g : Grammar) (a : Automaton) (t : TableData) where
             (ap (λ (l : Text). dropped_lines_text first.done ++ l) (sym (append-nil (dropped_line_text line.line next.decision))) ∙ sym (flat_map-append (λ (j : DecidedLine). dropped_line_text j.line.line j.decision) first.done (one ∷ [])));
       }
 
-  -- ---- Entries.
+  -- ---- Deciding on one entry after the other decides on all entries.
 
-  -- The decision on an entry: its lines, and then its message.
+  -- If the lines of an entry are decided on, and then its message is written, the entry is decided on.
   pub entry_added : (entry : LooseEntry) (kept : Bool) (old middle new : Parts) → DecidesLines expected g a t entry.sentences kept old middle → new.kept_lines.items ≡ middle.kept_lines.items → new.kept.items ≡ middle.kept.items ++ message_if_kept kept entry.message
       → new.dropped.items ≡ middle.dropped.items ++ message_if_lost kept entry.message → DecidesEntries expected g a t (entry ∷ []) old new
   entry_added entry kept old middle new added kept_lines keeps drops =
@@ -89,7 +89,8 @@ module _ (expected : Bool) (g : Grammar) (a : Automaton) (t : TableData) where
             (drops ∙ ap (λ (b : Bool). middle.dropped.items ++ message_if_lost b entry.message) added.kept_is) ∙ ap (λ (l : Text). old.dropped.items ++ l) (sym (append-nil (dropped_entry_text one)));
       }
 
-  -- The decision on an entry with a kept sentence, and on one without.
+  -- If the message of an entry is kept exactly if a sentence of the entry is, and is dropped otherwise, the entry is
+  -- decided on.
   module _ (entry : LooseEntry) (lines : List LooseLine) (message : Text) (same : lines ≡ entry.sentences) (text : message ≡ entry.message) (kept : Bool) (old middle new : Parts) (added : DecidesLines expected g a t lines kept old middle) (kept_lines : new.kept_lines.items ≡ middle.kept_lines.items) where
     pub entry_with : kept ≡ true → new.dropped.items ≡ middle.dropped.items → new.kept.items ≡ middle.kept.items ++ message_if_kept true message → DecidesEntries expected g a t (entry ∷ []) old new
     entry_with is drops keeps =

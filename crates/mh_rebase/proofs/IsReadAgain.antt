@@ -34,7 +34,7 @@ use Rattle.mh_rebase.proofs.IsWritten.{Content, kept_content, kept_contents, ent
 abbrev pub content_sentences : Content → List (ℕ × List ℕ)
 content_sentences c = c.0
 
--- ---- The sentences of entries.
+-- ---- The sentences of the kept and new entries are the kept sentences and those of the catalogue.
 
 pub content_sentences-entries : (es : List Entry) → map content_of (flat_map (λ (e : Entry). e.sentences) es) ≡ flat_map content_sentences (map entry_content es)
 content_sentences-entries [] = refl
@@ -60,7 +60,7 @@ contents_failing es rows =
     flat_map-append content_sentences (entries_kept es) (map row_content rows) ∙ ap (λ (l : List (ℕ × List ℕ)). l ++ flat_map content_sentences (map row_content rows)) (content_sentences-kept es ∙ sym (failing_contents (lines_in es)))
     ∙ ap (λ (l : List (ℕ × List ℕ)). map content (failing_of_lines (lines_in es)) ++ l) (content_sentences-rows rows) ∙ sym (map-append content (failing_of_lines (lines_in es)) (map failing_of_row rows))
 
--- ---- Entries with a kept sentence.
+-- ---- If a sentence of an entry is kept, the entry is kept with this sentence.
 
 some_by : (j : DecidedLine) (js : List DecidedLine) (x : Sentence) (s : ℕ) (lines : Text) → j.decision ≡ Keep x s lines → (has_kept (j ∷ js) ≡ true) × Contains (kept_contents (j ∷ js)) (x.start, x.tokens)
 some_by j js x s lines is =

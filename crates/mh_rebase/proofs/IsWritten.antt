@@ -18,7 +18,7 @@ use Rattle.mh_msgfile.specs.Sentences.{Vocabulary, vocabulary_of, has_items}
 use Rattle.mh_msgfile.specs.FileTexts.{HasReadableNames, sentence_text}
 use Rattle.mh_msgfile.proofs.PrintedAgain.{canonical, IsKnown, IsLine, IsFree, blank_text}
 use Rattle.mh_msgfile.proofs.SentenceBounds.{sentence_start, sentence_tokens}
-use Rattle.mh_msgfile.proofs.WrittenEntries.{Written, written_content, IsGoodEntry, entry_lines, IsMessageText, message_reads}
+use Rattle.mh_msgfile.proofs.WrittenEntries.{WrittenEntry, written_content, IsGoodEntry, entry_lines, IsMessageText, message_reads}
 use Rattle.mh_msgfile.proofs.CanonicalLine.{HasNoSeparator, line_begins}
 use Rattle.mh_msgfile.proofs.LineEnds.{with_ends, IsReadUnchanged}
 use Rattle.mh_check.specs.Checks.{IsNoRefusal}
@@ -136,7 +136,7 @@ module _ (expected : Bool) (g : Grammar) (a : Automaton) (t : TableData) where
       let later = decided_split (before ++ j ∷ []) js ks all.1 in ((all.0, later.0), subst (λ (l : List DecidedLine). AreDecided expected g a t l ks) (append_assoc before (j ∷ []) js) later.1)
 
 module _ (expected : Bool) (g : Grammar) (a : Automaton) (t : TableData) (facts : Facts t) (same : t.grammar ≡ plain_of g) (has : HasReadableNames g) (names : HasNamesWithoutLineEnds g) where
-  -- ---- Kept entries.
+  -- ---- The kept entries are written so that they are read again.
 
   decision_piece : (before : List DecidedLine) (text : Text) (d : Decision) → IsDecision expected g a t before text d → Piece (kept_sentence_text g d) (map (canonical g) (kept_content d))
   decision_piece before text (Drop reason) is = piece_none
@@ -165,7 +165,7 @@ module _ (expected : Bool) (g : Grammar) (a : Automaton) (t : TableData) (facts 
   -- ---- The text of entries.
 
   pub record IsWritten (text : Text) (cs : List Content) : Type 0 where
-    pub entries : List Written
+    pub entries : List WrittenEntry
     pub good : AllByRecursion (IsGoodEntry g has) entries
     pub content : map written_content entries ≡ cs
     pub piece : Piece text (entry_lines g has entries)
@@ -173,7 +173,7 @@ module _ (expected : Bool) (g : Grammar) (a : Automaton) (t : TableData) (facts 
   written_none : (text : Text) → Piece text [] → IsWritten text []
   written_none text piece = record { entries = []; good = tt; content = refl; piece = piece }
 
-  lines_append : (ws vs : List Written) → entry_lines g has (ws ++ vs) ≡ entry_lines g has ws ++ entry_lines g has vs
+  lines_append : (ws vs : List WrittenEntry) → entry_lines g has (ws ++ vs) ≡ entry_lines g has ws ++ entry_lines g has vs
   lines_append [] vs = refl
   lines_append (w ∷ ws) vs =
       let front = map (canonical g) w.sentences in
@@ -192,7 +192,7 @@ module _ (expected : Bool) (g : Grammar) (a : Automaton) (t : TableData) (facts 
   message_piece : (lines : List Text) → AllByRecursion (IsLine g) lines → Piece (10 ∷ (with_ends lines ++ 10 ∷ [])) ([] ∷ (lines ++ [] ∷ []))
   message_piece lines all = piece_both (10 ∷ []) (with_ends lines ++ 10 ∷ []) ([] ∷ []) (lines ++ [] ∷ []) piece_empty (piece_both (with_ends lines) (10 ∷ []) lines ([] ∷ []) (piece_lines g has lines all) piece_empty)
 
-  -- Sentences with their message.
+  -- The text of sentences followed by their message is a written entry.
   one_written : (text : Text) (cs : List (ℕ × List ℕ)) (lines : List Text) → Piece text (map (canonical g) cs) → has_items cs ≡ true → AllByRecursion (IsKnown g) cs → has_items lines ≡ true → AllByRecursion (IsLine g) lines → HasNoSeparator blank_text lines
       → IsWritten (text ++ 10 ∷ (with_ends lines ++ 10 ∷ [])) ((cs, with_ends lines) ∷ [])
   one_written text cs lines piece some known more all plain = record {
@@ -223,7 +223,7 @@ module _ (expected : Bool) (g : Grammar) (a : Automaton) (t : TableData) (facts 
       let parts = decided_split expected g a t before e.sentences (lines_in es) all in
       written_both (kept_entry_text g e) (kept_entries_text g es) (entry_kept e) (entries_kept es) (entry_on before e.sentences e.message parts.0 texts.0 (has_kept e.sentences) refl) (entries_written (before ++ e.sentences) es parts.1 texts.1)
 
-  -- ---- New entries.
+  -- ---- The new entries are written so that they are read again.
 
   place_good : AllByRecursion (IsLine g) (place_line ∷ [])
   place_good = ((IsReadUnchanged-no_line_end place_line refl, refl), tt)

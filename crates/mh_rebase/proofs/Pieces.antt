@@ -62,7 +62,7 @@ piece_gone line whole goes = record { lines = line ∷ []; is = sym (append-nil 
 pub piece_lines : (g : Grammar) (has : HasReadableNames g) (lines : List Text) → AllByRecursion (IsLine g) lines → Piece (with_ends lines) lines
 piece_lines g has lines all = record { lines = lines; is = refl; whole = all_unchanged g has lines all; kept = all_kept g has lines all }
 
--- Comment lines.
+-- Comment lines that the program writes are ignored when they are read.
 all_made : (lines : List Text) → AllByRecursion IsGeneratedLine lines → AllByRecursion IsReadUnchanged lines × (filter is_kept_text lines ≡ [])
 all_made [] made = (tt, refl)
 all_made (line ∷ lines) made =

@@ -18,7 +18,7 @@ use Rattle.mh_msgfile.specs.LooseFiles.{LooseSpells}
 use Rattle.mh_msgfile.specs.FileTexts.{HasReadableNames}
 use Rattle.mh_msgfile.specs.declared.loose.LooseFile.{LooseFile}
 use Rattle.mh_msgfile.proofs.PrintedAgain.{canonical, contents_of, AreGood, IsGood, found_in, content_at, read_back, good_back, some_mapped}
-use Rattle.mh_msgfile.proofs.WrittenEntries.{Written, written_content, line_text, loose_content, IsGoodEntry, canonical_content, entries_loose}
+use Rattle.mh_msgfile.proofs.WrittenEntries.{WrittenEntry, written_content, line_text, loose_content, IsGoodEntry, canonical_content, entries_loose}
 use Rattle.mh_report_comments.specs.CatalogueTexts.{AreEntries, IsCatalogueText}
 use Rattle.mh_update.specs.NoLineEnds.{HasNamesWithoutLineEnds}
 use Rattle.mh_rebase_form.specs.Decisions.{DecidedLine, kept_line, AreDecided}
@@ -39,7 +39,7 @@ pub items_of : (js : List DecidedLine) → has_items (texts_in js) ≡ true → 
 items_of [] some = some
 items_of (j ∷ js) some = refl
 
--- ---- A file without entries.
+-- ---- A file without entries is rebased to the list of all errors.
 
 no_entries : (es : List DecidedEntry) → map without_decisions es ≡ [] → es ≡ []
 no_entries [] is = refl
@@ -136,7 +136,7 @@ module _ (expected : Bool) (g : Grammar) (a : Automaton) (t : TableData) where
   -- ---- A rebased text.
 
   module _ (facts : Facts t) (same : t.grammar ≡ plain_of g) (has : HasReadableNames g) (names : HasNamesWithoutLineEnds g) where
-    canonical_reads : (es : List DecidedEntry) (ws : List Written) → map loose_content (map without_decisions es) ≡ map (canonical_content g has) ws → AllByRecursion (IsGoodEntry g has) ws → AllZip ReadsAs es (map written_content ws)
+    canonical_reads : (es : List DecidedEntry) (ws : List WrittenEntry) → map loose_content (map without_decisions es) ≡ map (canonical_content g has) ws → AllByRecursion (IsGoodEntry g has) ws → AllZip ReadsAs es (map written_content ws)
     canonical_reads [] [] is good = tt
     canonical_reads [] (w ∷ ws) is good = absurd (cc)
     canonical_reads (e ∷ es) [] is good = absurd (cc)

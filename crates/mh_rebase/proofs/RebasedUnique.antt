@@ -103,7 +103,7 @@ module _ (t : TableData) (before : List DecidedLine) where
     pub reason_once : (r q : DropReason) → IsReason v t before text r → IsReason v t before text q → r ≡ q
     reason_once r q is is' = by_once r q (reason_by r is) (reason_by q is')
 
--- ---- Decisions.
+-- ---- The decisions on the lines and entries are unique.
 
 module _ (expected : Bool) (g : Grammar) (a : Automaton) (t : TableData) where
   decision_once : (before : List DecidedLine) (text : Text) (d e : Decision) → IsDecision expected g a t before text d → IsDecision expected g a t before text e → d ≡ e

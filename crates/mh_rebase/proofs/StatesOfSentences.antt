@@ -43,7 +43,7 @@ failing_of_lines js = flat_map (λ j. failing_of_decision j.decision) js
 abbrev pub failing_of_row : CatalogueRow → FailingSentence
 failing_of_row row = ((row.start, row.sentence), row.state)
 
--- ---- Sentences without their states.
+-- ---- The sentences with their states, taken without the states, are the kept sentences.
 
 decision_contents : (d : Decision) → map content (failing_of_decision d) ≡ kept_content d
 decision_contents (Keep x s lines) = refl
@@ -93,11 +93,11 @@ line_by : (j : DecidedLine) (js : List DecidedLine) (s n : ℕ) (c : Bool) → k
 line_by j js s n true is at later = line_here j.decision (failing_of_lines js) s is
 line_by j js s n false is at later = line_there j.decision (failing_of_lines js) s (later at)
 
-pub line_has : (js : List DecidedLine) (s n : ℕ) → kept_line js s ≡ Some n → HasSentenceIn (failing_of_lines js) s
-line_has [] s n is = cc
-line_has (j ∷ js) s n is = line_by j js s n (keeps_in s j.decision) refl is (line_has js s n)
+pub sentence_of_kept_line : (js : List DecidedLine) (s n : ℕ) → kept_line js s ≡ Some n → HasSentenceIn (failing_of_lines js) s
+sentence_of_kept_line [] s n is = cc
+sentence_of_kept_line (j ∷ js) s n is = line_by j js s n (keeps_in s j.decision) refl is (sentence_of_kept_line js s n)
 
--- ---- Filtered lists.
+-- ---- A row is in the filtered list exactly if it is in the list and passes the test.
 
 module _ (q : CatalogueRow → Bool) where
   filter_by : (x : CatalogueRow) (xs : List CatalogueRow) (y : CatalogueRow) (c : Bool) → q x ≡ c → Contains (if c then x ∷ filter q xs else filter q xs) y → (Contains (filter q xs) y → Contains xs y × (q y ≡ true)) → Contains (x ∷ xs) y × (q y ≡ true)
@@ -200,7 +200,7 @@ module _ (expected : Bool) (g : Grammar) (a : Automaton) (t : TableData) where
     found_by s row c at None is =
         let new : is_none (kept_line js row.state) ≡ true = ap (λ (r : ℕ). is_none (kept_line js r)) at ∙ ap is_none is in
         (failing_of_row row, Contains-append_right (failing_of_lines js) (map failing_of_row (filter (is_new_row js) rows)) (failing_of_row row) (contains_map failing_of_row (filter (is_new_row js) rows) row (to_filter (is_new_row js) rows row c new)), at)
-    found_by s row c at (Some n) is = let found = line_has js s n is in (found.0, Contains-append_left (failing_of_lines js) (map failing_of_row (filter (is_new_row js) rows)) found.0 found.1, found.2)
+    found_by s row c at (Some n) is = let found = sentence_of_kept_line js s n is in (found.0, Contains-append_left (failing_of_lines js) (map failing_of_row (filter (is_new_row js) rows)) found.0 found.1, found.2)
 
     -- Each state in which some sentence fails is among the states of these sentences.
     pub all_found : (s : ℕ) → Failing t s → HasSentenceIn all_failing s

@@ -9,7 +9,7 @@ use Rattle.mh_grammar.specs.Text.{Text}
 use Rattle.mh_rebase.specs.code.Reasons.{kept_line_in}
 use Rattle.mh_items_kernels.specs.KernelTypes.{Automaton}
 use Rattle.mh_tables_core.specs.Table.{TableData}
-use Rattle.mh_tables_core.specs.Failing.{CatalogueRow as TableRow, Catalogue, FailsFirst}
+use Rattle.mh_tables_core.specs.Failing.{CatalogueRow, Catalogue, FailsFirst}
 use Rattle.mh_catalogue_rows.specs.Rows.{AreShort, row_of, rows_of}
 use Rattle.mh_catalogue_rows.specs.declared.rows.Row.{Row}
 use Rattle.mh_msgfile.specs.declared.loose.LooseFile.{LooseFile}
@@ -37,7 +37,7 @@ filter_same q r same (x ∷ xs) =
     filter_on q x xs (q x) refl ∙ ap (λ l. if q x then x ∷ l else l) (filter_same q r same xs) ∙ sym (filter_on r x xs (q x) (sym (same x)))
 
 module _ (expected : Bool) (g : Grammar) (a : Automaton) (t : TableData) where
-  -- ---- Rows.
+  -- ---- Writing one row after the other writes all rows.
 
   pub rows_none : (kept : List (Option ℕ)) (text : Text) → WritesRows expected g a t kept [] text text
   rows_none kept text = ([], refl, sym (append-nil text))
@@ -49,7 +49,7 @@ module _ (expected : Bool) (g : Grammar) (a : Automaton) (t : TableData) where
       let split : filter q (rows_of (take i rows)) ++ filter q (rows_of (row ∷ [])) ≡ filter q (rows_of (take (i + 1) rows)) =
       sym (filter_append q (rows_of (take i rows)) (rows_of (row ∷ []))) ∙ ap (filter q) (sym (map-append row_of (take i rows) (row ∷ [])) ∙ ap rows_of (sym (take_step rows i row lt here))) in (
         x ++ y,
-        subst (λ (l : List TableRow). AreEntries expected g a t l (x ++ y)) split (entries_append expected g a t (filter q (rows_of (take i rows))) (filter q (rows_of (row ∷ []))) x y are are'),
+        subst (λ (l : List CatalogueRow). AreEntries expected g a t l (x ++ y)) split (entries_append expected g a t (filter q (rows_of (take i rows))) (filter q (rows_of (row ∷ []))) x y are are'),
         next ∙ ap (λ (l : Text). l ++ y) first ∙ append_assoc old x y,
       )
 
@@ -58,17 +58,17 @@ module _ (expected : Bool) (g : Grammar) (a : Automaton) (t : TableData) where
   row_written kept row none is out old entry new of_row written =
       let here : is_none (kept_line_in kept row.state) ≡ true = sym is ∙ out in (
         entry,
-        subst (λ (l : List TableRow). AreEntries expected g a t l entry) (sym (filter_on (has_no_kept_line kept) (row_of row) [] true here)) (entry, [], of_row, refl, sym (append-nil entry)),
+        subst (λ (l : List CatalogueRow). AreEntries expected g a t l entry) (sym (filter_on (has_no_kept_line kept) (row_of row) [] true here)) (entry, [], of_row, refl, sym (append-nil entry)),
         written,
       )
 
   pub row_kept : (kept : List (Option ℕ)) (row : Row) (none : Bool) → none ≡ is_none (kept_line_in kept row.state) → none ≡ false → (text : Text) → WritesRows expected g a t kept (row ∷ []) text text
   row_kept kept row none is out text =
       let here : is_none (kept_line_in kept row.state) ≡ false = sym is ∙ out in
-      ([], subst (λ (l : List TableRow). AreEntries expected g a t l []) (sym (filter_on (has_no_kept_line kept) (row_of row) [] false here)) refl, sym (append-nil text))
+      ([], subst (λ (l : List CatalogueRow). AreEntries expected g a t l []) (sym (filter_on (has_no_kept_line kept) (row_of row) [] false here)) refl, sym (append-nil text))
 
   -- The sentences of a catalogue fail.
-  pub rows_fit : (rows : List Row) → AllByRecursion (λ (row : TableRow). FailsFirst t row.start row.sentence row.state) (rows_of rows) → AreShort (rows_of rows) → AllByRecursion (IsFitRow t) rows
+  pub rows_fit : (rows : List Row) → AllByRecursion (λ (row : CatalogueRow). FailsFirst t row.start row.sentence row.state) (rows_of rows) → AreShort (rows_of rows) → AllByRecursion (IsFitRow t) rows
   rows_fit [] each short = tt
   rows_fit (row ∷ rows) each short = (record { fails = each.0.fails; few = omega (arith, short.0) }, rows_fit rows each.1 short.1)
 
@@ -102,6 +102,6 @@ module _ (expected : Bool) (g : Grammar) (a : Automaton) (t : TableData) where
         rows = rows_of rows;
         catalogue = catalogue;
         new = entries;
-        are_new = subst (λ (l : List TableRow). AreEntries expected g a t l entries) (filter_same (has_no_kept_line new.kept_lines.items) (is_new_row js) (λ (row : TableRow). ap is_none (kept_lines row.state)) (rows_of rows)) are;
+        are_new = subst (λ (l : List CatalogueRow). AreEntries expected g a t l entries) (filter_same (has_no_kept_line new.kept_lines.items) (is_new_row js) (λ (row : CatalogueRow). ap is_none (kept_lines row.state)) (rows_of rows)) are;
         is = is ∙ ap (λ (l : Text). l ++ new.dropped.items) (writes ∙ ap (λ (l : Text). l ++ entries) keeps) ∙ ap (λ (l : Text). (kept_entries_text g added.done ++ entries) ++ l) drops;
       }

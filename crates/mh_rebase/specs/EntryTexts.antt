@@ -9,11 +9,11 @@ use Rattle.mh_msgfile.specs.FileTexts.{sentence_text}
 use Rattle.mh_report_comments.specs.Comments.{IsCommentBlock}
 
 -- The text is these sentences, as starts and tokens, each followed by its comment lines.
-abbrev pub AreSentences : (expected : Bool) → Grammar → Automaton → TableData → List (ℕ × List ℕ) → Text → Type 0
-AreSentences expected g a t [] text = text ≡ []
-AreSentences expected g a t (x ∷ xs) text = (comments rest : Text) × IsCommentBlock expected g a t x.0 x.1 comments × AreSentences expected g a t xs rest × (text ≡ (sentence_text g x.0 x.1 ++ 10 ∷ comments) ++ rest)
+abbrev pub IsTextOfSentences : (expected : Bool) → Grammar → Automaton → TableData → List (ℕ × List ℕ) → Text → Type 0
+IsTextOfSentences expected g a t [] text = text ≡ []
+IsTextOfSentences expected g a t (x ∷ xs) text = (comments rest : Text) × IsCommentBlock expected g a t x.0 x.1 comments × IsTextOfSentences expected g a t xs rest × (text ≡ (sentence_text g x.0 x.1 ++ 10 ∷ comments) ++ rest)
 
 -- The text is these entries: for each its sentences, an empty line, its message, and an empty line.
 abbrev pub AreCommented : (expected : Bool) → Grammar → Automaton → TableData → List (List (ℕ × List ℕ) × Text) → Text → Type 0
 AreCommented expected g a t [] text = text ≡ []
-AreCommented expected g a t (e ∷ es) text = (first rest : Text) × AreSentences expected g a t e.0 first × AreCommented expected g a t es rest × (text ≡ (first ++ (10 ∷ e.1 ++ 10 ∷ [])) ++ rest)
+AreCommented expected g a t (e ∷ es) text = (first rest : Text) × IsTextOfSentences expected g a t e.0 first × AreCommented expected g a t es rest × (text ≡ (first ++ (10 ∷ e.1 ++ 10 ∷ [])) ++ rest)

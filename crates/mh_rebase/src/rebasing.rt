@@ -27,7 +27,7 @@ use std::alloc::Global;
 /// The reason why a messages file is not rebased.
 #[derive(Clone, Copy, PartialEq, Eq, Drop)]
 pub enum RebaseFault {
-    /// In this state, the lowest such, only sentences fail that cost more than 1,000,000.
+    /// The lowest state in which some sentence fails, but none that costs at most 1,000,000.
     TooLong { state: u32 },
     /// Memory ran out.
     Memory,
@@ -85,7 +85,8 @@ pub fn no_lines(alloc: Global, table: &Table) -> Result<Vec<Option<u32>>, Memory
     Ok(lines)
 }
 
-/// Appends all parts of the rebased text to `parts.kept`, with the rows of the catalogue.
+/// Appends all parts of the rebased text to `parts.kept`. `rows` are the rows of the catalogue: each row in whose state
+/// no kept sentence fails becomes an entry.
 fn write_parts<const W: usize>(
     alloc: Global,
     to: &Target<'_, W>,
@@ -107,7 +108,7 @@ fn write_parts<const W: usize>(
     Ok(())
 }
 
-/// The text of the rebased file, with the rows of the catalogue.
+/// Makes the text of the rebased file. `rows` are the rows of the catalogue.
 fn rebased_with<const W: usize>(
     alloc: Global,
     to: &Target<'_, W>,
@@ -130,7 +131,8 @@ fn rebased_with<const W: usize>(
     Ok(parts.kept)
 }
 
-/// The text of the rebased file, with the rows of the catalogue. Numbers the names of the grammar once for all lines.
+/// Makes the text of the rebased file, as `rebased_with` does, but first numbers the names of the grammar, once for all
+/// lines.
 fn rebased_by<const W: usize>(
     alloc: Global,
     commenter: &Commenter<'_, W>,
@@ -157,12 +159,13 @@ fn rebased_by<const W: usize>(
 }
 
 /// Rebases a messages file onto the grammar of this table, and returns the new text. A sentence line is dropped for the
-/// first of these reasons that applies: the line is no sentence of the grammar; the sentence is not refused; it is refused
-/// before its last token; an earlier kept sentence fails in the same state. All other sentences are kept. The text has
-/// three parts. The first has the entries with a kept sentence: the kept sentences, each with new comment lines, and the
-/// message. The second has an entry of the list of errors for each other state in which some sentence fails. The third
-/// reports each dropped line with its reason, and after the last line of an entry without a kept sentence its message. If
-/// `expected` is true, all comment lines end with the tokens that are expected in place of the last token.
+/// first of these reasons that applies: the line is no sentence of the grammar; the sentence is not refused; it is
+/// refused before its last token; an earlier kept sentence fails in the same state. All other sentences are kept. The
+/// text has three parts. The first has the entries with a kept sentence: the kept sentences, each with new comment
+/// lines, and the message. The second has an entry of the list of errors for each other state in which some sentence
+/// fails. The third reports each dropped line with its reason, and after the last line of an entry without a kept
+/// sentence its message. If `expected` is true, each block of comment lines ends with the tokens that are expected in
+/// place of the last token of its sentence.
 /// Fails with `TooLong` exactly if sentences fail in some state, but each of them costs more than 1,000,000, and with
 /// `Memory` only if memory runs out.
 pub fn rebase<const W: usize>(

@@ -26,7 +26,7 @@ pub state_text_is : (g : Grammar) (a : Automaton) (t : TableData) (s : ℕ) (old
 state_text_is g a t s old t1 t2 t3 t4 e1 e2 (actions, are, e3) e4 =
     (head_line s ++ kernel_lines g (kernel_at a s).items ++ actions ++ goto_lines g (edges_at a s), record { actions = actions; are_actions = are; is = refl }, pieces old _ _ actions _ t1 t2 t3 t4 e1 e2 e3 e4)
 
--- The invariant of the loop over the states, after one more state.
+-- Appending the text of one more state keeps the invariant of the loop over the states.
 pub state_texts_more : (g : Grammar) (a : Automaton) (t u : TableData) (s n : ℕ) (title old new : Text) → n ≡ suc s → u ≡ t → ((states : Text) × AreStateTexts g a t s states × (old ≡ title ++ states))
     → AppendsText (IsStateText g a u s) old new → (states : Text) × AreStateTexts g a t n states × (new ≡ title ++ states)
 state_texts_more g a t u s n title old new next same (states, are, e) (last, is, f) =

@@ -9,7 +9,7 @@ use Rattle.mh_resolve_cells.specs.declared.kinds.Mode.{Mode}
 use Rattle.mh_resolve_cells.specs.States.{IsTableOf}
 
 -- The numbers of the grammar are in range, the automaton is one of the grammar, with lookahead sets of at most eight
--- words, and the table is the table of this automaton in this mode.
+-- words, and the table is the one that this automaton gives; `mode` is the kind of the automaton, merged or canonical.
 pub record HasTable (W : ℕ) (g : Grammar) (a : Automaton) (mode : Mode) (t : TableData) : Type 0 where
   pub few : W ≤ 8
   pub range : IsInRange (plain_of g)

@@ -238,7 +238,8 @@ fn write_state<const W: usize>(
 
 /// Returns the text of an automaton: for each state its kernel, its default or the cells that have an action or are
 /// holes, and its edges on nonterminals. A hole is a cell whose actions were all removed by precedence. The table must
-/// be the one of this automaton in this mode. Fails only if memory runs out.
+/// be the one of this automaton; `mode` is the kind of the automaton, merged or canonical. Fails only if memory runs
+/// out.
 pub fn automaton_text<const W: usize>(
     alloc: Global,
     grammar: &Grammar,

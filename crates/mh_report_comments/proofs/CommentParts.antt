@@ -23,7 +23,7 @@ use Rattle.mh_run.specs.declared.outcome.Verdict.TheVariants as verdicts
 use Rattle.mh_grammar.specs.Text.{Text}
 use Rattle.std.specs.Prelude.{codes}
 use Rattle.mh_report_comments.specs.Comments.{IsCommentBlock, IsCommentText, AppendsComments, comments, expected_comment, message_placeholder}
-use Rattle.mh_tables_core.proofs.RefusingState.{state_refused}
+use Rattle.mh_tables_core.proofs.RefusingState.{refusing_state_known}
 
 -- Four parts appended one after another are appended as a whole.
 pub pieces : (old a b c d t1 t2 t3 t4 : Text) → t1 ≡ old ++ a → t2 ≡ t1 ++ b → t3 ≡ t2 ++ c → t4 ≡ t3 ++ d → t4 ≡ old ++ (a ++ b ++ c ++ d)
@@ -57,7 +57,7 @@ module _ (t : TableData) (f : Facts t) (start : ℕ) (w : List ℕ) (fails : (s 
   state_is at s is = let r = refuses in cc
 
   pub state_below : (at s : ℕ) → v ≡ verdicts.Reject at s → s < length t.states
-  state_below at s is = subst (λ (r : ℕ). r < length t.states) (state_is at s is) (state_refused t f start w (length w - 1) fails.0 fails.1.sentence.known fails.1.verdict)
+  state_below at s is = subst (λ (r : ℕ). r < length t.states) (state_is at s is) (refusing_state_known t f start w (length w - 1) fails.0 fails.1.sentence.known fails.1.verdict)
 
   pub appends_comments : (g : Grammar) (a : Automaton) (at s : ℕ) → v ≡ verdicts.Reject at s → (items : List KernelItem) → items ≡ (kernel_at a s).items → (old new : Text) → old ≡ [] → AppendsComments g items s ps old new → IsCommentText g a t start w new
   appends_comments g a at s is items same old new none (item, farthest, written) =

@@ -25,7 +25,7 @@ each_more items i item old new all lt is above here k d within =
           rw same here)
     ]
 
--- The invariant after one more item.
+-- The comparison with one more item keeps the invariant.
 pub so_far_more : (items : List KernelItem) (i : ℕ) (item old new : KernelItem) → FarthestSoFar items i old → i < length items → item ≡ get_or items i item → ((new ≡ item) × (old.dot < item.dot)) ⊎ ((new ≡ old) × (item.dot ≤ old.dot)) → FarthestSoFar items (i + 1) new
 so_far_more items i item old new h lt is (inl (same, farther)) =
     subst (FarthestSoFar items (i + 1)) (sym same) (record {

@@ -11,7 +11,7 @@ use Rattle.mh_tables_core.proofs.RunEnds.{after_ended, has_verdict, step_moves}
 use Rattle.mh_tables_core.proofs.Reductions.{after-add}
 use Rattle.mh_expected.specs.Expected.{IsExpected, ExpectedTokens}
 
--- Where no token is left, no token is left after more steps.
+-- If a run has no input tokens left, it has none left after more steps.
 left_after : (c : Config) (o : Option (List ℕ)) → c.left ≡ [] → (next_of c (goes_to c o)).left ≡ []
 left_after c None e = e
 left_after c (Some stack) e = e
@@ -34,7 +34,7 @@ module _ (t : TableData) (h : HaltingFacts t) (start : ℕ) (known : start < len
     abbrev first : Config
     first = initial start (u ++ z ∷ [])
 
-    -- The token is expected exactly if no token is left at the end of the run.
+    -- The run reads `u` followed by z. The token z is expected exactly if no input token is left when the run ends.
     by_left : (n : ℕ) (how : Ending) → step t (after t n first) ≡ Ends how → (left : List ℕ) → (after t n first).left ≡ left → IsExpected t start u z ⊎ (IsExpected t start u z → ⊥)
     by_left n how ended [] e = inl (record { known = lt; steps = n; shifted = e })
     by_left n how ended (y ∷ ys) e =

@@ -7,8 +7,8 @@ use Rattle.mh_grammar.specs.Plain.{plain_of}
 use Rattle.mh_items_kernels.specs.KernelTypes.{Automaton, Kernel, KernelItem}
 use Rattle.mh_items_kernels.specs.Kernels.{IsKernelItem}
 use Rattle.mh_items_kernels.specs.Automaton.{IsAutomaton}
-use Rattle.mh_resolve_cells.proofs.AreResolved.{items_of}
+use Rattle.mh_resolve_cells.proofs.AreResolved.{kernel_is_item_list}
 
 pub kernel_items : (g : Grammar) (a : Automaton) → IsAutomaton (plain_of g) a → (n : ℕ) (kernel : Kernel) (items : List KernelItem) → n < length a.kernels → kernel ≡ get_or a.kernels n kernel → items ≡ kernel.items → All (IsKernelItem (plain_of g)) items
 kernel_items g a h n kernel items lt e f =
-    subst (All (IsKernelItem (plain_of g))) (sym f) (All-from_recursion (IsKernelItem (plain_of g)) kernel.items (items_of g a h n kernel lt e).items)
+    subst (All (IsKernelItem (plain_of g))) (sym f) (All-from_recursion (IsKernelItem (plain_of g)) kernel.items (kernel_is_item_list g a h n kernel lt e).items)

@@ -40,8 +40,8 @@ pub edges_are : (a : Automaton) (n : ℕ) (edges row : List Edge) → n < length
 unfolding edges_at
 edges_are a n edges row lt e f = get_or_default a.edges n [] row lt ∙ sym e ∙ sym f
 
-pub items_of : (g : Grammar) (a : Automaton) → IsAutomaton (plain_of g) a → (n : ℕ) (kernel : Kernel) → n < length a.kernels → kernel ≡ get_or a.kernels n kernel → IsItemList (plain_of g) kernel
-items_of g a h n kernel lt e = let same = kernel_is a n kernel lt e in rw (← same) (h.each n lt)
+pub kernel_is_item_list : (g : Grammar) (a : Automaton) → IsAutomaton (plain_of g) a → (n : ℕ) (kernel : Kernel) → n < length a.kernels → kernel ≡ get_or a.kernels n kernel → IsItemList (plain_of g) kernel
+kernel_is_item_list g a h n kernel lt e = let same = kernel_is a n kernel lt e in rw (← same) (h.each n lt)
 
 pub edges_known : (g : Grammar) (a : Automaton) → IsInRange (plain_of g) → IsAutomaton (plain_of g) a → (n : ℕ) (edges row : List Edge) → n < length a.kernels → row ≡ get_or a.edges n row → edges ≡ row → AreEdgesKnown (length g.tokens) edges
 edges_known g a range h n edges row lt e f z j found =
@@ -77,7 +77,7 @@ first_states_more g a h mode n kernel edges row lt e f k parts is states new mor
 pub all_resolved : (g : Grammar) (a : Automaton) (mode : Mode) (n : ℕ) (states : List StateParts) → n ≡ length a.kernels → AreFirstStates g a mode n states → AreResolved g a mode states
 all_resolved g a mode n states e f = record { count = f.count ∙ e; each = λ s lt. f.each s (omega arith) }
 
--- The table of resolved states has the facts of every table.
+-- The table of resolved states meets `Facts`, the conditions on table data that the proofs on runs assume.
 pub Facts-resolved : (g : Grammar) (a : Automaton) (mode : Mode) (states : List StateParts) → IsInRange (plain_of g) → HaveCosts g.tokens → IsAutomaton (plain_of g) a → AreResolved g a mode states → Facts (table_data g states)
 Facts-resolved g a mode states range costs h r = facts g a mode states (record { range = range; costs = costs; automaton = h; resolved = r })
 

@@ -70,9 +70,9 @@ resolved_once mode s kernel a b p q =
     let core = p.core ∙ sym q.core in
     λ i. record { cells = cells i; fallback = fallback i; edges = edges i; core = core i }
 
--- An automaton has at most one table.
-pub table_once : (g : Grammar) (a : Automaton) (mode : Mode) (xs ys : List StateParts) → AreResolved g a mode xs → AreResolved g a mode ys → xs ≡ ys
-table_once g a mode xs ys p q =
+-- An automaton has at most one list of resolved states.
+pub resolved_states_once : (g : Grammar) (a : Automaton) (mode : Mode) (xs ys : List StateParts) → AreResolved g a mode xs → AreResolved g a mode ys → xs ≡ ys
+resolved_states_once g a mode xs ys p q =
     let n = p.count in
     let m = q.count in
     same_lists xs ys (n ∙ sym m) (λ s d lt.
@@ -91,11 +91,12 @@ raw_is_chosen s look clear (Reduce p) r = (
 )
 raw_is_chosen s look clear Refuse r = absurd r
 
+-- An automaton has at most one table.
 pub one_table : (g : Grammar) (a : Automaton) (mode : Mode) (x y : TableData) → IsTableOf g a mode x → IsTableOf g a mode y → x ≡ y
 one_table g a mode x y p q =
     let grammar : x.grammar ≡ y.grammar = p.grammar ∙ sym q.grammar in
     let costs : x.costs ≡ y.costs = p.costs ∙ sym q.costs in
-    let states : x.states ≡ y.states = table_once g a mode x.states y.states p.states q.states in
+    let states : x.states ≡ y.states = resolved_states_once g a mode x.states y.states p.states q.states in
     λ i. record { grammar = grammar i; costs = costs i; states = states i }
 
 looks_same : (a b : Look) → a ≡ b → IsLookBefore a b → ⊥

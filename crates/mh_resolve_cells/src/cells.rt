@@ -2,12 +2,12 @@
 use crate::kinds::ConflictKind;
 use mh_tables_core::Action;
 
-/// A cell: its action, whether it has a raw action, and its conflict.
+/// A cell: its action, whether it has any action before precedence is applied, and its conflict.
 #[derive(Clone, Copy)]
 pub struct Cell {
     /// The action that precedence chooses, or `Refuse`.
     pub action: Action,
-    /// Whether the cell has a raw action.
+    /// Whether the cell has an action (a shift or a reduction) before precedence is applied.
     pub raw: bool,
     /// The kind of its conflict, if it has one.
     pub kind: Option<ConflictKind>,
@@ -38,7 +38,8 @@ pub struct Tallies {
     pub last: Tally,
 }
 
-/// The candidate with the lowest rank, and whether another candidate has the same rank.
+/// Of the productions that `%on_error_reduce` lets a state reduce, the one with the lowest rank, and whether another of
+/// them has the same rank.
 #[derive(Clone, Copy)]
 pub struct BestCandidate {
     pub rank: u64,

@@ -9,6 +9,6 @@ pub struct Conflict {
     pub state: u32,
     /// The token on which the actions conflict, or the end of the stream.
     pub look: Look,
-    /// The outcome of the conflict.
+    /// The kind of the conflict.
     pub kind: ConflictKind,
 }

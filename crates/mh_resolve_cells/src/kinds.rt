@@ -10,7 +10,7 @@ pub enum Mode {
     Canonical,
 }
 
-/// The outcome of a conflict.
+/// The kind of a conflict: solved, unsolved, or at the end of the stream.
 #[derive(Clone, Copy, Debug, PartialEq, Eq)]
 pub enum ConflictKind {
     /// Precedence levels decided it, for an action or for none.

@@ -84,7 +84,7 @@ fn weigh(grammar: &Grammar, look: Look, shift: Option<u32>, production: u32) -> 
     }
 }
 
-/// The tally with one more reduction on a look, if the state has this shift on the look.
+/// The tally with one more reduction on a look; `shift` is the state's shift on this look, if the state has one.
 pub fn add_reduction(
     tally: Tally,
     grammar: &Grammar,

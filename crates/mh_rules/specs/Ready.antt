@@ -24,11 +24,11 @@ use Rattle.mh_rules.specs.Depth.{IsActualShallow, AreProducersShallow, IsApplied
 
 -- Conditions on modules.
 
--- The token's cost, if one is given, is in range.
+-- The token's cost, if one is given, is within the limits of costs.
 abbrev pub IsTokenReady : TokenDecl → Type 0
 IsTokenReady t = IfSome t.cost IsCost
 
--- Each rule has an alternative, costs are in range, and no actual is too deep.
+-- Each rule has an alternative, each cost is within its limits, and no actual is nested too deeply.
 pub record IsModuleReady (m : Module) : Type 0 where
   pub alternatives : All (λ (r : Rule). 0 < length r.alternatives) m.rules
   pub costs : All IsTokenReady m.tokens
@@ -46,18 +46,18 @@ IsHeadBelow formals tokens rules (heads.Formal n) = n < formals
 IsHeadBelow formals tokens rules (heads.Token n) = n < tokens
 IsHeadBelow formals tokens rules (heads.Rule n) = n < rules
 
--- Each head in the applied head is in range.
+-- Each head in the applied head, at any depth, has a number below its count (`IsHeadBelow`).
 abbrev pub IsAppliedBelow : ℕ → ℕ → ℕ → Applied → Type 0
 IsAppliedBelow formals tokens rules = every-Applied (λ a. IsHeadBelow formals tokens rules a.head)
 
--- The rule has an alternative, its heads are in range, and no producer is too deep.
+-- The rule has an alternative, the heads in it have numbers below their counts, and no producer is nested too deeply.
 pub record IsRuleReady (tokens rules : ℕ) (r : JoinedRule) : Type 0 where
   pub has_some : 0 < length r.alternatives
   pub heads_below : All (λ a. All (IsAppliedBelow r.formals tokens rules) a.producers) r.alternatives
   pub shallow : AreJoinedShallow r
 
--- All numbers and costs are in range, each rule has an alternative, the starts are distinct, there are at most
--- `max_tokens` tokens, and nothing is too deep.
+-- All numbers are below the counts of what they number, all costs are within their limits, each rule has an
+-- alternative, the starts are distinct, there are at most `max_tokens` tokens, and nothing is nested too deeply.
 pub record IsJoinedReady (j : Joined) : Type 0 where
   pub few_tokens : length j.tokens ≤ max_tokens
   pub costs : HaveCosts j.tokens
@@ -73,13 +73,14 @@ abbrev pub IsPartBelow : ℕ → ℕ → Part → Type 0
 IsPartBelow tokens instances (parts.Token z) = z < tokens
 IsPartBelow tokens instances (parts.Instance n) = n < instances
 
--- The instance has an alternative, and the parts of its alternatives are in range.
+-- The instance has an alternative, and the parts of its alternatives have numbers below the counts of tokens and
+-- instances.
 pub record IsInstanceReady (tokens instances : ℕ) (i : Instance) : Type 0 where
   pub has_some : 0 < length i.productions
   pub parts_below : All (λ (p : InstanceProduction). All (IsPartBelow tokens instances) p.rhs) i.productions
 
--- All numbers and costs are in range, each instance has an alternative, the starts are distinct, and the counts of
--- tokens and instances are within their limits.
+-- All numbers are below the counts of what they number, all costs are within their limits, each instance has an
+-- alternative, the starts are distinct, and the counts of tokens and instances are within their limits.
 pub record IsExpandedReady (e : Expanded) : Type 0 where
   pub few_tokens : length e.tokens ≤ max_numbered
   pub costs : HaveCosts e.tokens

@@ -29,7 +29,8 @@ pub struct Instance {
     /// The printed name of its rule, followed by its arguments in `(`, `,` and `)`, if it has any; at most 1,000 bytes.
     pub name: Name,
     pub inlined: bool,
-    /// The index, from 0, among the `%on_error_reduce` declarations of all files, of the first that names the instance.
+    /// The first `%on_error_reduce` declaration that names the instance, if one does: its index, from 0, among all such
+    /// declarations of all files.
     pub on_error: Option<u64>,
     pub productions: Sequence<InstanceProduction>,
 }

@@ -20,14 +20,15 @@ run_move_of-look t s None rest = refl
 run_move_of-look t s (Some z) rest = move_at_next t s z rest
 
 module _ {S : Type 0} (f : Observer S) (t : TableData) where
-  pub along_one_more : (n : ℕ) (c : Config) (s : S) → observed_after f t (suc n) c s ≡ observed f t (run_move_of t (top_of (after t n c).stack) (after t n c).left) (after t n c).left (observed_after f t n c s)
-  along_one_more zero c s = refl
-  along_one_more (suc n) c s = along_one_more n (next_of c (step t c)) (observed f t (run_move_of t (top_of c.stack) c.left) c.left s)
+  -- The observed value after n + 1 steps is the value after n steps, changed by the move of the next step.
+  pub observed_after-suc : (n : ℕ) (c : Config) (s : S) → observed_after f t (suc n) c s ≡ observed f t (run_move_of t (top_of (after t n c).stack) (after t n c).left) (after t n c).left (observed_after f t n c s)
+  observed_after-suc zero c s = refl
+  observed_after-suc (suc n) c s = observed_after-suc n (next_of c (step t c)) (observed f t (run_move_of t (top_of c.stack) c.left) c.left s)
 
-  -- The value after n + m steps is the value after m steps more than n.
-  pub along_add : (n m : ℕ) (c : Config) (s : S) → observed_after f t (n + m) c s ≡ observed_after f t m (after t n c) (observed_after f t n c s)
-  along_add zero m c s = let e : zero + m ≡ m = omega arith in rw e refl
-  along_add (suc n) m c s = let e : suc n + m ≡ suc (n + m) = omega arith in rw e (along_add n m (next_of c (step t c)) (observed f t (run_move_of t (top_of c.stack) c.left) c.left s))
+  -- Observing n + m steps is observing n steps, and then m steps from the configuration and the value after these.
+  pub observed_after-add : (n m : ℕ) (c : Config) (s : S) → observed_after f t (n + m) c s ≡ observed_after f t m (after t n c) (observed_after f t n c s)
+  observed_after-add zero m c s = let e : zero + m ≡ m = omega arith in rw e refl
+  observed_after-add (suc n) m c s = let e : suc n + m ≡ suc (n + m) = omega arith in rw e (observed_after-add n m (next_of c (step t c)) (observed f t (run_move_of t (top_of c.stack) c.left) c.left s))
 
   -- Zero steps lead from a configuration to itself.
   pub leads_none : (look : Option ℕ) (old : List ℕ) (before : S) → StepsLead f t look 0 old old before before
@@ -38,7 +39,7 @@ module _ {S : Type 0} (f : Observer S) (t : TableData) where
     value_more : (read : ℕ) (rest : List ℕ) → observed_after f t (suc n) (config_with old read look rest) before ≡ f.reduced s (length (rhs_of t.grammar p)) p
     value_more read rest =
         let first : Config = config_with old read look rest in
-        along_one_more n first before
+        observed_after-suc n first before
         ∙ ap (λ (c : Config). observed f t (run_move_of t (top_of c.stack) c.left) c.left (observed_after f t n first before)) (h.reaches read rest)
         ∙ ap (observed f t (run_move_of t (top_of stack) (left_with look rest)) (left_with look rest)) (h.value read rest)
         ∙ ap (λ (x : RunMove). observed f t x (left_with look rest) s) (run_move_of-look t (top_of stack) look rest ∙ m)

@@ -8,7 +8,7 @@ use Rattle.mh_tables_core.proofs.Reductions.{move_at_next, after-add}
 use Rattle.mh_tables_core.proofs.RunEnds.{step_moves, IsRunStack-shift, IsRunStack-start}
 use Rattle.mh_run.specs.code.Observers.{Observer, observed, observed_after, RunsObserved}
 use Rattle.mh_run.specs.code.Reductions.{left_with, config_with, SettlesTo}
-use Rattle.mh_run.proofs.ObserverSteps.{after_one_more, along_one_more, along_add}
+use Rattle.mh_run.proofs.ObserverSteps.{after_one_more, observed_after-suc, observed_after-add}
 
 -- The remaining tokens are the next token and the rest.
 pub next_is : (w : List ℕ) (read z : ℕ) → read < length w → z ≡ get_or w read 0 → drop read w ≡ z ∷ drop (read + 1) w
@@ -43,7 +43,7 @@ module _ {S : Type 0} (f : Observer S) (t : TableData) (start : ℕ) (w : List �
     -- The value after k more steps.
     behind : (c : Config) (k : ℕ) → at stack read (drop read w) ≡ c → observed_after f t (h.steps + k) (initial start w) first ≡ observed_after f t k c s
     behind c k e =
-        along_add f t h.steps k (initial start w) first
+        observed_after-add f t h.steps k (initial start w) first
         ∙ ap (λ (x : Config). observed_after f t k x (observed_after f t h.steps (initial start w) first)) (h.reaches ∙ e)
         ∙ ap (observed_after f t k c) h.value
 
@@ -64,7 +64,7 @@ module _ {S : Type 0} (f : Observer S) (t : TableData) (start : ℕ) (w : List �
 
       value_shifted : observed_after f t (suc h.steps) (initial start w) first ≡ f.shifted s z
       value_shifted =
-          along_one_more f t h.steps (initial start w) first
+          observed_after-suc f t h.steps (initial start w) first
           ∙ ap (λ (c : Config). observed f t (run_move_of t (top_of c.stack) c.left) c.left (observed_after f t h.steps (initial start w) first)) (h.reaches ∙ ap (at stack read) e)
           ∙ ap (observed f t (run_move_of t (top_of stack) (z ∷ rest)) (z ∷ rest)) h.value
           ∙ ap (λ (x : RunMove). observed f t x (z ∷ rest) s) shifts

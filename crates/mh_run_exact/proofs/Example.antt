@@ -285,7 +285,7 @@ each_conflict_free (suc zero) lt = conflict_free_by s_1 End (Reduce 1) only_1
 each_conflict_free (suc (suc zero)) lt = conflict_free_by s_2 End (Reduce 0) only_2
 each_conflict_free (suc (suc (suc s))) lt = absurd (omega arith)
 
--- The automaton of the example is an automaton.
+-- The next lemmas prove that the automaton of the example satisfies `IsAutomaton` for its grammar.
 is_kernel : (q e : ℕ) → q < 2 → e ≤ length (rhs_of g q) → IsItemList g (kernel_with q e)
 is_kernel q e lt le = record {
   items = (record { production = omega arith; dot = omega arith; looks = (tt, tt); rising = (tt, tt); some = omega arith }, tt);

@@ -1,4 +1,5 @@
--- Proves that a state of an automaton without conflicts makes each of its raw actions.
+-- Proves that, if an automaton has no conflicts, each state of its table makes each raw action of the state of the
+-- automaton. Raw actions are the actions that the items of a state call for, before conflicts are resolved.
 use Rattle.std.proofs.Common.{◌≡◌, ℕ, ◌<◌, ◌≤◌, List, [], ◌∷◌, ◌++◌, length, Some, None, Option, refl, ap, sym, subst, arith, ◌∙◌}
 use Rattle.std.specs.List.{All}
 use Rattle.mh_grammar.specs.declared.types.Grammar.{Grammar}
@@ -31,12 +32,12 @@ use Rattle.mh_tables_core.specs.Run.{RunMove, Accepts, Shifts, Reduces, run_move
 use Rattle.mh_run_exact.proofs.TableEdges.{HasEdgesOf, has_edges_of}
 use Rattle.mh_items_kernels.proofs.SymbolAtDot.{drop_tail}
 
--- The next look: a token, or the end.
+-- The next look: the first of the tokens that are left, or the end if none is left.
 abbrev pub look_of : List ℕ → Look
 look_of [] = End
 look_of (z ∷ left) = Token z
 
--- The next look if the symbols Xs derive the word u and the tokens `left` come after it.
+-- If the symbols Xs derive the word u, then Xs followed by the look of `left` may begin with the look of u ++ left.
 pub may_begin : (g : PlainGrammar) (Xs : List Symbol) (u left : List ℕ) → DerivesAll g Xs u → MayBegin g Xs (look_of left) (look_of (u ++ left))
 may_begin g Xs [] left f = items.MayBegin.passes f
 may_begin g Xs (z ∷ u) left f = items.MayBegin.begins (first_of_from-derivations g z Xs (z ∷ u) u f refl)

@@ -29,7 +29,7 @@ module _ {A : Type 0} (f : ℕ → List A) where
       let place : n + 1 + k ≡ n + suc k = omega arith in
       ap (λ (l : List A). f n ++ l) (each_suc (n + 1) k) ∙ sym (append_assoc (f n) (each_from f (n + 1) k) (f (n + 1 + k))) ∙ ap (λ (m : ℕ). (f n ++ each_from f (n + 1) k) ++ f m) place
 
-  -- The text of one more number.
+  -- The texts of k + 1 numbers are the texts of the first k numbers, and then the text of the last one.
   pub each_more : (n k : ℕ) → each_from f n (k + 1) ≡ each_from f n k ++ f (n + k)
   each_more n k = ap (each_from f n) (add-one k) ∙ each_suc n k
 
@@ -62,7 +62,7 @@ unfolding grammar_text
 grammar_by number k text is same =
     same ∙ ap (λ (n : ℕ). ((((codes "%token EOF LP RP INT\n" ++ each_from token_line 1 n) ++ codes "%start main\n%%\nmain: e1 EOF {}\n") ++ each_from level_line 1 (n - 1)) ++ last_level_line n) ++ codes "a: INT {} | LP e1 RP {}\n") is
 
--- The lengths of texts.
+-- The lengths of the texts are bounded.
 
 times_short : (n : ℕ) (text : Text) → length text ≤ 3 → length (repeated_text n text) ≤ n * 3
 unfolding repeated_text

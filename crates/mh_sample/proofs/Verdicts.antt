@@ -14,7 +14,7 @@ use Rattle.mh_sample.specs.Counts.{HaveEndings, sentences_at, sample_sentences}
 use Rattle.mh_sample.proofs.TextsInParts.{each_more}
 
 module _ (t : TableData) where
-  -- One more verdict.
+  -- If one more verdict is that of the next sentence, the verdicts are those of one sentence more.
   pub endings_more : (done : List Sentence) (s : Sentence) (ts : List ℕ) (old new : List Verdict) (v : Verdict) → ts ≡ s.tokens → new ≡ old ++ v ∷ [] → VerdictOf t s.start ts (ending_for v)
       → HaveEndings t done (map ending_for old) → HaveEndings t (done ++ s ∷ []) (map ending_for new)
   endings_more done s ts old new v tokens is verdict so_far =
@@ -22,12 +22,13 @@ module _ (t : TableData) where
       let here : VerdictOf t s.start s.tokens (ending_for v) = subst (λ (l : List ℕ). VerdictOf t s.start l (ending_for v)) tokens verdict in
       subst (HaveEndings t (done ++ s ∷ [])) same (all_zipped_more (λ (x : Sentence) (how : Ending). VerdictOf t x.start x.tokens how) done (map ending_for old) s (ending_for v) so_far here)
 
-  -- No verdict yet.
+  -- The empty list of verdicts is that of no sentences.
   pub endings_none : (f : ℕ → List Sentence) (vs : List Verdict) → vs ≡ [] → HaveEndings t (each_from f 0 0) (map ending_for vs)
   unfolding each_from
   endings_none f vs is = subst (λ (l : List Verdict). HaveEndings t [] (map ending_for l)) (sym is) tt
 
-  -- The verdicts so far, with those of the sentences of the next number k appended.
+  -- If `old` has the verdicts on the sentences of all numbers below k, then `new`, which adds the verdicts on the
+  -- sentences f k, has the verdicts on the sentences of all numbers below k + 1.
   pub endings_push : (f : ℕ → List Sentence) (k : ℕ) (old new : List Verdict) → ((done : List Sentence) → HaveEndings t done (map ending_for old) → HaveEndings t (done ++ f k) (map ending_for new))
       → HaveEndings t (each_from f 0 k) (map ending_for old) → HaveEndings t (each_from f 0 (k + 1)) (map ending_for new)
   endings_push f k old new adds so_far =
@@ -35,7 +36,8 @@ module _ (t : TableData) where
       let same : each_from f 0 k ++ f k ≡ each_from f 0 (k + 1) = sym (each_more f 0 k ∙ ap (λ (n : ℕ). each_from f 0 k ++ f n) place) in
       subst (λ (l : List Sentence). HaveEndings t l (map ending_for new)) same (adds (each_from f 0 k) so_far)
 
-  -- The verdicts of all sentences of a sample.
+  -- If the verdicts are those of the sentences of the first 3,000 numbers, they are those of all sentences of the
+  -- sample.
   pub endings_all : (g : Grammar) (number k count : ℕ) (v : Vocabulary) (vs : List Ending) → v ≡ vocabulary_of g → k ≡ operators_of number → count ≡ 3000 → HaveEndings t (each_from (sentences_at v k) 0 count) vs
       → HaveEndings t (sample_sentences g number) vs
   unfolding sample_sentences

@@ -1,4 +1,4 @@
-//! The law of samples, as a call without effect whose contract other crates can use.
+//! The law of samples, as a function that does nothing and whose contract states the law.
 ghost use Rattle.std.specs.Prelude.{◌≡◌, List, ℕ};
 ghost use Rattle.mh_grammar.specs.Plain.{plain_of};
 ghost use Rattle.mh_grammar.specs.declared.types.Grammar.{Grammar};

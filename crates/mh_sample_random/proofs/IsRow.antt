@@ -64,7 +64,7 @@ module _ (g : PlainGrammar) (lengths : List ℕ) where
     | inr other ↦ subst (IsRow g lengths (i + 1) x) (sym (get_or-set_other rows p.lhs x (get_or rows p.lhs [] ++ c ∷ []) [] other)) (row_kept i p at x (get_or rows x []) (h x) (λ e. other (sym e)))
   ]
 
-  -- The rows after the push.
+  -- After the push, the rows are those of one production more.
   pub rows_after : (rows : List (List Choice)) (i : ℕ) (p : Production) (c : Choice) → ((x : ℕ) → IsRow g lengths i x (get_or rows x [])) → slice_get g.productions i ≡ Some p → c.place ≡ i → c.length ≡ lengths_in lengths p.rhs → p.lhs < length rows
       → (j : ℕ) (new : List Choice) → j ≡ p.lhs → new ≡ get_or rows j [] ++ c ∷ [] → (x : ℕ) → IsRow g lengths (i + 1) x (get_or (set rows j new) x [])
   rows_after rows i p c h at place size below j new same is x =

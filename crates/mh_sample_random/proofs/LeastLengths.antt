@@ -126,7 +126,7 @@ module _ (lengths : List ℕ) (Xs : List Symbol) (i : ℕ) (X : Symbol) (below :
   pub sum_more : (sum : ℕ) → sum ≡ lengths_in lengths (take i Xs) → sum + length_in lengths X ≡ lengths_in lengths (take (i + 1) Xs)
   sum_more sum is = omega (arith, is, sum_by_more (length_in lengths) Xs i X below, ap (length_in lengths) at)
 
-  pub sum_few : (sum : ℕ) → All (λ n. n < 2 ^ 16) lengths → All (IsSymbolBelow (2 ^ 16) (length lengths)) Xs → sum ≤ i * 2 ^ 16 → sum + length_in lengths X ≤ (i + 1) * 2 ^ 16
-  sum_few sum short symbols l =
+  pub sum_bounded : (sum : ℕ) → All (λ n. n < 2 ^ 16) lengths → All (IsSymbolBelow (2 ^ 16) (length lengths)) Xs → sum ≤ i * 2 ^ 16 → sum + length_in lengths X ≤ (i + 1) * 2 ^ 16
+  sum_bounded sum short symbols l =
       let small = symbol_short lengths (get_or Xs i X) short (All-get_or (IsSymbolBelow (2 ^ 16) (length lengths)) Xs i X below symbols) in
       omega (arith, l, small, ap (length_in lengths) at)

@@ -63,7 +63,7 @@ module _ (guide : Guide) where
     all_room : length old.written.items + room + lengths_in guide.lengths.now (reverse old.pending.items) ≡ guide.limit
     all_room = omega (arith, h.fits_limit, h.rest.needed, reversed_lengths guide.lengths.now old.pending.items)
 
-    -- The choices that fit, as the code has read the row.
+    -- The list that the code filters from the row that it reads has exactly the choices of x that fit in the room.
     pub fitting_is : (j given : ℕ) (row read found fitting : List Choice) → j ≡ x → row ≡ get_or guide.rows.now j read → given ≡ room → found ≡ filter (fits given) row → fitting ≡ found → fitting ≡ filter (fits room) (get_or guide.rows.now x [])
     fitting_is j given row read found fitting same at limit is e =
         let row_is : row ≡ get_or guide.rows.now x [] = at ∙ get_or_default guide.rows.now j read [] (omega (arith, same, h.symbol, k.all)) ∙ ap (λ n. get_or guide.rows.now n []) same in
@@ -127,10 +127,13 @@ module _ (guide : Guide) where
   abbrev Comes : Writing → List ℕ → List Symbol → List ℕ → Type 0
   Comes old written pending s = Writes (plain_of guide.grammar.now) guide.seed guide.limit old.draws written pending s
 
+  -- Once no draws are left: with the nonterminal x pending first, the definition allows each sentence that it allows
+  -- after the least word u of x is written.
   pub treats_by_least : (x : ℕ) (old : Writing) (u v : List ℕ) → IsLeast (plain_of guide.grammar.now) (N x) u → max_draws ≤ old.draws → v ≡ old.written.items ++ u → (s : List ℕ)
       → Writes (plain_of guide.grammar.now) guide.seed guide.limit old.draws v (reverse old.pending.items) s → Writes (plain_of guide.grammar.now) guide.seed guide.limit old.draws old.written.items (N x ∷ reverse old.pending.items) s
   treats_by_least x old u v least spent written s w = random.Writes.least u spent least (subst (λ t. Comes old t (reverse old.pending.items) s) written w)
 
+  -- With the token z pending first, the definition allows each sentence that it allows after z is written.
   pub treats_by_token : (z : ℕ) (old : Writing) (v : List ℕ) → v ≡ old.written.items ++ z ∷ [] → (s : List ℕ)
       → Writes (plain_of guide.grammar.now) guide.seed guide.limit old.draws v (reverse old.pending.items) s → Writes (plain_of guide.grammar.now) guide.seed guide.limit old.draws old.written.items (T z ∷ reverse old.pending.items) s
   treats_by_token z old v written s w = random.Writes.token (subst (λ t. Comes old t (reverse old.pending.items) s) written w)

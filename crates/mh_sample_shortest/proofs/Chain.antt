@@ -29,7 +29,8 @@ within_over None q n left e l h = none-some n e
 within_over (Some u) None n left e l h = h
 within_over (Some u) (Some v) n left e l h = omega (arith, same_Some (length u) n e, h, l, length-append u v)
 
--- One step of a loop over symbols.
+-- The words of the symbols that are left fit exactly if the word of the next symbol fits, and the others fit in the
+-- room after it.
 module _ (words : List Word) (xs : List Symbol) (i : ℕ) (x : Symbol) (below : i < length xs) (at : x ≡ get_or xs i x) where
   here : chain words (drop i xs) ≡ joined (word_of words x) (chain words (drop (i + 1) xs))
   here = ap (chain words) (drop_step xs i x below at)

@@ -1,4 +1,5 @@
--- Lemmas on the invariants of the words: one word is set, or a production is closed already.
+-- Lemmas on the loop that improves the words of the nonterminals by each production: it sets an earlier word for the
+-- left side, or the production gives no earlier word (the production is closed).
 use Rattle.std.proofs.Common.{◌≡◌, ◌∙◌, ◌<◌, ◌≤◌, ℕ, inl, inr, true, false, List, Option, None, Some, length, refl, sym, ap, arith, get_or, set, get_or-set_other, get_or-set_same, subst}
 use Rattle.std.specs.Option.{option_map_or}
 use Rattle.std.proofs.lemmas.Bool.{cases_eq, cases_lt, eq-eqb, ne_eqb, ltb-false, both_ways}
@@ -58,9 +59,10 @@ closes_by_length words p (Some u) is h v at few = (
   ],
 )
 
--- A word within the limit for the present word has at most `max_word` tokens.
-pub within_few : (words : List (Option (List ℕ))) (g : PlainGrammar) (n : ℕ) (o : Option (List ℕ)) (w : List ℕ) → AreDerived g words → o ≡ Some w → IsWithin (option_map_or length (get_or words n None) max_word) o → length w ≤ max_word
-within_few words g n o w d e h = go (get_or words n None) refl (subst (IsWithin (option_map_or length (get_or words n None) max_word)) e h)
+-- A word has at most `max_word` tokens if it is no longer than the present word of the nonterminal or, where the
+-- nonterminal has no word, than `max_word`.
+pub within_max_word : (words : List (Option (List ℕ))) (g : PlainGrammar) (n : ℕ) (o : Option (List ℕ)) (w : List ℕ) → AreDerived g words → o ≡ Some w → IsWithin (option_map_or length (get_or words n None) max_word) o → length w ≤ max_word
+within_max_word words g n o w d e h = go (get_or words n None) refl (subst (IsWithin (option_map_or length (get_or words n None) max_word)) e h)
   where
     go : (present : Option (List ℕ)) → get_or words n None ≡ present → length w ≤ option_map_or length (get_or words n None) max_word → length w ≤ max_word
     go None is l = let m = l in (let k = rw is at m in k)

@@ -15,7 +15,7 @@ use Rattle.mh_sample_shortest.specs.Limits.{max_word}
 use Rattle.mh_sample_shortest.specs.Shortest.{IsShortest}
 use Rattle.mh_sample_shortest.specs.code.Chains.{answer_of, chain, comes_before, AreAnswers, AreClosed, AreDerived, Improves, IsWithin}
 use Rattle.mh_sample_shortest.proofs.RhsInRange.{tokens_below}
-use Rattle.mh_sample_shortest.proofs.Closes.{derived_set, within_few}
+use Rattle.mh_sample_shortest.proofs.Closes.{derived_set, within_max_word}
 use Rattle.mh_sample_shortest.proofs.IsLeast.{least_found, none_found, production_derived}
 use Rattle.mh_sample_shortest.proofs.Rank.{rank_lower, sum_lower}
 
@@ -28,7 +28,7 @@ module _ (g : PlainGrammar) (r : IsInRange g) (words : List (Option (List ℕ)))
     (below : p.lhs < length words) (is : chain words p.rhs ≡ Some w) (within : IsWithin (option_map_or length (get_or words p.lhs None) max_word) (chain words p.rhs))
     (before : comes_before w (get_or words p.lhs None) ≡ true) where
   few : AreDerived g words → length w ≤ max_word
-  few d = within_few words g p.lhs (chain words p.rhs) w d is within
+  few d = within_max_word words g p.lhs (chain words p.rhs) w d is within
 
   tokens : AreDerived g words → AllByRecursion (λ z. z < 2 ^ 16) w
   tokens d =

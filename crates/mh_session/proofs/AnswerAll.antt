@@ -10,7 +10,7 @@ use Rattle.mh_session.specs.SessionState.{SessionState}
 use Rattle.mh_engine.specs.Positions.{Position}
 use Rattle.mh_grammar.specs.Text.{Text}
 use Rattle.mh_session_branches.specs.Names.{at_name}
-use Rattle.mh_session_branches.specs.Answers.{Branches, Answer, IsAnswer, AreAnswers, branches_after_answer}
+use Rattle.mh_session_branches.specs.Answers.{Branches, Answer, IsAnswer, AreAnswers, AreBranchesAfterAnswer}
 use Rattle.mh_session.specs.Represents.{FitsBranch, Represents}
 use Rattle.mh_session.specs.Served.{IsServed, IsAnswerOfBranches}
 
@@ -40,17 +40,21 @@ answers_whole t commands i session so_far before le =
 pub record AnsweredFacts (old : SessionState) (command : Command) (new : SessionState) (r : Answer) (bs : Branches) : Type 0 where
   pub table_stays : new.table ≡ old.table
   pub answer_is : IsAnswer old.table bs command r
-  pub represented : Represents new (branches_after_answer r bs command)
+  pub after : Branches
+  pub after_is : AreBranchesAfterAnswer old.table r bs command after
+  pub represented : Represents new after
 
 refused_goes : (old new : SessionState) (command : Command) (f : SessionFault) (bs : Branches) → new ≡ old → IsAnswerOfBranches old command (Err f) → Represents old bs → AnsweredFacts old command new (Err f) bs
 refused_goes old new command f bs same theirs all = record {
   table_stays = ap (λ (m : SessionState). m.table) same;
   answer_is = theirs bs all;
+  after = bs;
+  after_is = refl;
   represented = subst (λ (m : SessionState). Represents m bs) (sym same) all;
 }
 
 pub answered_facts : (old new : SessionState) (command : Command) (r : Answer) (bs : Branches) → IsServed old command new r → (r ≡ Err faults.Memory → ⊥) → Represents old bs → AnsweredFacts old command new r bs
-answered_facts old new command (Ok reply) bs s free all = record { table_stays = s.0; answer_is = s.1 bs all; represented = s.2 bs all }
+answered_facts old new command (Ok reply) bs s free all = let next = s.2 bs all in record { table_stays = s.0; answer_is = s.1 bs all; after = next.0; after_is = next.1; represented = next.2 }
 answered_facts old new command (Err faults.UnknownName) bs s free all = refused_goes old new command faults.UnknownName bs s.0 s.1 all
 answered_facts old new command (Err faults.NameTaken) bs s free all = refused_goes old new command faults.NameTaken bs s.0 s.1 all
 answered_facts old new command (Err (faults.WrongPhase phase)) bs s free all = refused_goes old new command (faults.WrongPhase phase) bs s.0 s.1 all
@@ -62,12 +66,13 @@ pub answers_more : (t : TableData) (commands : List Command) (i : ℕ) (old new 
 answers_more t commands i old new so_far more command r before lt is s free e =
     let g = answered_facts old new command r before.branches s free before.represented in
     let theirs : IsAnswer t before.branches command r = subst (λ (u : TableData). IsAnswer u before.branches command r) before.table g.answer_is in
+    let changed : AreBranchesAfterAnswer t r before.branches command g.after = subst (λ (u : TableData). AreBranchesAfterAnswer u r before.branches command g.after) before.table g.after_is in
     let left : drop i commands ≡ command ∷ drop (i + 1) commands = drop_more commands i command lt ∙ ap (λ (c : Command). c ∷ drop (i + 1) commands) (sym is) in
     record {
-      branches = branches_after_answer r before.branches command;
+      branches = g.after;
       represented = g.represented;
       table = g.table_stays ∙ before.table;
       rest = λ last h.
-          let all = before.rest (r ∷ last) (subst (λ (l : List Command). AreAnswers t before.branches l (r ∷ last)) (sym left) (theirs, h)) in
+          let all = before.rest (r ∷ last) (subst (λ (l : List Command). AreAnswers t before.branches l (r ∷ last)) (sym left) (theirs, (g.after, changed, h))) in
           subst (AreAnswers t [] commands) (sym (ap (λ (l : List Answer). l ++ last) e ∙ append_assoc so_far (r ∷ []) last)) all;
     }

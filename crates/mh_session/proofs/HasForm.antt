@@ -10,8 +10,8 @@ use Rattle.mh_session_branches.specs.declared.fault.CommandFault.{CommandFault}
 use Rattle.mh_session_branches.specs.declared.fault.CommandFault.TheVariants as faults
 use Rattle.mh_grammar.specs.Text.{Text}
 use Rattle.mh_session_branches.specs.Names.{same}
-use Rattle.mh_session_branches.specs.LineForms.{Form, BeginOnly, BeginAt, OfferTo, ResumeOf, ForkTo, ShowOf, TreeOf, ExpectedOf, ForgetOf, words_of, HasForm, meaning_of_form, ReadsCommand}
-use Rattle.mh_session_branches.specs.FormOfLine.{form_with_one_name, form_with_two_names, form_of_words, form_of}
+use Rattle.mh_session_branches.specs.LineForms.{Form, BeginOnly, BeginAt, OfferTo, FeedTo, ResumeOf, ForkTo, ShowOf, StackOf, TreeOf, ExpectedOf, ForgetOf, words_of, HasForm, meaning_of_form, ReadsCommand}
+use Rattle.mh_session_branches.specs.FormOfLine.{form_with_one_name, form_with_two_names, form_with_more_names, form_of_words, form_of}
 use Rattle.mh_session_branches.proofs.OneForm.{form_found}
 use Rattle.mh_session.specs.code.Forms.{IsResultOfMeaning}
 use Rattle.mh_grammar.proofs.TextEquality.{equal_from_same}
@@ -29,11 +29,13 @@ one_words verb name form =
     pick verb (codes "begin") (BeginOnly name) form (name ∷ []) _ refl
     (pick verb (codes "resume") (ResumeOf name) form (name ∷ []) _ refl
     (pick verb (codes "show") (ShowOf name) form (name ∷ []) _ refl
+    (pick verb (codes "stack") (StackOf name) form (name ∷ []) _ refl
     (pick verb (codes "tree") (TreeOf name) form (name ∷ []) _ refl
     (pick verb (codes "expected") (ExpectedOf name) form (name ∷ []) _ refl
     (pick verb (codes "forget") (ForgetOf name) form (name ∷ []) None refl (λ h. cc) (same verb (codes "forget")) refl)
     (same verb (codes "expected")) refl)
     (same verb (codes "tree")) refl)
+    (same verb (codes "stack")) refl)
     (same verb (codes "show")) refl)
     (same verb (codes "resume")) refl)
     (same verb (codes "begin")) refl
@@ -43,16 +45,22 @@ unfolding form_with_two_names
 two_words verb name other form =
     pick verb (codes "begin") (BeginAt name other) form (name ∷ other ∷ []) _ refl
     (pick verb (codes "offer") (OfferTo name other) form (name ∷ other ∷ []) _ refl
+    (pick verb (codes "feed") (FeedTo name other []) form (name ∷ other ∷ []) _ refl
     (pick verb (codes "fork") (ForkTo name other) form (name ∷ other ∷ []) None refl (λ h. cc) (same verb (codes "fork")) refl)
+    (same verb (codes "feed")) refl)
     (same verb (codes "offer")) refl)
     (same verb (codes "begin")) refl
+
+more_words : (verb name first : Text) (more : List Text) (form : Form) → form_with_more_names verb name first more ≡ Some form → verb ∷ name ∷ first ∷ more ≡ words_of form
+unfolding form_with_more_names
+more_words verb name first more form = pick verb (codes "feed") (FeedTo name first more) form (name ∷ first ∷ more) None refl (λ h. cc) (same verb (codes "feed")) refl
 
 all_words : (words : List Text) (form : Form) → form_of_words words ≡ Some form → words ≡ words_of form
 all_words [] form e = cc
 all_words (verb ∷ []) form e = cc
 all_words (verb ∷ name ∷ []) form e = one_words verb name form e
 all_words (verb ∷ name ∷ other ∷ []) form e = two_words verb name other form e
-all_words (verb ∷ name ∷ other ∷ more ∷ words) form e = cc
+all_words (verb ∷ name ∷ first ∷ second ∷ words) form e = more_words verb name first (second ∷ words) form e
 
 by_all : (b : Bool) (words : List Text) (form : Form) → (if b then form_of_words words else None) ≡ Some form → (b ≡ true) × (words ≡ words_of form)
 by_all true words form e = (refl, all_words words form e)

@@ -9,7 +9,7 @@ use Rattle.mh_session_branches.specs.declared.command.Command.{Command}
 use Rattle.mh_session_branches.specs.declared.reply.SessionFault.TheVariants as faults
 use Rattle.mh_grammar.specs.Text.{Text}
 use Rattle.mh_session.specs.SessionState.{SessionState}
-use Rattle.mh_session_branches.specs.Answers.{Branches, Answer, branches_after_command, branches_after_answer}
+use Rattle.mh_session_branches.specs.Answers.{Branches, Answer}
 use Rattle.mh_session.specs.Represents.{Represents}
 use Rattle.mh_session.specs.Served.{IsServed}
 use Rattle.mh_session_branches.specs.declared.fault.CommandFault.{CommandFault}
@@ -23,7 +23,7 @@ use Rattle.mh_session.specs.code.AnswerTexts.{IsCommandFaultText, IsAnswerText}
 
 -- After a command the session represents some branches.
 served_some : (old new : SessionState) (command : Command) (r : Answer) (bs : Branches) → IsServed old command new r → Represents old bs → (after : Branches) × Represents new after
-served_some old new command (Ok reply) bs s all = (branches_after_command bs command, s.2 bs all)
+served_some old new command (Ok reply) bs s all = let next = s.2 bs all in (next.0, next.2)
 served_some old new command (Err faults.UnknownName) bs s all = (bs, subst (λ (m : SessionState). Represents m bs) (sym s.0) all)
 served_some old new command (Err faults.NameTaken) bs s all = (bs, subst (λ (m : SessionState). Represents m bs) (sym s.0) all)
 served_some old new command (Err (faults.WrongPhase phase)) bs s all = (bs, subst (λ (m : SessionState). Represents m bs) (sym s.0) all)
@@ -31,7 +31,7 @@ served_some old new command (Err faults.TooDeep) bs s all = (bs, subst (λ (m : 
 served_some old new command (Err faults.Memory) bs s all = (bs, subst (λ (m : SessionState). Represents m bs) (sym s) all)
 
 pub meaning_answered : (g : Grammar) (old new : SessionState) (command : Command) (r : Answer) (text : Result (Vec ℕ Global) Memory) → IsServed old command new r → IfOk text (λ v. IsAnswerText g (replied_name command) r v.items) → IsMeaningAnswered g (Asks command) old new text
-meaning_answered g old new command r (Ok v) s answered = λ bs all. let w = answered_facts old new command r bs s answered.1 all in (branches_after_answer r bs command, w.represented, (r, w.answer_is, answered.0, refl))
+meaning_answered g old new command r (Ok v) s answered = λ bs all. let w = answered_facts old new command r bs s answered.1 all in (w.after, w.represented, (r, w.answer_is, answered.0, w.after_is))
 meaning_answered g old new command r (Err e) s answered = λ bs all. let after = served_some old new command r bs s all in (after.0, after.1, tt)
 
 -- The answer to the meaning of a line is the answer to the line.

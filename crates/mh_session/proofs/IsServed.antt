@@ -1,13 +1,17 @@
 -- Proves for each command that the session's answer is the one computed from the histories of the branches.
-use Rattle.std.proofs.Common.{◌≡◌, ℕ, suc, Bool, true, false, cond, List, [], ◌∷◌, Option, Some, None, Bor, Result, Ok, Err, refl, sym, ap, subst, ◌∙◌}
+use Rattle.std.proofs.Common.{◌≡◌, ℕ, suc, Bool, true, false, cond, List, [], ◌∷◌, Option, Some, None, Bor, Result, Ok, Err, refl, sym, ap, subst, ◌∙◌, inl, inr}
 use Rattle.std.specs.Prelude.{IfOk, IfErr, OnOk, OnErr, is_some}
 use Rattle.std.specs.Option.{option_copied}
+use Rattle.mh_grammar.specs.declared.types.Symbol.{Symbol}
 use Rattle.mh_tables_core.specs.Table.{TableData}
 use Rattle.mh_engine.specs.Positions.{Position}
 use Rattle.mh_tables_core.specs.TooDeep.{too_deep}
 use Rattle.mh_engine.specs.Phases.{phase_of, CanOffer, CanResume}
 use Rattle.mh_engine.specs.Steps.{initial_position, offered, resumed}
 use Rattle.mh_engine.specs.Branches.{Branch, HasPosition, position_of, new_branch, with_token, with_step}
+use Rattle.mh_engine.specs.Feeding.{IsFed, IsFedTooDeep}
+use Rattle.mh_engine.specs.StackSymbols.{stack_symbols}
+use Rattle.mh_engine.specs.code.FedTokens.{FeedsTo}
 use Rattle.mh_engine.specs.declared.checkpoint.Checkpoint.{Checkpoint}
 use Rattle.mh_engine.specs.declared.phase.Phase.{Phase}
 use Rattle.mh_engine.specs.declared.phase.Phase.TheVariants as phases
@@ -23,7 +27,7 @@ use Rattle.mh_session_branches.specs.declared.reply.SessionFault.TheVariants as 
 use Rattle.mh_grammar.specs.Text.{Text}
 use Rattle.mh_session_branches.specs.Names.{at_name, without_name, with_name}
 use Rattle.mh_session.specs.SessionState.{SessionState}
-use Rattle.mh_session_branches.specs.Answers.{Branches, Answer, IsAnswer, ListsExpected, IsAnswerIfHeld, branches_after_command, phase_at, phase_answer, if_name_held, if_name_free, answer_to_offer, answer_to_resume, step_or_deep, with_changed_branch}
+use Rattle.mh_session_branches.specs.Answers.{Branches, Answer, IsAnswer, AnswersFeed, ListsExpected, IsAnswerIfHeld, AreBranchesFed, AreBranchesAfter, phase_at, phase_answer, if_name_held, if_name_free, answer_to_offer, answer_to_resume, step_or_deep, with_changed_branch}
 use Rattle.mh_session.specs.Represents.{FitsBranch, Represents}
 use Rattle.mh_session.specs.code.ChangesName.{ChangesName, HaveTable}
 use Rattle.mh_session.specs.Served.{IsServed, IsAnswerOfBranches}
@@ -46,14 +50,14 @@ pub record GivesPosition (old : SessionState) (command : Command) (name : Text) 
   pub branch : Branch
   pub has_position : HasPosition branch c
   pub answer_is : IsAnswer old.table bs command (Ok (replies.Phase (phase_of c)))
-  pub change : branches_after_command bs command ≡ with_name name branch bs
+  pub change : AreBranchesAfter old.table bs command (with_name name branch bs)
 
 put_case : (old new : SessionState) (command : Command) (name : Text) (c : Position) (r : Answer) → ((bs : Branches) → Represents old bs → GivesPosition old command name c bs) → c.table ≡ old.table → IfOk r (λ x. x ≡ replies.Phase (phase_of c)) → IfErr r (λ f. f ≡ faults.Memory)
     → OnOk r (ChangesName old name (Some c) new) → OnErr r (new ≡ old) → IsServed old command new r
 put_case old new command name c (Ok reply) gives is reply_is fault put same = (
   put.table,
   λ bs all. let g = gives bs all in subst (λ (x : Reply). IsAnswer old.table bs command (Ok x)) (sym reply_is) g.answer_is,
-  λ bs all. let g = gives bs all in subst (Represents new) (sym g.change) (puts_fit old new bs name g.branch c all put g.has_position is),
+  λ bs all. let g = gives bs all in (with_name name g.branch bs, g.change, puts_fit old new bs name g.branch c all put g.has_position is),
 )
 put_case old new command name c (Err fault) gives is reply_is f put same = subst (λ (x : SessionFault). IsServed old command new (Err x)) (sym f) same
 
@@ -91,7 +95,7 @@ offer_served old new name z s c d r has of asks is did =
       answer_is =
           ap (λ (o : Option Branch). if_name_held o (λ b. answer_to_offer old.table b z (phase_at old.table b))) f.1 ∙ ap (answer_to_offer old.table b z) (phase_is old.table b c f.2 of ∙ asks)
           ∙ ap (λ (p : Phase). Ok (replies.Phase p)) (phase_is old.table (with_token b z) d at table_is);
-      change = ap (λ (o : Option Branch). with_changed_branch name o (λ b. with_token b z) bs) f.1;
+      change = sym (ap (λ (o : Option Branch). with_changed_branch name o (λ b. with_token b z) bs) f.1);
     }) (ap (λ (p : Position). p.table) is ∙ of) did
 
 going_on : (t : TableData) (b : Branch) (p : Phase) → CanResume p → answer_to_resume t b p ≡ step_or_deep t (with_step b)
@@ -124,7 +128,7 @@ resume_served old new name c d r has of g is fits did =
       answer_is =
           resume_theirs old bs name b c f.1 f.2 of g ∙ ap (λ (x : Bool). cond x (Err faults.TooDeep) (Ok (replies.Phase (phase_of (resumed c))))) fits
           ∙ ap (λ (p : Position). Ok (replies.Phase (phase_of p))) (sym is);
-      change = ap (λ (o : Option Branch). with_changed_branch name o with_step bs) f.1;
+      change = sym (ap (λ (o : Option Branch). with_changed_branch name o with_step bs) f.1);
     }) (resumed_of c d old.table is of) did
 
 pub deep_served : (old : SessionState) (name : Text) (c : Position) → at_name name old.held ≡ Some c → c.table ≡ old.table → CanResume (phase_of c) → too_deep (resumed c).pairs.trees ≡ true → (bs : Branches) → Represents old bs → IsAnswer old.table bs (commands.Resume name) (Err faults.TooDeep)
@@ -144,14 +148,14 @@ fork_served old new name fresh c d r has of free is did =
       answer_is =
           ap (λ (o : Option Branch). if_name_held o (λ b. if_name_free (at_name fresh bs) (phase_answer old.table b))) f.1 ∙ ap (λ (o : Option Branch). if_name_free o (phase_answer old.table b)) (free_name_has_no_branch old bs fresh all free)
           ∙ ap (λ (p : Phase). Ok (replies.Phase p)) (phase_is old.table b c f.2 of ∙ ap phase_of (sym is));
-      change = ap (λ (o : Option Branch). with_changed_branch fresh o (λ b. b) bs) f.1;
+      change = sym (ap (λ (o : Option Branch). with_changed_branch fresh o (λ b. b) bs) f.1);
     }) (ap (λ (p : Position). p.table) is ∙ of) did
 
 pub forget_served : (old new : SessionState) (name : Text) (c : Position) → at_name name old.held ≡ Some c → ChangesName old name None new → IsServed old (commands.Forget name) new (Ok replies.Forgotten)
 forget_served old new name c has put = (
   put.table,
   λ bs all. let f = held_name_has_branch old bs name c all has in ap (λ (o : Option Branch). if_name_held o (λ b. Ok replies.Forgotten)) f.1,
-  λ bs all. removal_fits old new bs name all put,
+  λ bs all. (without_name name bs, refl, removal_fits old new bs name all put),
 )
 
 -- The answer to `expected` for a name that has a branch.
@@ -166,7 +170,86 @@ pub expected_served : (old : SessionState) (name : Text) (s : ℕ) (c : Position
 expected_served old name s c list has of asks lists = (
   refl,
   λ bs all. expected_of_held old bs name c (Ok (replies.Expected list)) all has of (λ b at. subst (λ (p : Phase). ListsExpected old.table b p (Ok (replies.Expected list))) (sym asks) (list, lists b at, refl)),
-  λ bs all. all,
+  λ bs all. (bs, refl, all),
+)
+
+-- Commands that are answered by a relation of the branch and the answer.
+module _ (old : SessionState) (command : Command) (name : Text) (Is : Branch → Phase → Answer → Type 0) (by : (bs : Branches) (a : Answer) → IsAnswerIfHeld (at_name name bs) (λ b. Is b (phase_at old.table b)) a → IsAnswer old.table bs command a) where
+  unknown_answered : at_name name old.held ≡ None → IsAnswerOfBranches old command (Err faults.UnknownName)
+  unknown_answered none = λ bs all. by bs (Err faults.UnknownName) (subst (λ (o : Option Branch). IsAnswerIfHeld o (λ b. Is b (phase_at old.table b)) (Err faults.UnknownName)) (sym (free_name_has_no_branch old bs name all none)) refl)
+
+  answered_at : (c : Position) (a : Answer) → at_name name old.held ≡ Some c → c.table ≡ old.table → ((b : Branch) → HasPosition b c → Is b (phase_of c) a) → IsAnswerOfBranches old command a
+  answered_at c a has of each = λ bs all.
+      let f = held_name_has_branch old bs name c all has in
+      by bs a (subst (λ (o : Option Branch). IsAnswerIfHeld o (λ b. Is b (phase_at old.table b)) a) (sym f.1) (subst (λ (p : Phase). Is f.0 p a) (sym (phase_is old.table f.0 c f.2 of)) (each f.0 f.2)))
+
+-- ---- Feeding.
+
+wrong_feed : (t : TableData) (b : Branch) (tokens : List ℕ) (p : Phase) → ((s : ℕ) → p ≡ phases.InputNeeded s → ⊥) → AnswersFeed t b tokens p (Err (faults.WrongPhase p))
+wrong_feed t b tokens (phases.InputNeeded s) none = absurd (none s refl)
+wrong_feed t b tokens (phases.Shifting s z) none = refl
+wrong_feed t b tokens (phases.AboutToReduce s p) none = refl
+wrong_feed t b tokens (phases.HandlingError s) none = refl
+wrong_feed t b tokens phases.Accepted none = refl
+wrong_feed t b tokens phases.Rejected none = refl
+
+module _ (old : SessionState) (name : Text) (tokens : List ℕ) where
+  pub unknown_feed_served : at_name name old.held ≡ None → IsAnswerOfBranches old (commands.Feed name tokens) (Err faults.UnknownName)
+  unknown_feed_served = unknown_answered old (commands.Feed name tokens) name (λ b p a. AnswersFeed old.table b tokens p a) (λ bs a h. h)
+
+  module _ (c : Position) (has : at_name name old.held ≡ Some c) (of : c.table ≡ old.table) where
+    feed_answered : (a : Answer) → ((b : Branch) → HasPosition b c → AnswersFeed old.table b tokens (phase_of c) a) → IsAnswerOfBranches old (commands.Feed name tokens) a
+    feed_answered a each = answered_at old (commands.Feed name tokens) name (λ b p r. AnswersFeed old.table b tokens p r) (λ bs r h. h) c a has of each
+
+    pub wrong_feed_served : (p : Phase) → p ≡ phase_of c → ((s : ℕ) → p ≡ phases.InputNeeded s → ⊥) → IsAnswerOfBranches old (commands.Feed name tokens) (Err (faults.WrongPhase p))
+    wrong_feed_served p is none = feed_answered (Err (faults.WrongPhase p)) (λ b at. subst (λ (q : Phase). AnswersFeed old.table b tokens q (Err (faults.WrongPhase p))) is (wrong_feed old.table b tokens p none))
+
+    module _ (s : ℕ) (asks : phase_of c ≡ phases.InputNeeded s) where
+      asked : (b : Branch) (a : Answer) → AnswersFeed old.table b tokens (phases.InputNeeded s) a → AnswersFeed old.table b tokens (phase_of c) a
+      asked b a h = subst (λ (p : Phase). AnswersFeed old.table b tokens p a) (sym asks) h
+
+      pub deep_feed_served : ((b : Branch) → HasPosition b c → IsFedTooDeep c.table b tokens) → IsAnswerOfBranches old (commands.Feed name tokens) (Err faults.TooDeep)
+      deep_feed_served deep = feed_answered (Err faults.TooDeep) (λ b at. asked b (Err faults.TooDeep) (inr (subst (λ (t : TableData). IsFedTooDeep t b tokens) of (deep b at), refl)))
+
+      -- Feeding leads from each branch with the position c to a branch with the position d.
+      module _ (d : Position) (shifted : ℕ) (feeds : FeedsTo c tokens d shifted) (is : d.table ≡ c.table) where
+        fed_branch : (b : Branch) → HasPosition b c → (next : Branch) × HasPosition next d × IsFed old.table b tokens next shifted
+        fed_branch b at = let f = feeds b at in (f.0, f.1, subst (λ (t : TableData). IsFed t b tokens f.0 shifted) of f.2)
+
+        phase_after : (next : Branch) → HasPosition next d → phase_at old.table next ≡ phase_of d
+        phase_after next at = phase_is old.table next d at (is ∙ of)
+
+        fed_answer : IsAnswerOfBranches old (commands.Feed name tokens) (Ok (replies.Fed shifted (phase_of d)))
+        fed_answer = feed_answered (Ok (replies.Fed shifted (phase_of d)))
+            (λ b at. let f = fed_branch b at in asked b (Ok (replies.Fed shifted (phase_of d))) (inl (f.0, shifted, f.2, ap (λ (p : Phase). Ok (replies.Fed shifted p)) (phase_after f.0 f.1))))
+
+        fed_branches : (new : SessionState) → ChangesName old name (Some d) new → (bs : Branches) → Represents old bs → (after : Branches) × AreBranchesAfter old.table bs (commands.Feed name tokens) after × Represents new after
+        fed_branches new put bs all =
+            let held = held_name_has_branch old bs name c all has in
+            let f = fed_branch held.0 held.2 in (
+              with_name name f.0 bs,
+              subst (λ (o : Option Branch). AreBranchesFed old.table name o tokens bs (with_name name f.0 bs)) (sym held.1) (f.0, shifted, f.2, refl),
+              puts_fit old new bs name f.0 d all put f.1 (is ∙ of),
+            )
+
+        pub feed_served : (new : SessionState) (r : Answer) → IfOk r (λ x. x ≡ replies.Fed shifted (phase_of d)) → IfErr r (λ f. f ≡ faults.Memory) → OnOk r (ChangesName old name (Some d) new) → OnErr r (new ≡ old) → IsServed old (commands.Feed name tokens) new r
+        feed_served new (Ok reply) reply_is fault put same = (
+          put.table,
+          subst (λ (x : Reply). IsAnswerOfBranches old (commands.Feed name tokens) (Ok x)) (sym reply_is) fed_answer,
+          fed_branches new put,
+        )
+        feed_served new (Err fault) reply_is f put same = subst (λ (x : SessionFault). IsServed old (commands.Feed name tokens) new (Err x)) (sym f) same
+
+-- ---- The stack.
+
+pub stack_served : (old : SessionState) (name : Text) (c : Position) (symbols : List Symbol) → at_name name old.held ≡ Some c → c.table ≡ old.table → symbols ≡ stack_symbols c → IsServed old (commands.Stack name) old (Ok (replies.Stack symbols))
+stack_served old name c symbols has of is = (
+  refl,
+  λ bs all.
+      let f = held_name_has_branch old bs name c all has in
+      ap (λ (o : Option Branch). if_name_held o (λ b. Ok (replies.Stack (stack_symbols (position_of old.table b))))) f.1 ∙ ap (λ (p : Position). Ok (replies.Stack (stack_symbols p))) (position_is old.table f.0 c f.2 of)
+      ∙ ap (λ (l : List Symbol). Ok (replies.Stack l)) (sym is),
+  λ bs all. (bs, refl, all),
 )
 
 wrong_lists : (t : TableData) (b : Branch) (p : Phase) → ((s : ℕ) → p ≡ phases.InputNeeded s → ⊥) → ListsExpected t b p (Err (faults.WrongPhase p))

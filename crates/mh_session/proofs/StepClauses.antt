@@ -5,7 +5,7 @@ use Rattle.mh_session_branches.specs.declared.command.Command.{Command}
 use Rattle.mh_session_branches.specs.declared.reply.SessionFault.{SessionFault}
 use Rattle.mh_session_branches.specs.declared.reply.SessionFault.TheVariants as faults
 use Rattle.mh_session.specs.SessionState.{SessionState}
-use Rattle.mh_session_branches.specs.Answers.{Branches, Answer, IsAnswer, branches_after_command}
+use Rattle.mh_session_branches.specs.Answers.{Branches, Answer, IsAnswer, AreBranchesAfter}
 use Rattle.mh_session.specs.Represents.{Represents}
 use Rattle.mh_session.specs.Served.{IsServed, IsRefusedWith, IsAnswerOfBranches}
 
@@ -28,7 +28,7 @@ module _ (old new : SessionState) (command : Command) where
   served_reply (Ok reply) s = s.1
   served_reply (Err fault) s = tt
 
-  pub served_next : (r : Answer) → IsServed old command new r → OnOk r ((bs : Branches) → Represents old bs → Represents new (branches_after_command bs command))
+  pub served_next : (r : Answer) → IsServed old command new r → OnOk r ((bs : Branches) → Represents old bs → (after : Branches) × AreBranchesAfter old.table bs command after × Represents new after)
   served_next (Ok reply) s = s.2
   served_next (Err fault) s = tt
 

@@ -5,7 +5,7 @@ use Rattle.mh_session_branches.specs.declared.command.Command.{Command}
 use Rattle.mh_session_branches.specs.declared.reply.SessionFault.{SessionFault}
 use Rattle.mh_session_branches.specs.declared.reply.SessionFault.TheVariants as faults
 use Rattle.mh_session.specs.SessionState.{SessionState}
-use Rattle.mh_session_branches.specs.Answers.{Answer, Branches, IsAnswer, branches_after_command}
+use Rattle.mh_session_branches.specs.Answers.{Answer, Branches, IsAnswer, AreBranchesAfter}
 use Rattle.mh_session.specs.Represents.{Represents}
 
 -- For all branches that the session represents, this is the answer to the command.
@@ -22,5 +22,5 @@ IsRefusedWith old command new faults.TooDeep = (new ≡ old) × IsAnswerOfBranch
 IsRefusedWith old command new faults.Memory = new ≡ old
 
 abbrev pub IsServed : SessionState → Command → SessionState → Answer → Type 0
-IsServed old command new (Ok reply) = (new.table ≡ old.table) × IsAnswerOfBranches old command (Ok reply) × ((bs : Branches) → Represents old bs → Represents new (branches_after_command bs command))
+IsServed old command new (Ok reply) = (new.table ≡ old.table) × IsAnswerOfBranches old command (Ok reply) × ((bs : Branches) → Represents old bs → (after : Branches) × AreBranchesAfter old.table bs command after × Represents new after)
 IsServed old command new (Err fault) = IsRefusedWith old command new fault

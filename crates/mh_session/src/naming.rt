@@ -11,9 +11,11 @@ pub(crate) fn replying(command: &Command) -> &[u8]
     match command {
         Command::Begin { name, .. } => name.as_slice(),
         Command::Offer { name, .. } => name.as_slice(),
+        Command::Feed { name, .. } => name.as_slice(),
         Command::Resume { name } => name.as_slice(),
         Command::Fork { fresh, .. } => fresh.as_slice(),
         Command::Show { name } => name.as_slice(),
+        Command::Stack { name } => name.as_slice(),
         Command::Tree { name } => name.as_slice(),
         Command::Expected { name } => name.as_slice(),
         Command::Forget { name } => name.as_slice(),

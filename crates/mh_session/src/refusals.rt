@@ -16,8 +16,8 @@ fn error_on(alloc: Global, words: &[u8], name: &[u8]) -> Result<Vec<u8>, Memory>
     Ok(text)
 }
 
-/// The text that answers a line that is no command. Fails only if memory runs out, or if the fault is that memory ran
-/// out.
+/// The text that answers a line with the given fault. Fails if memory runs out, or if the given fault is `Memory`,
+/// which has no text.
 pub(crate) fn command_refusal(alloc: Global, fault: &CommandFault) -> Result<Vec<u8>, Memory>
     ensures { IfOk result (λ text. IsCommandFaultText fault.now text.items) }
 {

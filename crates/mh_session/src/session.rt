@@ -1,19 +1,19 @@
 //! Sessions: named checkpoints of one table.
-ghost use Rattle.std.specs.Prelude.{◌≡◌, ◌↔◌, ◌<◌, IsTrue, [], length, IfOk, IfErr, IfSome, OnOk, OnErr, Some, Ok, Err, ◌⊎◌};
+ghost use Rattle.std.specs.Prelude.{◌≡◌, ◌↔◌, ◌<◌, All, IsTrue, [], length, IfOk, IfErr, IfSome, OnOk, OnErr, Some, Ok, Err, ◌⊎◌};
 ghost use Rattle.std.specs.Option.{option_copied};
 ghost use Rattle.mh_engine.specs.Phases.{phase_of, CanResume};
 ghost use Rattle.mh_session_branches.specs.declared.reply.Reply.TheVariants as replies;
 ghost use Rattle.mh_session_branches.specs.declared.reply.SessionFault.TheVariants as faults;
 ghost use Rattle.mh_session_branches.specs.Names.{at_name};
 ghost use Rattle.mh_session.specs.code.ChangesName.{ChangesName};
-ghost use Rattle.mh_session_branches.specs.Answers.{IsCommandOf, Branches, IsAnswer, branches_after_command};
+ghost use Rattle.mh_session_branches.specs.Answers.{IsCommandOf, Branches, IsAnswer, AreBranchesAfter};
 ghost use Rattle.mh_session.specs.Represents.{Represents};
 ghost use Rattle.mh_session.specs.Served.{IsServed};
 ghost use Rattle.mh_session_branches.specs.declared.command.Command.TheVariants as commands;
 
-use mh_engine::{Checkpoint, Phase, ResumeFault, begin};
+use mh_engine::{Checkpoint, Fed, Phase, ResumeFault, begin};
 use mh_expected::expected_at;
-use mh_grammar::{Name, Token};
+use mh_grammar::{Name, Sequence, Token};
 use mh_session_branches::{Command, Reply, SessionFault};
 use mh_tables_core::Halting;
 use std::alloc::Global;
@@ -57,6 +57,24 @@ impl<'t> Session<'t> {
         }
     }
 
+    /// Gives a name a checkpoint, and returns the phase of the checkpoint.
+    fn put_checkpoint(
+        &mut self,
+        name: &Name,
+        checkpoint: Checkpoint<'t>,
+    ) -> Result<Phase, SessionFault>
+        requires { checkpoint.table ≡ self.old.table }
+        ensures phase { IfOk result (λ phase. phase ≡ phase_of checkpoint.entry) }
+        ensures fault { IfErr result (λ f. f ≡ faults.Memory) }
+        ensures put { OnOk result (ChangesName self.old name.now (Some checkpoint.entry) self.new) }
+        ensures same { OnErr result (self.new ≡ self.old) }
+    {
+        let phase = checkpoint.phase();
+        let name = name.clone()?;
+        self.branches.insert(name, checkpoint)?;
+        Ok(phase)
+    }
+
     /// Gives a name a checkpoint, and replies with the phase of the checkpoint.
     fn put(&mut self, name: &Name, checkpoint: Checkpoint<'t>) -> Result<Reply, SessionFault>
         requires { checkpoint.table ≡ self.old.table }
@@ -65,10 +83,10 @@ impl<'t> Session<'t> {
         ensures put { OnOk result (ChangesName self.old name.now (Some checkpoint.entry) self.new) }
         ensures same { OnErr result (self.new ≡ self.old) }
     {
-        let phase = checkpoint.phase();
-        let name = name.clone()?;
-        self.branches.insert(name, checkpoint)?;
-        Ok(Reply::Phase(phase))
+        match self.put_checkpoint(name, checkpoint) {
+            Ok(phase) => Ok(Reply::Phase(phase)),
+            Err(fault) => Err(fault),
+        }
     }
 
     /// The checkpoint of a name, if the session has the name.
@@ -84,7 +102,7 @@ impl<'t> Session<'t> {
         requires { IsCommandOf self.old.table command.now }
         ensures served { IsServed self.old command.now self.new result }
         ensures reply { IfOk result (λ r. (bs : Branches) → Represents self.old bs → IsAnswer self.old.table bs command.now (Ok r)) }
-        ensures next { OnOk result ((bs : Branches) → Represents self.old bs → Represents self.new (branches_after_command bs command.now)) }
+        ensures next { OnOk result ((bs : Branches) → Represents self.old bs → (after : Branches) × AreBranchesAfter self.old.table bs command.now after × Represents self.new after) }
         ensures same { OnErr result (self.new ≡ self.old) }
         ensures fault { IfErr result (λ f. (f ≡ faults.Memory) ⊎ ((bs : Branches) → Represents self.old bs → IsAnswer self.old.table bs command.now (Err f))) }
         ensures table { self.new.table ≡ self.old.table }
@@ -100,9 +118,11 @@ impl<'t> Session<'t> {
         match command {
             Command::Begin { name, start } => self.begin(name, *start),
             Command::Offer { name, token } => self.offer(name, *token),
+            Command::Feed { name, tokens } => self.feed(name, tokens.as_slice()),
             Command::Resume { name } => self.resume(name),
             Command::Fork { name, fresh } => self.fork(name, fresh),
             Command::Show { name } => self.show(name),
+            Command::Stack { name } => self.stack(name),
             Command::Tree { name } => self.tree(name),
             Command::Expected { name } => self.expected(name),
             Command::Forget { name } => self.forget(name),
@@ -133,6 +153,48 @@ impl<'t> Session<'t> {
         };
         let offered = checkpoint.offer(token)?;
         self.put(name, offered)
+    }
+
+    fn feed(&mut self, name: &Name, tokens: &[Token]) -> Result<Reply, SessionFault>
+        requires { All (λ z. z < self.old.table.grammar.tokens) tokens.now }
+        ensures { IsServed self.old (commands.Feed name.now tokens.now) self.new result }
+    {
+        let Some(checkpoint) = self.find(name) else {
+            return Err(SessionFault::UnknownName);
+        };
+        let phase = checkpoint.phase();
+        let Phase::InputNeeded { state: _ } = phase else {
+            return Err(SessionFault::WrongPhase { phase });
+        };
+        let Fed {
+            checkpoint: end,
+            shifted,
+        } = match checkpoint.feed(self.alloc, tokens) {
+            Ok(fed) => fed,
+            Err(ResumeFault::TooDeep) => return Err(SessionFault::TooDeep),
+            Err(ResumeFault::Memory) => return Err(SessionFault::Memory),
+        };
+        self.put_fed(name, end, shifted)
+    }
+
+    /// Gives a name the checkpoint at which feeding ended, and replies with the number of tokens that were shifted, and
+    /// with the phase of the checkpoint.
+    fn put_fed(
+        &mut self,
+        name: &Name,
+        checkpoint: Checkpoint<'t>,
+        shifted: usize,
+    ) -> Result<Reply, SessionFault>
+        requires { checkpoint.table ≡ self.old.table }
+        ensures reply { IfOk result (λ r. r ≡ replies.Fed shifted (phase_of checkpoint.entry)) }
+        ensures fault { IfErr result (λ f. f ≡ faults.Memory) }
+        ensures put { OnOk result (ChangesName self.old name.now (Some checkpoint.entry) self.new) }
+        ensures same { OnErr result (self.new ≡ self.old) }
+    {
+        match self.put_checkpoint(name, checkpoint) {
+            Ok(phase) => Ok(Reply::Fed { shifted, phase }),
+            Err(fault) => Err(fault),
+        }
     }
 
     fn resume(&mut self, name: &Name) -> Result<Reply, SessionFault>
@@ -173,6 +235,16 @@ impl<'t> Session<'t> {
             None => Err(SessionFault::UnknownName),
             Some(checkpoint) => Ok(Reply::Phase(checkpoint.phase())),
         }
+    }
+
+    fn stack(&mut self, name: &Name) -> Result<Reply, SessionFault>
+        ensures { IsServed self.old (commands.Stack name.now) self.new result }
+    {
+        let Some(checkpoint) = self.find(name) else {
+            return Err(SessionFault::UnknownName);
+        };
+        let symbols = checkpoint.symbols(self.alloc)?;
+        Ok(Reply::Stack(Sequence::from_vec(symbols)))
     }
 
     fn tree(&mut self, name: &Name) -> Result<Reply, SessionFault>

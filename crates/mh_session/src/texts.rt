@@ -1,12 +1,12 @@
 //! The texts of replies and faults. Each `write_` function appends to a text.
-ghost use Rattle.std.specs.Prelude.{◌≡◌, ◌++◌, IfOk, OnOk, codes};
+ghost use Rattle.std.specs.Prelude.{◌≡◌, ◌++◌, IfOk, OnOk, codes, decimal};
 ghost use Rattle.mh_session_branches.specs.Replies.{phase_word as word_of, phase_details, reply_text, fault_text};
 ghost use Rattle.mh_session.specs.code.AnswerTexts.{IsAnswerText};
 ghost use Rattle.mh_session_branches.specs.declared.reply.SessionFault.TheVariants as faults;
 
 use mh_engine::Phase;
 use mh_grammar::{Grammar, Memory, token_name};
-use mh_grammar_texts::{write_number, write_production};
+use mh_grammar_texts::{write_names as write_symbols, write_number, write_production};
 use mh_msgfile::write_names;
 use mh_session_branches::{Reply, SessionFault};
 use mh_tree::print_tree;
@@ -62,6 +62,31 @@ fn write_phase_details(
     }
 }
 
+/// Appends the word of a phase and its details.
+fn write_phase(
+    alloc: Global,
+    text: &mut Vec<u8>,
+    grammar: &Grammar,
+    phase: Phase,
+) -> Result<(), Memory>
+    ensures { OnOk result (text.new.items ≡ text.old.items ++ codes " " ++ word_of phase ++ phase_details grammar.now phase ++ codes "\n") }
+{
+    text.push(b' ')?;
+    text.extend_from_slice(phase_word(phase))?;
+    write_phase_details(alloc, text, grammar, phase)?;
+    text.push(b'\n')?;
+    Ok(())
+}
+
+/// Appends the number of tokens that were shifted.
+fn write_shifted(alloc: Global, text: &mut Vec<u8>, shifted: usize) -> Result<(), Memory>
+    ensures { OnOk result (text.new.items ≡ text.old.items ++ codes " fed " ++ decimal shifted) }
+{
+    let number = format!(in alloc; " fed {shifted}")?;
+    text.extend_from_slice(number.as_bytes())?;
+    Ok(())
+}
+
 /// Appends the name of the branch, and then the reply.
 fn write_reply(
     alloc: Global,
@@ -74,10 +99,14 @@ fn write_reply(
 {
     text.extend_from_slice(name)?;
     match reply {
-        Reply::Phase(phase) => {
-            text.push(b' ')?;
-            text.extend_from_slice(phase_word(*phase))?;
-            write_phase_details(alloc, text, grammar, *phase)?;
+        Reply::Phase(phase) => write_phase(alloc, text, grammar, *phase)?,
+        Reply::Fed { shifted, phase } => {
+            write_shifted(alloc, text, *shifted)?;
+            write_phase(alloc, text, grammar, *phase)?;
+        }
+        Reply::Stack(symbols) => {
+            text.extend_from_slice(b" stack")?;
+            write_symbols(text, grammar, symbols.as_slice())?;
             text.push(b'\n')?;
         }
         Reply::Tree(tree) => {

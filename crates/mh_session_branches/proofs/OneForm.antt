@@ -1,22 +1,25 @@
 -- Proves that a session line has at most one form and one meaning.
-use Rattle.std.proofs.Common.{◌≡◌, Bool, true, false, Option, Some, None, refl, ap, sym, ◌∙◌}
+use Rattle.std.proofs.Common.{◌≡◌, Bool, true, false, [], ◌∷◌, Option, Some, None, refl, ap, sym, ◌∙◌}
 use Rattle.std.specs.Prelude.{if◌then◌else◌}
 use Rattle.std.specs.List.{list_all}
 use Rattle.mh_lex_bytes.specs.Words.{is_word}
 use Rattle.mh_msgfile.specs.Sentences.{Vocabulary, pieces}
 use Rattle.mh_grammar.specs.Text.{Text}
-use Rattle.mh_session_branches.specs.LineForms.{Form, BeginOnly, BeginAt, OfferTo, ResumeOf, ForkTo, ShowOf, TreeOf, ExpectedOf, ForgetOf, words_of, HasForm, LineMeaning, meaning_of_form, LineMeans}
-use Rattle.mh_session_branches.specs.FormOfLine.{form_with_one_name, form_with_two_names, form_of_words, form_of}
+use Rattle.mh_session_branches.specs.LineForms.{Form, BeginOnly, BeginAt, OfferTo, FeedTo, ResumeOf, ForkTo, ShowOf, StackOf, TreeOf, ExpectedOf, ForgetOf, words_of, HasForm, LineMeaning, meaning_of_form, LineMeans}
+use Rattle.mh_session_branches.specs.FormOfLine.{form_with_one_name, form_with_two_names, form_with_more_names, form_of_words, form_of}
 
--- The form found from the words of a form is this form.
+-- If words are written from a form, `form_of_words` finds this form again.
 of_its_words : (form : Form) → form_of_words (words_of form) ≡ Some form
-unfolding form_with_one_name form_with_two_names
+unfolding form_with_one_name form_with_two_names form_with_more_names
 of_its_words (BeginOnly name) = refl
 of_its_words (BeginAt name start) = refl
 of_its_words (OfferTo name token) = refl
+of_its_words (FeedTo name first []) = refl
+of_its_words (FeedTo name first (second ∷ more)) = refl
 of_its_words (ResumeOf name) = refl
 of_its_words (ForkTo name fresh) = refl
 of_its_words (ShowOf name) = refl
+of_its_words (StackOf name) = refl
 of_its_words (TreeOf name) = refl
 of_its_words (ExpectedOf name) = refl
 of_its_words (ForgetOf name) = refl

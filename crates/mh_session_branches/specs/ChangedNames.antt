@@ -8,9 +8,11 @@ use Rattle.mh_session_branches.specs.declared.command.Command.TheVariants as com
 abbrev pub MayChange : Command → Text → Type 0
 MayChange (commands.Begin name start) q = q ≡ name
 MayChange (commands.Offer name token) q = q ≡ name
+MayChange (commands.Feed name tokens) q = q ≡ name
 MayChange (commands.Resume name) q = q ≡ name
 MayChange (commands.Fork name fresh) q = q ≡ fresh
 MayChange (commands.Show name) q = ⊥
+MayChange (commands.Stack name) q = ⊥
 MayChange (commands.Tree name) q = ⊥
 MayChange (commands.Expected name) q = ⊥
 MayChange (commands.Forget name) q = q ≡ name

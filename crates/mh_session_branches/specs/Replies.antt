@@ -4,7 +4,7 @@ use Rattle.mh_grammar.specs.declared.types.Grammar.{Grammar}
 use Rattle.mh_grammar.specs.Names.{token_name}
 use Rattle.mh_tables_core.specs.Table.{TableData}
 use Rattle.mh_grammar.specs.Trees.{tree_text}
-use Rattle.mh_grammar_texts.specs.Productions.{production_text}
+use Rattle.mh_grammar_texts.specs.Productions.{production_text, spaced_symbols}
 use Rattle.mh_engine.specs.declared.phase.Phase.{Phase}
 use Rattle.mh_engine.specs.declared.phase.Phase.TheVariants as phases
 use Rattle.mh_msgfile.specs.FileTexts.{names_after}
@@ -15,7 +15,7 @@ use Rattle.mh_session_branches.specs.declared.reply.Reply.{Reply}
 use Rattle.mh_session_branches.specs.declared.reply.Reply.TheVariants as replies
 use Rattle.mh_session_branches.specs.declared.reply.SessionFault.{SessionFault}
 use Rattle.mh_session_branches.specs.declared.reply.SessionFault.TheVariants as faults
-use Rattle.mh_session_branches.specs.Answers.{Branches, Answer, IsAnswer, branches_after_answer}
+use Rattle.mh_session_branches.specs.Answers.{Branches, Answer, IsAnswer, AreBranchesAfterAnswer}
 use Rattle.mh_session_branches.specs.LineForms.{Form, HasForm, LineMeaning, Asks, NamesNoStart, LacksStart, NamesNoToken, LineMeans}
 use Rattle.mh_grammar.specs.Text.{Text}
 
@@ -39,6 +39,8 @@ phase_details g phases.Rejected = []
 
 abbrev pub reply_text : Grammar → Text → Reply → Text
 reply_text g name (replies.Phase p) = name ++ codes " " ++ phase_word p ++ phase_details g p ++ codes "\n"
+reply_text g name (replies.Fed shifted p) = name ++ codes " fed " ++ decimal shifted ++ codes " " ++ phase_word p ++ phase_details g p ++ codes "\n"
+reply_text g name (replies.Stack symbols) = name ++ codes " stack" ++ spaced_symbols g symbols ++ codes "\n"
 reply_text g name (replies.Tree tree) = name ++ codes " " ++ tree_text g tree ++ codes "\n"
 reply_text g name (replies.Expected tokens) = name ++ codes " expected" ++ names_after g tokens ++ codes "\n"
 reply_text g name replies.Forgotten = name ++ codes " forgotten\n"
@@ -55,9 +57,11 @@ fault_text faults.Memory = []
 abbrev pub replied_name : Command → Text
 replied_name (commands.Begin name start) = name
 replied_name (commands.Offer name token) = name
+replied_name (commands.Feed name tokens) = name
 replied_name (commands.Resume name) = name
 replied_name (commands.Fork name fresh) = fresh
 replied_name (commands.Show name) = name
+replied_name (commands.Stack name) = name
 replied_name (commands.Tree name) = name
 replied_name (commands.Expected name) = name
 replied_name (commands.Forget name) = name
@@ -68,7 +72,7 @@ answer_text g name (Err fault) = fault_text fault
 
 -- The text that answers a line with this meaning, for these branches, and the branches after the line.
 abbrev pub AnswersMeaning : Grammar → TableData → Branches → LineMeaning → Text → Branches → Type 0
-AnswersMeaning g t bs (Asks command) text after = (a : Answer) × IsAnswer t bs command a × (text ≡ answer_text g (replied_name command) a) × (after ≡ branches_after_answer a bs command)
+AnswersMeaning g t bs (Asks command) text after = (a : Answer) × IsAnswer t bs command a × (text ≡ answer_text g (replied_name command) a) × AreBranchesAfterAnswer t a bs command after
 AnswersMeaning g t bs (NamesNoStart name) text after = (text ≡ codes "error: unknown start " ++ name ++ codes "\n") × (after ≡ bs)
 AnswersMeaning g t bs LacksStart text after = (text ≡ codes "error: missing start\n") × (after ≡ bs)
 AnswersMeaning g t bs (NamesNoToken name) text after = (text ≡ codes "error: unknown token " ++ name ++ codes "\n") × (after ≡ bs)

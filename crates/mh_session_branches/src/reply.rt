@@ -4,7 +4,7 @@ ghost use Rattle.mh_session_branches.specs.declared.reply.SessionFault.TheVarian
 
 use mh_engine::Phase;
 use mh_expected::TokenList;
-use mh_grammar::Memory;
+use mh_grammar::{Memory, Sequence, Symbol};
 use mh_tree::Tree;
 use std::alloc::{AllocError, AllocFailed};
 
@@ -13,6 +13,10 @@ use std::alloc::{AllocError, AllocFailed};
 pub enum Reply {
     /// The phase of the branch: after a fork that of the fresh branch, else that of the named branch.
     Phase(Phase),
+    /// The number of tokens that a branch has shifted while it was fed, and its phase.
+    Fed { shifted: usize, phase: Phase },
+    /// The symbols on the stack of the branch, the lowest first.
+    Stack(Sequence<Symbol>),
     Tree(Tree),
     /// The tokens that are expected at the branch, in rising order.
     Expected(TokenList),

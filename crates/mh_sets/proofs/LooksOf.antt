@@ -97,9 +97,9 @@ module _ (words : List ℕ) (end : Bool) where
       (any_sound (is_token a) (Token a) (token_is a) (is_the_token a) (looks_of words end), any_complete (is_token a) (Token a) (token_is a) (is_the_token a) (looks_of words end))
       (member_complete words end (Token a), member_sound words end (Token a))
 
-  pub ends_is : has_stream_end (looks_of words end) ≡ end
+  pub has_stream_end-looks_of : has_stream_end (looks_of words end) ≡ end
   unfolding has_stream_end
-  ends_is = same_from_decides (list_any is_end_look (looks_of words end)) end
+  has_stream_end-looks_of = same_from_decides (list_any is_end_look (looks_of words end)) end
       (any_sound is_end_look End end_is is_the_end (looks_of words end), any_complete is_end_look End end_is is_the_end (looks_of words end))
       (member_complete words end End, member_sound words end End)
 
@@ -152,5 +152,5 @@ words_is W words end h =
 pub words_same : (W : ℕ) (v w : List ℕ) (e d : Bool) → AreBitWords W v → AreBitWords W w → looks_of v e ≡ looks_of w d → (v ≡ w) × (e ≡ d)
 words_same W v w e d hv hw s = (
   sym (words_is W v e hv) ∙ ap (bit_words_of W) s ∙ words_is W w d hw,
-  sym (ends_is v e) ∙ ap has_stream_end s ∙ ends_is w d,
+  sym (has_stream_end-looks_of v e) ∙ ap has_stream_end s ∙ has_stream_end-looks_of w d,
 )

@@ -10,7 +10,7 @@ use Rattle.mh_sets.specs.BitWords.{has_token, looks_of}
 use Rattle.mh_grammar.proofs.Lists.{contains_here, contains_there, contains_cases, recursion-from}
 use Rattle.mh_sets.proofs.LooksFrom.{Has, one_set}
 use Rattle.mh_sets.proofs.LooksOf.{member_sound, member_complete, looks_of_rising}
-use Rattle.mh_sets.proofs.TokenSetCalls.{has_of_contains, contains_of_has, rise_is}
+use Rattle.mh_sets.proofs.TokenSetCalls.{has_of_contains, contains_of_has, looks_rising}
 
 gone : (a c : ℕ) (t u : Bool) → u ≡ (if a == c then false else t) → u ≡ true → (t ≡ true) × (a ≡ c → ⊥)
 gone a c t u e h = elim (cases_eq a c) [
@@ -47,7 +47,7 @@ module _ (words : List ℕ) (end : Bool) (looks : List Look) (is : looks_of word
     split End h = inr h
 
     pub take_token : looks ≡ Token a ∷ looks_of new end
-    take_token = one_set looks (Token a ∷ looks_of new end) (rise_is words end looks is)
+    take_token = one_set looks (Token a ∷ looks_of new end) (looks_rising words end looks is)
         (recursion-from (IsLookBefore (Token a)) (looks_of new end) (λ b c. after b (member_sound new end b c)), looks_of_rising new end)
         (λ b. (
           (λ c. elim (split b (has_of_contains words end looks is b c)) [
@@ -70,7 +70,7 @@ module _ (words : List ℕ) (end : Bool) (looks : List Look) (is : looks_of word
     nothing End h = cc
 
     pub take_end : looks ≡ End ∷ looks_of words false
-    take_end = one_set looks (End ∷ looks_of words false) (rise_is words end looks is)
+    take_end = one_set looks (End ∷ looks_of words false) (looks_rising words end looks is)
         (recursion-from (IsLookBefore End) (looks_of words false) (λ b c. absurd (nothing b (member_sound words false b c))), looks_of_rising words false)
         (λ b. (
           (λ c. let e = only_end b (has_of_contains words end looks is b c) in let P : Look → Type 0 = Contains (End ∷ looks_of words false) in subst P (sym e) (contains_here End (looks_of words false))),

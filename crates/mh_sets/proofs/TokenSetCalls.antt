@@ -42,8 +42,8 @@ module _ (words : List ℕ) (end : Bool) (looks : List Look) (is : looks_of word
   pub set_is : (W : ℕ) → AreBitWords W words → IsSet W looks
   set_is W h = subst (IsSet W) is (is_set words end W h)
 
-  pub rise_is : IsRising IsLookBefore looks
-  rise_is = subst (IsRising IsLookBefore) is (looks_of_rising words end)
+  pub looks_rising : IsRising IsLookBefore looks
+  looks_rising = subst (IsRising IsLookBefore) is (looks_of_rising words end)
 
   -- Lemmas on membership.
   pub contains_token : (look : Look) (a : ℕ) (r : Bool) → look ≡ Token a → r ≡ has_token words a → IsTrue r ↔ Contains looks look
@@ -114,21 +114,21 @@ module _ (words : List ℕ) (end : Bool) (looks : List Look) (is : looks_of word
   not_before a least End k l = l
 
   pub first_token : (a : ℕ) → has_token words a ≡ true → ((b : ℕ) → b < a → has_token words b ≡ false) → Some (Token a) ≡ slice_get looks 0
-  first_token a h least = first_from (Token a) (contains_of_has (Token a) h) (not_before a least) looks refl rise_is
+  first_token a h least = first_from (Token a) (contains_of_has (Token a) h) (not_before a least) looks refl looks_rising
 
   not_before_end : ((b : ℕ) → has_token words b ≡ false) → (b : Look) → Contains looks b → IsLookBefore b End → ⊥
   not_before_end empty (Token c) k l = both_ways (has_token words c) (empty c) (has_of_contains (Token c) k)
   not_before_end empty End k l = l
 
   pub first_end : ((b : ℕ) → has_token words b ≡ false) → end ≡ true → Some End ≡ slice_get looks 0
-  first_end empty h = first_from End (contains_of_has End h) (not_before_end empty) looks refl rise_is
+  first_end empty h = first_from End (contains_of_has End h) (not_before_end empty) looks refl looks_rising
 
   nothing : ((b : ℕ) → has_token words b ≡ false) → end ≡ false → (b : Look) → Contains looks b → ⊥
   nothing empty h (Token c) k = both_ways (has_token words c) (empty c) (has_of_contains (Token c) k)
   nothing empty h End k = both_ways end h (has_of_contains End k)
 
   pub none_left : ((b : ℕ) → has_token words b ≡ false) → end ≡ false → looks ≡ []
-  none_left empty h = one_set looks [] rise_is tt (λ b. ((λ c. absurd (nothing empty h b c)), (λ c. absurd (let l = c.1 in omega arith))))
+  none_left empty h = one_set looks [] looks_rising tt (λ b. ((λ c. absurd (nothing empty h b c)), (λ c. absurd (let l = c.1 in omega arith))))
 
   pub first_none : ((b : ℕ) → has_token words b ≡ false) → end ≡ false → None ≡ slice_get looks 0
   first_none empty h = ap (λ ys. slice_get ys 0) (sym (none_left empty h))

@@ -1,4 +1,4 @@
-//! Sets of lookaheads, as all crates that depend on this one use them.
+//! The public type of sets of lookaheads.
 ghost use Rattle.std.specs.Prelude.{◌≡◌, [], ◌∷◌, ◌<◌, ◌≤◌, ◌*◌, ◌⊎◌, ◌↔◌, ◌++◌, true, false, length, slice_get, IsTrue, MatchOption};
 ghost use Rattle.std.specs.List.{Contains};
 ghost use Rattle.std.specs.Cmp.Lexicographic.{pointwise, lists_per, lists_equiv};

@@ -5,8 +5,10 @@ use crate::making::{A, EOF, can_run, expanded_of, grammar_of, joined_of, module_
 use mh_expand::{Expanded, Instance, InstanceProduction, Part};
 use mh_grammar::{Assoc, Grammar, Level, NontermInfo, Production, Symbol, Token, TokenInfo};
 use mh_join::{Applied, Head, Joined, JoinedAlternative, JoinedRule, Prec};
-use mh_lex::{Kind, Lexeme, SyntaxFault, lex};
-use mh_reader::{Actual, Alternative, LevelDecl, Module, Ref, Rule, TokenDecl, print_module};
+use mh_lex::{Kind, Lexeme, PlacedFault, SyntaxFault, lex, lex_placed};
+use mh_reader::{
+    Actual, Alternative, LevelDecl, Module, Ref, Role, Rule, TokenDecl, print_module, read_placed,
+};
 use mh_run::{Verdict, trace, verdict};
 use mh_tables::Halting;
 use mh_worked_files::ONE_SENTENCE;
@@ -72,6 +74,26 @@ fn lexemes(rt: HostRuntime) -> Result<(), Fail> {
         Err(SyntaxFault::Syntax { line: 2 })
     );
     assert!(rt; has_no_end);
+    let ends_at = matches!(
+        lex_placed(rt.alloc(), b"\n/* no end"),
+        Err(PlacedFault::Syntax { place: 1 })
+    );
+    assert!(rt; ends_at);
+    Ok(())
+}
+
+/// The names of a grammar file have places: the start of the token, and that of the rule.
+#[test]
+fn places(rt: HostRuntime) -> Result<(), Fail> {
+    let Ok(found) = read_placed(rt.alloc(), b"%token A\n%%\ns: {}") else {
+        return Err(Fail::from("no module"));
+    };
+    let starts = match found.mentions.as_slice() {
+        [token, rule] => (token.start, rule.start, rule.role == Role::Rule),
+        _ => (0, 0, false),
+    };
+    drop(found);
+    assert!(rt; starts == (7, 12, true));
     Ok(())
 }
 

@@ -78,7 +78,8 @@ pub fn grammar_of(alloc: Global, text: &str) -> Result<Grammar, Fail> {
     Ok(grammar?)
 }
 
-/// Returns true if a grammar has at most 64 tokens, so that a set of looks fits in one word.
+/// Returns true if a grammar has at most 64 tokens, so that a set of lookaheads fits in one machine word, and its
+/// numbers and costs are in range.
 pub fn is_small(grammar: &Grammar) -> bool
     ensures width { IsTrue result → length grammar.now.tokens ≤ 64 }
     ensures range { IsTrue result → IsInRange (plain_of grammar.now) }
@@ -87,7 +88,7 @@ pub fn is_small(grammar: &Grammar) -> bool
     is_in_range(grammar) && has_costs_in_range(grammar) && grammar.tokens.len() <= 64
 }
 
-/// The merged automaton, by Pager's method. Its sets of looks have one word.
+/// The merged automaton, by Pager's method. Each of its sets of lookaheads has one machine word.
 pub fn automaton_of(alloc: Global, grammar: &Grammar) -> Result<Automaton<1>, Fail>
     requires fits { FitsSets 1 grammar.now }
     ensures { IfOk result (IsAutomaton (plain_of grammar.now)) }

@@ -1,5 +1,5 @@
 //! A table that is made by hand from a grammar that is made by hand. The grammar has no start, so its table needs no
-//! state. Also the parts of a state, of which a table has one for each state.
+//! state. Also a `StateParts` that is made by hand: a table has one `StateParts` for each state.
 ghost use Rattle.std.specs.Prelude.{◌≡◌, []};
 ghost use Rattle.mh_grammar.specs.Costs.{HaveCosts};
 ghost use Rattle.mh_grammar.specs.Plain.{plain_of, IsInRange};

@@ -125,7 +125,7 @@ fn check_comings(rt: &impl Abort, alloc: Global, reach: &Reach) -> Result<(), Fa
     Ok(())
 }
 
-/// The first sentence that fails in state 1, once the sentences that come to states are as expected.
+/// Checks the sentences that come to the states, and then returns the first sentence that fails in state 1.
 fn found_sentence(rt: &impl Abort, alloc: Global, reach: &Reach) -> Result<Sentence, Fail>
     requires states { 4 ≤ length reach.now.states }
     requires tokens { 2 ≤ reach.now.grammar.tokens }
@@ -274,7 +274,7 @@ pub fn rows(rt: &impl Abort, alloc: Global, table: &Halting) -> Result<(), Fail>
 
 /// A sentence line is a start symbol, a colon and names of tokens. The start symbol and the colon may be left out if
 /// there is only one start symbol.
-pub fn lines(rt: &impl Abort, alloc: Global, grammar: &Grammar) -> Result<(), Fail>
+pub fn sentence_lines(rt: &impl Abort, alloc: Global, grammar: &Grammar) -> Result<(), Fail>
     requires { IsInRange (plain_of grammar.now) }
 {
     let Ok(sentence) = read_sentence(alloc, grammar, b"s: A EOF") else {

@@ -7,7 +7,9 @@ ghost use Rattle.mh_resolve_cells.specs.States.{IsTableOf};
 ghost use Rattle.mh_resolve_cells.specs.declared.kinds.Mode.TheVariants.{Merged};
 ghost use Rattle.mh_items.specs.Fitting.{FitsSets};
 
-use crate::catalogue_and_messages::{compiled, lines, messages_files, refused, rows, search};
+use crate::catalogue_and_messages::{
+    compiled, messages_files, refused, rows, search, sentence_lines,
+};
 use crate::table_files::{read_and_tested, written};
 use crate::texts::{automaton_as_text, warnings};
 use mh_grammar::Grammar;
@@ -62,7 +64,7 @@ fn with_grammar(rt: &impl Abort, alloc: Global, grammar: &Grammar) -> Result<(),
     requires fits { FitsSets 1 grammar.now }
     requires costs { HaveCosts grammar.now.tokens }
 {
-    lines(rt, alloc, grammar)?;
+    sentence_lines(rt, alloc, grammar)?;
     warnings(rt, alloc, grammar)?;
     read_and_tested(rt, alloc, grammar)?;
     let automaton = automaton_of(alloc, grammar)?;

@@ -95,7 +95,7 @@ fn of_a_grammar(rt: HostRuntime) -> Result<(), Fail> {
     result
 }
 
-/// A set of looks with one word has room for 64 tokens and the end of the stream.
+/// A set of lookaheads with one machine word has room for 64 tokens and the end of the stream.
 #[test]
 fn sets(rt: HostRuntime) {
     let mut set = TokenSet::<1>::empty();

@@ -6,7 +6,7 @@ ghost use Rattle.mh_session_branches.specs.Answers.{IsCommandOf};
 
 use mh_engine::{Checkpoint, Phase, ResumeFault, begin};
 use mh_expected::{TokenList, expected, expected_at};
-use mh_grammar::{Grammar, Token};
+use mh_grammar::{Grammar, Symbol, Token, symbol_name};
 use mh_run::{Verdict, verdict};
 use mh_session::{
     Command, CommandFault, Reply, Session, SessionFault, answer_all, one_answer, read_command,
@@ -188,6 +188,14 @@ pub fn checkpoints(rt: &impl Abort, alloc: Global, table: &Halting) -> Result<()
     result
 }
 
+/// Returns true if these numbers are numbers of tokens of the table.
+fn are_tokens(table: &Halting, tokens: &[Token]) -> bool
+    ensures { IsTrue result → All (λ z. z < table.now.grammar.tokens) tokens.now }
+{
+    let count = table.table().tokens();
+    tokens.iter().all(|token| *token < count)
+}
+
 /// Returns true if the numbers in a command are numbers of the table.
 fn is_known(table: &Halting, command: &Command) -> bool
     ensures { IsTrue result → IsCommandOf table.now command.now }
@@ -195,9 +203,11 @@ fn is_known(table: &Halting, command: &Command) -> bool
     match command {
         Command::Begin { name: _, start } => *start < table.table().starts(),
         Command::Offer { name: _, token } => *token < table.table().tokens(),
+        Command::Feed { name: _, tokens } => are_tokens(table, tokens.as_slice()),
         Command::Resume { name: _ } => true,
         Command::Fork { name: _, fresh: _ } => true,
         Command::Show { name: _ } => true,
+        Command::Stack { name: _ } => true,
         Command::Tree { name: _ } => true,
         Command::Expected { name: _ } => true,
         Command::Forget { name: _ } => true,
@@ -227,6 +237,15 @@ fn put_tokens(text: &mut String, tokens: &TokenList) {
     }
 }
 
+/// Appends the symbols of a stack as text.
+fn put_symbols(text: &mut String, grammar: &Grammar, symbols: &[Symbol]) {
+    let _ = text.push_str("stack");
+    for symbol in symbols {
+        let name = str::from_utf8(symbol_name(grammar, *symbol)).unwrap_or("no text");
+        let _ = write!(text, " {name}");
+    }
+}
+
 /// Appends a reply as text.
 fn put_reply(
     alloc: Global,
@@ -236,6 +255,11 @@ fn put_reply(
 ) -> Result<(), Fail> {
     match reply {
         Reply::Phase(phase) => put_phase(text, *phase),
+        Reply::Fed { shifted, phase } => {
+            let _ = write!(text, "fed {shifted}, ");
+            put_phase(text, *phase);
+        }
+        Reply::Stack(symbols) => put_symbols(text, grammar, symbols.as_slice()),
         Reply::Tree(tree) => {
             let bytes = print_tree(alloc, grammar, tree)?;
             let _ = text.push_str(str::from_utf8(&bytes).unwrap_or("no text"));
@@ -488,6 +512,23 @@ fn names_are_held(
         "resume b = unknown name",
     )?;
     check_line(rt, alloc, grammar, table, session, "begin a = name taken")?;
+    check_line(
+        rt,
+        alloc,
+        grammar,
+        table,
+        session,
+        "begin b = input needed in 0",
+    )?;
+    check_line(
+        rt,
+        alloc,
+        grammar,
+        table,
+        session,
+        "feed b A A EOF = fed 1, error in 1",
+    )?;
+    check_line(rt, alloc, grammar, table, session, "stack b = stack A")?;
     check_line(rt, alloc, grammar, table, session, "tree a = [s: A EOF]")
 }
 

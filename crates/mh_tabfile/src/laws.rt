@@ -1,4 +1,5 @@
-//! Laws on table files that are written and read again, as calls without effect whose contracts other crates can use.
+//! Laws on table files that are written and read again, as functions that do nothing and whose contracts state the
+//! laws.
 ghost use Rattle.std.specs.Prelude.{◌≡◌, ◌≤◌, ◌⊎◌, List, None, Result, Ok, Err, ℕ};
 ghost use Rattle.mh_grammar.specs.Plain.{plain_of, IsInRange};
 ghost use Rattle.mh_items_kernels.specs.KernelTypes.{Automaton as AutomatonOf};

@@ -37,7 +37,7 @@ pub cond_cases : {A : Type 0} (b : Bool) (x y z : A) → cond b x y ≡ z → ((
 cond_cases true x y z e = inl (refl, e)
 cond_cases false x y z e = inr (refl, e)
 
--- Numbers.
+-- A word is parsed to a number exactly if it is the decimal form of the number.
 
 own : IsNumeralModel (λ ds. list_all is_digit ds ≡ true) (value_from 0)
 own = numerals_by_fold _ (search rules) value_from (search rules)
@@ -81,7 +81,7 @@ number_sound word n e = elim (cond_cases (list_all is_digit word && not (has_zer
   | inr (b, f) ↦ absurd (none_some _ f)
 ]
 
--- Names.
+-- A word is parsed as a name exactly if it is a name.
 
 name_again : (word : List ℕ) → IsName word → is_name word ≡ true
 name_again [] h = absurd (h refl)
@@ -120,7 +120,7 @@ numbers_sound (w ∷ ws) ns e =
     let more = numbers_sound ws ms h in
     subst (λ x. AllByRecursion IsNumber x × (w ∷ ws ≡ map decimal x)) (same_Some (n ∷ ms) ns k) ((one.0, more.0), (ap (λ v. v ∷ ws) one.1 ∙ ap (λ vs. decimal n ∷ vs) more.1))
 
--- Modes and kinds of lines.
+-- A word is parsed to a mode, or to a kind of line, exactly if it is the word for this mode or kind.
 
 word_is : (w v : List ℕ) → same_word w v ≡ true → w ≡ v
 word_is w v e = same_text w v (sym e)
@@ -175,7 +175,7 @@ kind_sound w =
     (named_if (same_word w (codes "productions")) w kinds.Productions _ (word_is w (codes "productions"))
     (named_if (same_word w (codes "states")) w kinds.States kinds.Other (word_is w (codes "states")) tt)))))))))))
 
--- Lines.
+-- The words of a line are parsed to a value exactly if they are the line of this value.
 
 pub count_parsed : (n : ℕ) → IsNumber n → count_of (decimal n ∷ []) ≡ Some n
 unfolding count_of

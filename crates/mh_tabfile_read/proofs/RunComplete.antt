@@ -23,7 +23,7 @@ use Rattle.mh_resolve_cells.specs.Names.{mode_name}
 use Rattle.mh_tabfile_form.specs.Form.{Line, IsName, IsNumber, IsRawProduction, IsRawItem, IsRawEdge, IsRawCell, IsRawFallback, AreRawCells, IsRawState, IsRawTable, AreCosts, Spells, version_of, head_line, costs_lines, production_line, item_line, edge_line, cell_line, fallback_line, cells_lines, count_line, state_lines, states_lines, end_line, head_lines, grammar_lines, automaton_lines, lines_of}
 use Rattle.mh_tabfile_read.specs.code.Numbers.{number_of}
 use Rattle.mh_tabfile_read.specs.code.Words.{◌>>=◌, kind_of, count_of, names_of, numbers_of, mode_of, production_of, item_of, edge_of, cell_of, fallback_of}
-use Rattle.mh_tabfile_read.specs.code.Machine.{initial_reader, table_of, costs_for, expected_after_tokens, read_head, open_state, at_states, state_ended_by, state_closed, at_between, next, finish, run, go_on, ended, Outcome}
+use Rattle.mh_tabfile_read.specs.code.Machine.{initial_reader, table_of, costs_for, expected_after_tokens, read_head, open_state, at_states, state_ended_by, state_closed, at_between_states, next, finish, run, go_on, ended, Outcome}
 use Rattle.mh_tabfile_read.specs.code.Machine.Outcome.{Reads, Stops}
 use Rattle.mh_tabfile_read.proofs.ParsedWords.{mode_parsed, number_parsed, numbers_parsed, names_parsed, count_parsed, production_parsed, item_parsed, edge_parsed, cell_parsed, accept_parsed, default_parsed}
 
@@ -132,7 +132,7 @@ cells_again (c ∷ cs) (h, hs) o r left rest =
 abbrev after : Reader → List RawState → ExpectedLine → Reader
 after r ss place = record r { states = r.states ++ ss; items = []; edges = []; cells = []; place = place }
 
--- The lines of a state that follow its items.
+-- The lines of a state that follow its items are read to the edges and cells of this state.
 ended_again : (c : RawCells) → AreRawCells c → (b : Bool) (r : Reader) (left : ℕ) (l : Line) (rest : List Line) → r.cells ≡ [] → Ends l →
     run (expecting r (early b left)) (cells_lines c ++ l ∷ rest) ≡ run (state_ended_by r c (places.Between left)) (l ∷ rest)
 unfolding late
@@ -153,7 +153,7 @@ state_again s (hi, he, hc) r left l rest ni ne nc e =
     ∙ ap (λ x. run (state_ended_by (record r { items = x ++ s.items; edges = r.edges ++ s.edges }) s.cells (places.Between left)) (l ∷ rest)) ni
     ∙ ap (λ x. run (state_ended_by (record r { items = s.items; edges = x ++ s.edges }) s.cells (places.Between left)) (l ∷ rest)) ne
 
--- The lines of all states.
+-- The lines of all states are read to these states.
 
 regroup : (i e c m t : List Line) → ((i ++ (e ++ c)) ++ m) ++ t ≡ i ++ (e ++ (c ++ (m ++ t)))
 regroup i e c m t = append_assoc (i ++ (e ++ c)) m t ∙ append_assoc i (e ++ c) (m ++ t) ∙ ap (λ k. i ++ k) (append_assoc e c (m ++ t))
@@ -206,7 +206,7 @@ states_again (s ∷ ss) (h, hs) r i left e f small =
     ∙ states_again ss hs (after r (s ∷ []) (places.Between (left - 1))) (i + 1) (left - 1) (omega (arith, e, length-append r.states (s ∷ []))) (omega (arith, f)) (omega (arith, small, some))
     ∙ ap (λ k. Reads (table_of (record r { states = k }))) (append_assoc r.states (s ∷ []) ss)
 
--- The lines of the productions.
+-- The lines of the productions are read to these productions.
 
 production_step : (r : Reader) (left : ℕ) → 0 < left → (p : RawProduction) → IsRawProduction p → next (expecting r (places.Listing left)) (production_line p) ≡ Some (record r { productions = r.productions ++ p ∷ []; place = places.Listing (left - 1) })
 unfolding next
@@ -270,7 +270,7 @@ costs_again : (costs : Option (List ℕ)) → AreCosts costs → (r : Reader) (r
 costs_again None h r rest = refl
 costs_again (Some costs) h r rest = step (record r { costs = Some []; place = places.Costs }) (record r { costs = Some costs; place = places.Starts }) (codes "costs" ∷ map decimal costs) rest (costs_step (record r { costs = Some [] }) costs h)
 
--- Every table of the form is read from its lines.
+-- Every raw table with valid names and numbers (`IsRawTable`) is read from its lines.
 pub file_is_read : (raw : RawTable) → IsRawTable raw → run initial_reader (lines_of raw) ≡ Reads raw
 file_is_read raw h =
     let count = length raw.states in

@@ -42,7 +42,9 @@ abbrev pub Blocked : Reader → List Line → Type 0
 Blocked t [] = Unit {0}
 Blocked t (x ∷ xs) = next t x ≡ None
 
-pub record Stopped (r : Reader) (ls rest : List Line) : Type 0 where
+-- The reader r reads the lines before `rest` and is then the reader `at`, which is stopped there: no line is left, or
+-- the first line of `rest` is refused.
+pub record SplitsAtStop (r : Reader) (ls rest : List Line) : Type 0 where
   pub before : List Line
   pub at : Reader
   pub sound : IsSoundReader at
@@ -50,7 +52,7 @@ pub record Stopped (r : Reader) (ls rest : List Line) : Type 0 where
   pub runs : (ys : List Line) → run r (before ++ ys) ≡ run at ys
   pub blocked : Blocked at rest
 
-stopped_later : (s t : Reader) (x : Line) (xs rest : List Line) → next s x ≡ Some t → Stopped t xs rest → Stopped s (x ∷ xs) rest
+stopped_later : (s t : Reader) (x : Line) (xs rest : List Line) → next s x ≡ Some t → SplitsAtStop t xs rest → SplitsAtStop s (x ∷ xs) rest
 stopped_later s t x xs rest e h = record {
   before = x ∷ h.before;
   at = h.at;
@@ -67,13 +69,13 @@ ended_stops : (o : Option RawTable) (rest : List Line) → ended o ≡ Stops res
 ended_stops None rest e = cc
 ended_stops (Some raw) rest e = cc
 
-stops_at : (x : Line) (xs : List Line) (s : Reader) (rest : List Line) (o : Option Reader) → IsSoundReader s → ((t : Reader) → IsSoundReader t → run t xs ≡ Stops rest → Stopped t xs rest) →
-    next s x ≡ o → go_on o x xs (λ t. run t xs) ≡ Stops rest → Stopped s (x ∷ xs) rest
-stops_at x xs s rest None g h f e = subst (λ k. Stopped s (x ∷ xs) k) (same_rest (x ∷ xs) rest e) (record { before = []; at = s; sound = g; split = refl; runs = λ ys. refl; blocked = f })
+stops_at : (x : Line) (xs : List Line) (s : Reader) (rest : List Line) (o : Option Reader) → IsSoundReader s → ((t : Reader) → IsSoundReader t → run t xs ≡ Stops rest → SplitsAtStop t xs rest) →
+    next s x ≡ o → go_on o x xs (λ t. run t xs) ≡ Stops rest → SplitsAtStop s (x ∷ xs) rest
+stops_at x xs s rest None g h f e = subst (λ k. SplitsAtStop s (x ∷ xs) k) (same_rest (x ∷ xs) rest e) (record { before = []; at = s; sound = g; split = refl; runs = λ ys. refl; blocked = f })
 stops_at x xs s rest (Some t) g h f e = let k = next_sound s t x g f in stopped_later s t x xs rest f (h t (record { parts = k.parts; holds = k.holds }) e)
 
-pub stops : (ls : List Line) (s : Reader) (rest : List Line) → IsSoundReader s → run s ls ≡ Stops rest → Stopped s ls rest
-stops [] s rest g e = subst (λ k. Stopped s [] k) (ended_stops (finish s) rest e) (record { before = []; at = s; sound = g; split = refl; runs = λ ys. refl; blocked = tt })
+pub stops : (ls : List Line) (s : Reader) (rest : List Line) → IsSoundReader s → run s ls ≡ Stops rest → SplitsAtStop s ls rest
+stops [] s rest g e = subst (λ k. SplitsAtStop s [] k) (ended_stops (finish s) rest e) (record { before = []; at = s; sound = g; split = refl; runs = λ ys. refl; blocked = tt })
 stops (x ∷ xs) s rest g e = stops_at x xs s rest (next s x) g (λ t k f. stops xs t rest k f) refl e
 
 -- The lines before `rest` begin some file, but with the first line of `rest` they do not. If `rest` is empty, the lines
@@ -91,7 +93,7 @@ blocked_run t x xs ys e = ap (λ o. go_on o x ys (λ u. run u ys)) e
 not_both : (o : Outcome) (raw : RawTable) (rest : List Line) → o ≡ Reads raw → o ≡ Stops rest → ⊥
 not_both o raw rest e f = cc
 
-stopped_first : (ls rest : List Line) (h : Stopped initial_reader ls rest) (x : Line) (xs : List Line) → rest ≡ x ∷ xs → Begins (h.before ++ x ∷ []) → ⊥
+stopped_first : (ls rest : List Line) (h : SplitsAtStop initial_reader ls rest) (x : Line) (xs : List Line) → rest ≡ x ∷ xs → Begins (h.before ++ x ∷ []) → ⊥
 stopped_first ls rest h x xs e (ys, raw, b) =
     let blocked = subst (λ k. Blocked h.at k) e h.blocked in
     let spelled = subst (λ k. run initial_reader k ≡ Reads raw) (append_assoc h.before (x ∷ []) ys) (exact_spelled ((h.before ++ x ∷ []) ++ ys) raw b) in
@@ -106,14 +108,16 @@ exact_stops ls rest e = let h = stops ls initial_reader rest sound_start e in le
   nothing = λ raw b. not_both (run initial_reader ls) raw rest (exact_spelled ls raw b) e;
 }
 
--- The same by positions in the list of lines.
+-- ---- The first refused line, given by its position in the list of lines.
 
 lines_length : (parts : List (Bor (List ℕ))) → length (lines_in (map (λ x. x.now) parts)) ≡ length parts
 lines_length parts = length-map (map (λ x. x.now) parts) words_of ∙ length-map parts (λ x. x.now)
 
-pub refused_part : (parts : List (Bor (List ℕ))) (r : Reader) (at : ℕ) (d : Bor (List ℕ)) (x : Line) → run initial_reader (lines_in (map (λ x. x.now) parts)) ≡ run r (lines_in (map (λ x. x.now) (drop at parts))) →
+-- If the reader r, which has read the first `at` lines, refuses the next line x, then this line (number at + 1) is
+-- misplaced.
+pub refused_line_at : (parts : List (Bor (List ℕ))) (r : Reader) (at : ℕ) (d : Bor (List ℕ)) (x : Line) → run initial_reader (lines_in (map (λ x. x.now) parts)) ≡ run r (lines_in (map (λ x. x.now) (drop at parts))) →
     at < length parts → x ≡ words_of (get_or parts at d).now → next r x ≡ None → IsMisplaced (lines_in (map (λ x. x.now) parts)) (at + 1)
-refused_part parts r at d x e h i n =
+refused_line_at parts r at d x e h i n =
     let ls = lines_in (map (λ x. x.now) parts) in
     let more = lines_in (map (λ x. x.now) (drop (suc at) parts)) in
     let split : lines_in (map (λ x. x.now) (drop at parts)) ≡ x ∷ more = ap (λ l. lines_in (map (λ x. x.now) l)) (drop-cons parts at d h) ∙ ap (λ y. y ∷ more) (sym i) in

@@ -25,7 +25,7 @@ use Rattle.mh_resolve_cells.specs.Names.{mode_name}
 use Rattle.mh_tabfile_form.specs.Form.{Line, IsName, IsNumber, IsRawProduction, IsRawItem, IsRawEdge, IsRawCell, IsRawFallback, AreRawCells, IsRawState, IsRawTable, AreCosts, Spells, version_of, head_line, costs_lines, production_line, item_line, edge_line, cell_line, fallback_line, cells_lines, count_line, state_lines, states_lines, end_line, head_lines, grammar_lines, automaton_lines, lines_of}
 use Rattle.mh_tabfile_read.specs.code.Numbers.{number_of}
 use Rattle.mh_tabfile_read.specs.code.Words.{◌>>=◌, kind_of, count_of, names_of, numbers_of, mode_of, production_of, item_of, edge_of, cell_of, fallback_of}
-use Rattle.mh_tabfile_read.specs.code.Machine.{initial_reader, table_of, costs_for, expected_after_tokens, read_head, at_head, at_tokens, at_costs, at_starts, at_productions, at_states, at_production, open_state, at_state, at_end, at_cells, at_edges, at_items, at_listing, state_ended_by, state_closed, at_between, next, next_at, finish, finish_at, run, go_on, ended, Outcome}
+use Rattle.mh_tabfile_read.specs.code.Machine.{initial_reader, table_of, costs_for, expected_after_tokens, read_head, at_head, at_tokens, at_costs, at_starts, at_productions, at_states, at_production, open_state, at_state, at_end, at_cells, at_edges, at_items, at_production_list, state_ended_by, state_closed, at_between_states, next, next_at, finish, finish_at, run, go_on, ended, Outcome}
 use Rattle.mh_tabfile_read.specs.code.Machine.Outcome.{Reads, Stops}
 use Rattle.mh_tabfile_read.proofs.ParsedWords.{none_some, bind_some, cond_cases, Named, kind_sound, mode_sound, number_sound, numbers_sound, names_sound, count_sound, production_sound, item_sound, edge_sound, cell_sound, fallback_sound}
 use Rattle.mh_tabfile_read.proofs.RunComplete.{expecting}
@@ -197,7 +197,7 @@ count_case kinds.Productions r t w ws p (hp, hs) n e =
     })
 count_case _ r t w ws p h n e = absurd (none_some _ e)
 
--- The lines of the productions.
+-- A line that is read in the list of the productions is a sound step (`IsSoundStep`).
 
 production_case : (r t : Reader) (left : ℕ) (line : Line) → PartsHaveForm r → InvariantAt (places.Listing left) r → 0 < left → at_production r left line ≡ Some t → IsSoundStep (written_at (places.Listing left) r) line t
 production_case r t left line p (small, hs) some e =
@@ -229,13 +229,13 @@ states_case kinds.States r t w ws p (small, hs) n e =
     })
 states_case _ r t w ws p h n e = absurd (none_some _ e)
 
-listing_case : (r t : Reader) (left : ℕ) (w : List ℕ) (ws : Line) → PartsHaveForm r → InvariantAt (places.Listing left) r → at_listing r left w ws ≡ Some t → IsSoundStep (written_at (places.Listing left) r) (w ∷ ws) t
+listing_case : (r t : Reader) (left : ℕ) (w : List ℕ) (ws : Line) → PartsHaveForm r → InvariantAt (places.Listing left) r → at_production_list r left w ws ≡ Some t → IsSoundStep (written_at (places.Listing left) r) (w ∷ ws) t
 listing_case r t left w ws p h e = elim (cond_cases (nat_eq left 0) (at_states r (kind_of w) ws) (at_production r left (w ∷ ws)) (Some t) e) [
   | inl (b, f) ↦ subst (λ k. IsSoundStep (written_at (places.Listing k) r) (w ∷ ws) t) (sym (eqb-true left 0 b)) (states_case (kind_of w) r t w ws p (subst (λ k. InvariantAt (places.Listing k) r) (eqb-true left 0 b) h) (kind_sound w) f)
   | inr (b, f) ↦ production_case r t left (w ∷ ws) p h (omega (arith, eqb-false left 0 b)) f
 ]
 
--- Between two states.
+-- A line that is read between two states is a sound step.
 
 opened_case : (r t : Reader) (left m : ℕ) → IsNumber (length r.productions) → IsNumber (length r.states + left) → 0 < left → PartsHaveForm r →
     ((nat_eq m (length r.states) ≡ true) × (Some (record r { items = []; edges = []; cells = []; place = places.Items (left - 1) }) ≡ Some t)) ⊎ ((nat_eq m (length r.states) ≡ false) × (None ≡ Some t)) →
@@ -271,13 +271,13 @@ end_case kinds.End r t w [] p (few, small) n e =
 end_case kinds.End r t w (v ∷ ws) p h n e = absurd (none_some _ e)
 end_case _ r t w ws p h n e = absurd (none_some _ e)
 
-between_case : (k : LineKind) (r t : Reader) (left : ℕ) (w : List ℕ) (ws : Line) → PartsHaveForm r → InvariantAt (places.Between left) r → Named k w → at_between r left k ws ≡ Some t → IsSoundStep (written_at (places.Between left) r) (w ∷ ws) t
+between_case : (k : LineKind) (r t : Reader) (left : ℕ) (w : List ℕ) (ws : Line) → PartsHaveForm r → InvariantAt (places.Between left) r → Named k w → at_between_states r left k ws ≡ Some t → IsSoundStep (written_at (places.Between left) r) (w ∷ ws) t
 between_case k r t left w ws p h n e = elim (cond_cases (nat_eq left 0) (at_end r k ws) (at_state r left k ws) (Some t) e) [
   | inl (b, f) ↦ subst (λ m. IsSoundStep (written_at (places.Between m) r) (w ∷ ws) t) (sym (eqb-true left 0 b)) (end_case k r t w ws p (subst (λ m. InvariantAt (places.Between m) r) (eqb-true left 0 b) h) n f)
   | inr (b, f) ↦ state_case k r t left w ws p h (omega (arith, eqb-false left 0 b)) n f
 ]
 
--- Inside a state.
+-- A line that is read inside a state is a sound step.
 
 -- When the open state is closed with the cells `c`, its lines are those read so far and `more`.
 closing : (r : Reader) (left : ℕ) (c : RawCells) (more : List Line) → state_lines (length r.states) (record { items = r.items; edges = r.edges; cells = c }) ≡ state_lines (length r.states) (open_state_read r) ++ more →
@@ -295,13 +295,13 @@ closed_parts r c place p h = record { tokens = p.tokens; costs = p.costs; starts
 closed_holds : (r : Reader) (c : RawCells) (left : ℕ) → IsNumber (length r.productions) → IsNumber (length r.states + 1 + left) → InvariantAt (places.Between left) (state_ended_by r c (places.Between left))
 closed_holds r c left few small = (few, omega (arith, small, length-append r.states (record { items = r.items; edges = r.edges; cells = c } ∷ [])))
 
-ends_case : (k : LineKind) (r t : Reader) (left : ℕ) (w : List ℕ) (ws : Line) → PartsHaveForm r → IsNumber (length r.productions) → IsNumber (length r.states + 1 + left) → Named k w → at_between (state_closed r) left k ws ≡ Some t → IsSoundStep (open_state_lines r left) (w ∷ ws) t
+ends_case : (k : LineKind) (r t : Reader) (left : ℕ) (w : List ℕ) (ws : Line) → PartsHaveForm r → IsNumber (length r.productions) → IsNumber (length r.states + 1 + left) → Named k w → at_between_states (state_closed r) left k ws ≡ Some t → IsSoundStep (open_state_lines r left) (w ∷ ws) t
 ends_case k r t left w ws p few small n e =
     let c = cells.Cells r.cells in
     let same : written_at (places.Between left) (state_closed r) ≡ open_state_lines r left = closing r left c [] (sym (append-nil (state_lines (length r.states) (open_state_read r)))) ∙ append-nil (open_state_lines r left) in
     subst (λ b. IsSoundStep b (w ∷ ws) t) same (between_case k (state_closed r) t left w ws (closed_parts r c r.place p p.cells) (closed_holds r c left few small) n e)
 
--- One more line of the open state.
+-- A line that is read as part of the open state is a sound step.
 grown : (r : Reader) (left : ℕ) (s : RawState) (x : Line) → state_lines (length r.states) s ≡ state_lines (length r.states) (open_state_read r) ++ x ∷ [] →
     head_lines_read r ++ (production_lines_read r (length r.productions) ++ (closed_state_lines r (length r.states + 1 + left) ++ state_lines (length r.states) s)) ≡ open_state_lines r left ++ x ∷ []
 grown r left s x e =
@@ -371,7 +371,7 @@ items_case kinds.Item r t left w ws p few small bare none n e =
     })
 items_case k r t left w ws p few small bare none n e = edges_case k r t left w ws p few small none n e
 
--- The lemma for every place.
+-- At every place, a line that is read is a sound step.
 
 case_at : (place : ExpectedLine) (r t : Reader) (w : List ℕ) (ws : Line) → PartsHaveForm r → InvariantAt place r → next_at place r w ws ≡ Some t → IsSoundStep (written_at place r) (w ∷ ws) t
 case_at places.Head r t w ws p h e = head_case (kind_of w) r t w ws p h (kind_sound w) e

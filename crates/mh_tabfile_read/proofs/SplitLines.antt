@@ -111,7 +111,8 @@ is_cut bytes parts last e =
       last = recursion-weaker (λ b. (b == 10) ≡ false) (λ b. b ≢ 10) (λ b k. other_byte b 10 k) last all.1.0;
     }
 
--- From the lines to the answer: a whole file, or the kind of bad line.
+-- If the lines are a whole file, the bytes spell a table; otherwise the bytes have a bad line of the kind that the
+-- lines give.
 
 pub cut_whole : (bytes : List ℕ) (parts : List (List ℕ)) (last : List ℕ) (raw : RawTable) → IsCut bytes parts last → length last ≡ 0 → Spells (lines_in parts) raw → IsFileOf bytes raw
 cut_whole bytes parts [] raw c e (s, same) = record { spelled = s; words = subst (AllByRecursion IsLine) same c.are_lines; bytes_are = c.split ∙ append-nil (text (lines_in parts)) ∙ ap text same }
@@ -167,7 +168,7 @@ unended bytes parts n d r e some f h = cut_unended bytes (bytes_of_parts (take n
 pub finished : (bytes : List ℕ) (parts : List (Bor (List ℕ))) (n m : ℕ) (d : Bor (List ℕ)) (r : Reader) (result : Result RawTable TabFault) → bytes_of_parts parts ≡ slice_split (λ b. b == 10) bytes → length parts ≡ suc n → run initial_reader (lines_in (bytes_of_parts (take n parts))) ≡ run r [] → length (get_or parts n d).now ≤ 0 → m ≡ max 1 n → IsFinished (finish r) m result → IsReading bytes result
 finished bytes parts n m d r result e some f h i g = end_reading result bytes (bytes_of_parts (take n parts)) (get_or parts n d).now r m (cut_at bytes parts n d e some) (omega (arith, h)) f (i ∙ ap (max 1) (seen_length parts n some)) g
 
--- An upper bound of the number of parts.
+-- Bytes have at least one part, and at most one part more than they have bytes.
 
 short_by : {X : Type 0} (b : Bool) (x : X) (parts : List (List X)) (n : ℕ) → length parts ≤ n → length (cond b ([] ∷ parts) (onto_first x parts)) ≤ n + 1
 short_by true x parts n h = omega (arith, h)

@@ -225,7 +225,7 @@ fn between(
     kind: LineKind,
     words: &[&[u8]],
 ) -> Result<(), LineRefusal>
-    ensures { AdvancesTo (machine.at_between reader.old left kind (map (λ w. w.now) words.now)) reader.new result }
+    ensures { AdvancesTo (machine.at_between_states reader.old left kind (map (λ w. w.now) words.now)) reader.new result }
 {
     if left == 0 {
         at_end(reader, kind, words)
@@ -344,7 +344,7 @@ fn at_items(
     }
 }
 
-fn at_listing(
+fn at_production_list(
     alloc: Global,
     reader: &mut Reader,
     left: u32,
@@ -353,7 +353,7 @@ fn at_listing(
     line: &[&[u8]],
 ) -> Result<(), LineRefusal>
     requires { map (λ w. w.now) line.now ≡ word.now ∷ map (λ w. w.now) words.now }
-    ensures { AdvancesTo (machine.at_listing reader.old left word.now (map (λ w. w.now) words.now)) reader.new result }
+    ensures { AdvancesTo (machine.at_production_list reader.old left word.now (map (λ w. w.now) words.now)) reader.new result }
 {
     if left == 0 {
         at_states(reader, kind_of(word), words)
@@ -379,7 +379,7 @@ fn advance_at(
         ExpectedLine::Costs => at_costs(alloc, reader, kind_of(word), words),
         ExpectedLine::Starts => at_starts(alloc, reader, kind_of(word), words),
         ExpectedLine::Productions => at_productions(reader, kind_of(word), words),
-        ExpectedLine::Listing(left) => at_listing(alloc, reader, left, word, words, line),
+        ExpectedLine::Listing(left) => at_production_list(alloc, reader, left, word, words, line),
         ExpectedLine::Between(left) => between(alloc, reader, left, kind_of(word), words),
         ExpectedLine::Items(left) => at_items(alloc, reader, left, kind_of(word), words),
         ExpectedLine::Edges(left) => at_edges(alloc, reader, left, kind_of(word), words),

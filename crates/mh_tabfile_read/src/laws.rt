@@ -1,4 +1,4 @@
-//! Laws of reading table files, as calls without effect whose contracts other crates can use.
+//! Laws of reading table files, as functions that do nothing and whose contracts state the laws.
 ghost use Rattle.std.specs.Prelude.{◌≡◌, ℕ};
 ghost use Rattle.mh_tabfile_form.specs.declared.types.RawTable.{RawTable as Raw};
 ghost use Rattle.mh_tabfile_form.specs.Form.{IsFileOf};

@@ -165,7 +165,7 @@ fn read_known(alloc: Global, bytes: &[u8], parts: &[&[u8]]) -> Result<RawTable, 
     requires few { length parts.now < 2 ^ 32 }
     ensures { IsReading bytes.now result }
 {
-    // Only the contract speaks of the bytes.
+    // The argument `bytes` is not used at run time; only the contract mentions it.
     let _bytes = bytes;
     let count = parts.len() - 1;
     let reader = match read_lines(alloc, &parts[..count]) {
@@ -194,7 +194,7 @@ fn is_other(alloc: Global, bytes: &[u8], parts: &[&[u8]]) -> Result<bool, AllocE
     requires some { 0 < length parts.now }
     ensures { IfOk result (λ other. (other ≡ true → IsOtherVersion bytes.now) × (other ≡ false → IsOtherVersion bytes.now → ⊥)) }
 {
-    // Only the contract speaks of the bytes.
+    // The argument `bytes` is not used at run time; only the contract mentions it.
     let _bytes = bytes;
     let head = cut(alloc, first_line(parts), b' ')?;
     Ok(is_other_head(head.as_slice()))

@@ -99,7 +99,7 @@ count_states g (k ∷ ks) [] parts e f = absurd (omega (arith, e))
 count_states g (k ∷ ks) (row ∷ rows) [] e f = absurd (omega (arith, f))
 count_states g (k ∷ ks) (row ∷ rows) (p ∷ parts) e f = ap suc (count_states g ks rows parts (omega (arith, e)) (omega (arith, f)))
 
--- The whole table.
+-- If the parts of a table are appended one after the other, the whole table is written.
 pub table_written : (raw : RawTable) (old one two three four five six seven eight new : List ℕ) (costs : List ℕ) → old ≡ [] → raw.costs ≡ Some costs →
     one ≡ old ++ line_written (head_line 2 raw.mode) → two ≡ one ++ line_written (codes "tokens" ∷ raw.tokens) → three ≡ two ++ line_written (codes "costs" ∷ map decimal costs) →
     four ≡ three ++ line_written (codes "starts" ∷ raw.starts) → five ≡ four ++ line_written (count_line (codes "productions") (length raw.productions)) →

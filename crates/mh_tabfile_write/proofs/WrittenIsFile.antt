@@ -66,7 +66,7 @@ legible IsRawX line xs h = (recursion-weaker (λ x. IsRawX x × IsLine (line x))
 count : (key : List ℕ) (n : ℕ) → AllByRecursion IsInWord key → IsNumber n → IsLine (count_line key n)
 count key n is small = ((λ e. cc), (is, (number_plain n small, tt)))
 
--- Names.
+-- The names of tokens, nonterminals and symbols are words.
 
 token : (g : Grammar) → HasWordNames g → (z : ℕ) → z < length g.tokens → IsWord (token_name g z)
 unfolding token_name
@@ -88,7 +88,7 @@ look : (g : Grammar) → HasWordNames g → (l : Look) → IsLookBelow (length g
 look g h (Token z) known = token g h z known
 look g h End known = ((λ e. cc), plain (codes "#") refl)
 
--- Lines.
+-- Productions and items are written in the form that the file has (`IsRawProduction`, `IsRawItem`).
 
 production : (g : Grammar) → HasWordNames g → (p : Production) → IsProductionBelow (length g.tokens) (length g.nonterminals) p → IsRawProduction (raw_production g p) × IsLine (production_line (raw_production g p))
 production g h p known =
@@ -177,7 +177,7 @@ module _ (g : Grammar) (h : HasWordNames g) (range : IsInRange (plain_of g)) whe
               (recursion-append IsLine (map edge_line (map (raw_edge g) edges)) (cells_lines (raw_cells g (state_at t s))) on.1 acts.1),
         )
 
-    -- All states.
+    -- If each state is legible, the lines of all states are lines of a file.
 
     all_states : (ks : List Kernel) (rows : List (List Edge)) (parts : List StateParts) → ((i : ℕ) → i < length parts → Legible (raw_state_of g (get_or ks i no_kernel) (get_or rows i []) (get_or parts i no_state))) →
         length rows ≡ length ks → length parts ≡ length ks → AllByRecursion Legible (raw_states g ks rows parts)

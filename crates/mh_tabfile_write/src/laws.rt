@@ -1,4 +1,4 @@
-//! The law of writing table files, as a call without effect whose contract other crates can use.
+//! The law of writing table files, as a function that does nothing and whose contract states the law.
 ghost use Rattle.mh_report.specs.Fitting.{HasTable};
 ghost use Rattle.mh_tabfile_form.specs.Form.{table_text, IsFileOf};
 ghost use Rattle.mh_tabfile_form.specs.TableContent.{HasWordNames, raw_of};

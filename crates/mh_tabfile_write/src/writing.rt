@@ -381,7 +381,8 @@ fn write_states<const W: usize>(
 }
 
 /// Returns the table file, in version 2, of a grammar's automaton and table. The table must be the one that the states
-/// of the automaton resolve to in this mode. Fails only if memory runs out.
+/// of the automaton resolve to; `mode` is the kind of the automaton, merged or canonical. Fails only if memory runs
+/// out.
 pub fn write_tables<const W: usize>(
     alloc: Global,
     grammar: &Grammar,

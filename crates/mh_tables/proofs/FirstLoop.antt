@@ -17,12 +17,12 @@ use Rattle.mh_tables_core.specs.Facts.{Facts}
 use Rattle.mh_tables_core.specs.Run.{reductions}
 use Rattle.mh_grammar.proofs.EdgeOrder.{edge_found}
 use Rattle.mh_tables_core.proofs.Reductions.{reductions_none, reductions_split, reductions_before}
-use Rattle.mh_tables_core.specs.Halting.{IsBeginning, IsLook, RunLoops, NeverLoops, IsOptionBefore, LoopsAt, AlwaysHalts, look_list, beginning}
+use Rattle.mh_tables_core.specs.Halting.{IsBeginning, IsLook, RunLoops, NeverLoops, IsOptionBefore, IsFirstLoop, AlwaysHalts, look_list, beginning}
 use Rattle.mh_tables_core.proofs.SymbolsInRange.{edge_source}
 use Rattle.mh_tables.specs.code.Relative.{IsFirstLoopingLook, IsFirstLoopingState, NoneLoopsAbove, AddsTarget, AreTargets, NoneLoops}
 
 pub first_look_is : (t : TableData) (below : Option ℕ) (s z : ℕ) → z < t.grammar.tokens → (RunLoops t below s None → ⊥) → ((y : ℕ) → y < z → RunLoops t below s (Some y) → ⊥) → RunLoops t below s (Some z) → IsFirstLoopingLook t below s (Some z)
-first_look_is t below s z lt none tokens loops = record { known = lt; loops = loops; no_look = earlier }
+first_look_is t below s z lt none tokens loops = record { known = lt; loops = loops; no_earlier_look = earlier }
   where
     earlier : (look' : Option ℕ) → IsOptionBefore look' (Some z) → IsLook t look' → RunLoops t below s look' → ⊥
     earlier None b l h = none h
@@ -35,18 +35,18 @@ pub never_loops : (t : TableData) (below : Option ℕ) (s z : ℕ) → t.grammar
 never_loops t below s z le none tokens None l h = none h
 never_loops t below s z le none tokens (Some y) l h = tokens y (omega (arith, l)) h
 
--- The list has an edge to the state u, at some index.
-abbrev pub FoundAt : List Edge → ℕ → Type 0
-FoundAt es u = (k : ℕ) × (e : Edge) × (k < length es) × (slice_get es k ≡ Some e) × (e.target ≡ u)
+-- The list has an edge to the state u.
+abbrev pub HasEdgeTo : List Edge → ℕ → Type 0
+HasEdgeTo es u = (k : ℕ) × (e : Edge) × (k < length es) × (slice_get es k ≡ Some e) × (e.target ≡ u)
 
-here_or : (e : Edge) (es : List Edge) (x : Symbol) (u : ℕ) (b : Bool) → cond b (Some e.target) (find_edge es x) ≡ Some u → (find_edge es x ≡ Some u → FoundAt es u) → FoundAt (e ∷ es) u
+here_or : (e : Edge) (es : List Edge) (x : Symbol) (u : ℕ) (b : Bool) → cond b (Some e.target) (find_edge es x) ≡ Some u → (find_edge es x ≡ Some u → HasEdgeTo es u) → HasEdgeTo (e ∷ es) u
 here_or e es x u true h rest = (0, e, omega arith, refl, cc)
 here_or e es x u false h rest = let r = rest h in (suc r.0, r.1, (let l = r.2 in omega arith), r.3, r.4)
 
--- An edge that is found is in the list.
-pub found_at : (es : List Edge) (x : Symbol) (u : ℕ) → find_edge es x ≡ Some u → FoundAt es u
-found_at [] x u h = cc
-found_at (e ∷ es) x u h = here_or e es x u (same_symbol e.symbol x) h (found_at es x u)
+-- If an edge on the symbol x is found and leads to u, the list has an edge to u.
+pub HasEdgeTo-found : (es : List Edge) (x : Symbol) (u : ℕ) → find_edge es x ≡ Some u → HasEdgeTo es u
+HasEdgeTo-found [] x u h = cc
+HasEdgeTo-found (e ∷ es) x u h = here_or e es x u (same_symbol e.symbol x) h (HasEdgeTo-found es x u)
 
 -- An edge in the list of a state's edges is the edge of the state on its symbol.
 pub edge_is : (t : TableData) (f : Facts t) (r : ℕ) (es : List Edge) (k : ℕ) (e : Edge) → es ≡ (state_at t r).edges → slice_get es k ≡ Some e → edge_of t r e.symbol ≡ Some e.target
@@ -69,7 +69,7 @@ targets_are t f r n es added targets is past each all moved sorted =
     record {
       each = begins;
       all = λ u b. (
-          let found = found_at es b.0 u (rw is b.1) in
+          let found = HasEdgeTo-found es b.0 u (rw is b.1) in
           let inside = found.2 in
           elim (all found.0 found.1 (omega arith) found.3) [
             | inl there ↦ inl (Contains-permutation added targets u moved (rw found.4 at there))
@@ -91,18 +91,19 @@ targets_more t r n es old new e at adds before k d l is = elim (cases_eq k n) [
 ]
 
 pub first_looping_alone : (t : TableData) (s : ℕ) (look : Option ℕ) → s < length t.grammar.starts → ((s' : ℕ) → s' < s → NeverLoops t None s') → IsFirstLoopingLook t None s look → IsFirstLoopingState t None s look
-first_looping_alone t s look lt before found = record { begins = lt; first = found; no_state = λ s' l b. before s' l }
+first_looping_alone t s look lt before found = record { begins = lt; first = found; no_earlier_state = λ s' l b. before s' l }
 
 pub none_loops_alone_more : (t : TableData) (s : ℕ) → ((s' : ℕ) → s' < s → NeverLoops t None s') → NeverLoops t None s → (s' : ℕ) → s' < s + 1 → NeverLoops t None s'
 none_loops_alone_more t s before here = below_more (λ k. NeverLoops t None k) s before here
 
--- The first target above which a relative run loops.
+-- If the target s at index i begins a relative run above r that loops, and no target before i does, then s is the first
+-- state that does.
 pub first_looping_above : (t : TableData) (r : ℕ) (targets : List ℕ) (i s : ℕ) (look : Option ℕ) → AreTargets t r targets → i < length targets → s ≡ get_or targets i 0 → ((k : ℕ) → k < i → NeverLoops t (Some r) (get_or targets k 0))
     → IsFirstLoopingLook t (Some r) s look → IsFirstLoopingState t (Some r) s look
 first_looping_above t r targets i s look h lt is before found = record {
   begins = rw is (h.each i 0 lt);
   first = found;
-  no_state = earlier;
+  no_earlier_state = earlier;
 }
   where
     earlier : (s' : ℕ) → s' < s → IsBeginning t (Some r) s' → NeverLoops t (Some r) s'
@@ -129,28 +130,28 @@ none_loops_above_all t r targets i h le before s b =
       | inr clear ↦ clear
     ]
 
-pub loops_alone : (t : TableData) (s : ℕ) (look : Option ℕ) → IsFirstLoopingState t None s look → LoopsAt t None s look
+pub loops_alone : (t : TableData) (s : ℕ) (look : Option ℕ) → IsFirstLoopingState t None s look → IsFirstLoop t None s look
 loops_alone t s look h = record {
   begins = h.begins;
   known = h.first.known;
   loops = h.first.loops;
   no_lower = none_lower;
-  no_state = h.no_state;
-  no_look = h.first.no_look;
+  no_earlier_state = h.no_earlier_state;
+  no_earlier_look = h.first.no_earlier_look;
 }
   where
     none_lower : (b : Option ℕ) (s' : ℕ) → IsOptionBefore b None → IsBeginning t b s' → NeverLoops t b s'
     none_lower None s' before begins = absurd before
     none_lower (Some r) s' before begins = absurd before
 
-pub loops_above : (t : TableData) (r s : ℕ) (look : Option ℕ) → NoneLoopsAbove t None → ((r' : ℕ) → r' < r → NoneLoopsAbove t (Some r')) → IsFirstLoopingState t (Some r) s look → LoopsAt t (Some r) s look
+pub loops_above : (t : TableData) (r s : ℕ) (look : Option ℕ) → NoneLoopsAbove t None → ((r' : ℕ) → r' < r → NoneLoopsAbove t (Some r')) → IsFirstLoopingState t (Some r) s look → IsFirstLoop t (Some r) s look
 loops_above t r s look alone lower h = record {
   begins = h.begins;
   known = h.first.known;
   loops = h.first.loops;
   no_lower = clear_lower;
-  no_state = h.no_state;
-  no_look = h.first.no_look;
+  no_earlier_state = h.no_earlier_state;
+  no_earlier_look = h.first.no_earlier_look;
 }
   where
     clear_lower : (b : Option ℕ) (s' : ℕ) → IsOptionBefore b (Some r) → IsBeginning t b s' → NeverLoops t b s'
@@ -179,5 +180,5 @@ halts_if_none_loops t none below s look n begins known made =
     elim (cases_lt n 10001) [ inl lt ↦ omega arith | inr le ↦ absurd (none below s begins look known (makes_fewer t (look_list look) 10001 n (beginning below s) made.0 le made.1)) ]
 
 -- A table with a relative run that loops does not pass the halting test.
-pub not_halting_if_loops : (t : TableData) (below : Option ℕ) (s : ℕ) (look : Option ℕ) → LoopsAt t below s look → AlwaysHalts t → ⊥
+pub not_halting_if_loops : (t : TableData) (below : Option ℕ) (s : ℕ) (look : Option ℕ) → IsFirstLoop t below s look → AlwaysHalts t → ⊥
 not_halting_if_loops t below s look h halts = let few : 10001 ≤ 10000 = halts below s look 10001 h.begins h.known h.loops in omega arith

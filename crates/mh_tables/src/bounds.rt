@@ -1,9 +1,10 @@
-//! Upper bounds on the reductions of relative runs above an edge, computed once for each symbol instead of once for
-//! each edge. At first such a run makes the reductions of its upper state alone, which are the same above every lower
-//! state. If the next reduction removes exactly the states above the lower one, the run continues above the edge of the
-//! lower state on the left side: a passage from the symbol of the first edge to this left side. So a bound for one
-//! symbol follows from the bounds of other symbols. If the graph of the passages has no cycle, no run above an edge has
-//! to be tried.
+//! Upper bounds on the reductions of relative runs above an edge. Such a run begins with the target of the edge (the
+//! upper state) above the source of the edge (the lower state). The bounds are computed once for each symbol instead of
+//! once for each edge. At first a run makes the reductions of its upper state alone, which are the same above every
+//! lower state. If the next reduction removes exactly the states above the lower one, the run continues above the edge
+//! of the lower state on the left side: a passage from the symbol of the first edge to this left side. So a bound for
+//! one symbol follows from the bounds of other symbols. If the graph of the passages has no cycle, no run above an edge
+//! has to be tried.
 ghost use Rattle.std.specs.Prelude.{◌≡◌, ◌<◌, ◌≤◌, ◌+◌, ℕ, true, false, length, vec_len, slice_index, All, Contains, IfOk, OnOk};
 ghost use Rattle.mh_grammar.specs.Plain.{production_count, rhs_of, IsSymbolBelow};
 ghost use Rattle.mh_tables_core.specs.Halting.{IsLook, look_list};

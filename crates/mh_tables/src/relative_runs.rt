@@ -6,7 +6,7 @@ ghost use Rattle.mh_grammar.specs.Plain.{production_count, rhs_of};
 ghost use Rattle.mh_tables_core.specs.Table.{TableData, state_at, cell_of, edge_of};
 ghost use Rattle.mh_tables_core.specs.Run.{top_of as top};
 ghost use Rattle.mh_tables_core.specs.Halting.{IsLook, look_list, IsBeginning, beginning};
-ghost use Rattle.mh_tables.specs.code.Relative.{IsReduceOnceResult, ReducesNext, StackReduced, IsReducedWithinResult, LoopsOrStops, LoopsOrNot, StopsWithoutDefault, LookFound, TokenFound, StateFound, AddsTarget, AreTargets, TestFound};
+ghost use Rattle.mh_tables.specs.code.Relative.{IsReduceOnceResult, ReducesNext, StackReduced, IsReducedWithinResult, LoopsOrStops, LoopsOrNot, StopsWithoutDefault, LookFound, TokenFound, StateFound, AddsTarget, AreTargets, IsTestResult};
 ghost use Rattle.mh_tables.specs.code.Passages.{symbol_count, BoundsProveHalting};
 ghost use Rattle.mh_tables_core.specs.Limits.{max_reductions};
 
@@ -21,7 +21,7 @@ use std::alloc::{AllocError, Global};
 pub(crate) struct RelativeRun {
     /// The lower state, if there is one.
     pub below: Option<u32>,
-    /// The upper state, or a start state alone.
+    /// The state above the lower state, or a start state alone.
     pub state: u32,
     /// The next token, if there is one.
     pub token: Option<Token>,
@@ -248,8 +248,8 @@ fn first_start(table: &Table, stack: &mut Vec<u32>) -> Result<Option<RelativeRun
     Ok(None)
 }
 
-/// Appends the target of an edge of state `from`, unless the bound of its symbol shows that no relative run above the
-/// edge makes more than `MAX_REDUCTIONS` reductions.
+/// Appends the target of an edge of state `from`, unless the bound of the edge's symbol shows that no relative run that
+/// begins with the target above `from` makes more than `MAX_REDUCTIONS` reductions.
 fn add_target(
     table: &Table,
     bounds: &[u32],
@@ -270,7 +270,7 @@ fn add_target(
     Ok(())
 }
 
-/// The targets of the edges of a state above which relative runs have to be tried, in the order of states.
+/// The targets of edges of a state with which relative runs above the state have to be tried, in the order of states.
 fn targets_of(
     alloc: Global,
     table: &Table,
@@ -343,7 +343,7 @@ fn first_by(
 ) -> Result<Option<RelativeRun>, AllocError>
     requires bounds { length bounds.now ≡ symbol_count table.now }
     requires settled { BoundsProveHalting table.now bounds.now }
-    ensures { IfOk result (λ found. TestFound table.now found) }
+    ensures { IfOk result (λ found. IsTestResult table.now found) }
 {
     table.facts();
     if let Some(found) = first_start(table, stack)? {
@@ -359,7 +359,7 @@ fn first_by(
 
 /// The first relative run, in order, that makes more than `MAX_REDUCTIONS` reductions.
 pub(crate) fn first_loop(alloc: Global, table: &Table) -> Result<Option<RelativeRun>, AllocError>
-    ensures { IfOk result (λ found. TestFound table.now found) }
+    ensures { IfOk result (λ found. IsTestResult table.now found) }
 {
     let mut stack = Vec::new(alloc);
     let bounds = bounds_of(alloc, table, &mut stack)?;

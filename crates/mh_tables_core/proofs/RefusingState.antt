@@ -44,5 +44,5 @@ module _ (t : TableData) where
       rw top (IsRunStack-in_range t f r.stack r.run (length r.stack - 1) (omega arith))
 
   -- A state that refuses a token is a state of the table.
-  pub state_refused : Facts t → (start : ℕ) (w : List ℕ) (at s : ℕ) → start < length t.grammar.starts → VerdictOf t start w (Rejected at s) → s < length t.states
-  state_refused f start w at s lt is = last_known f s (reached f start w at s lt is)
+  pub refusing_state_known : Facts t → (start : ℕ) (w : List ℕ) (at s : ℕ) → start < length t.grammar.starts → VerdictOf t start w (Rejected at s) → s < length t.states
+  refusing_state_known f start w at s lt is = last_known f s (reached f start w at s lt is)

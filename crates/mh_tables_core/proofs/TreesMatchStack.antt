@@ -1,4 +1,4 @@
--- Proves that the trees on the stack of a run spell the right side that a reduction takes off.
+-- Proves that the trees on the stack of a run are trees for the symbols of the right side that a reduction takes off.
 use Rattle.std.proofs.Common.{◌≡◌, ℕ, zero, suc, ◌+◌, ◌-◌, ◌<◌, ◌≤◌, inl, inr, List, [], ◌∷◌, ◌++◌, length, take, drop, get_or, Some, refl, ap, sym, subst, arith, ◌∙◌, length-append, length-drop, append_assoc, append-nil}
 use Rattle.std.proofs.lemmas.Bool.{cases_lt}
 use Rattle.std.proofs.lemmas.List.{get_or-take, get_or-drop, length-take-le, take-append-drop}
@@ -18,26 +18,27 @@ use Rattle.mh_grammar.specs.Trees.{SyntaxTree, Leaf, Node, IsTreeFor, IsForestFo
 use Rattle.mh_tables_core.specs.RunTrees.{TreesMatchStack, yields, TreesMatchRun, trees_after_move, trees_after}
 use Rattle.mh_tables_core.proofs.IsPath.{top_of_take, finds_states_and_edge, reduce_is}
 
--- The tree at an index below k is a tree for the symbol at this index of the right side.
-abbrev pub Spelled : TableData → List SyntaxTree → ℕ → ℕ → ℕ → Type 0
-Spelled t trees p d k = (d ≤ k) × ((j : ℕ) → j < d → (x : Symbol) × (slice_get (rhs_of t.grammar p) j ≡ Some x) × IsTreeFor t.grammar x (get_or trees (k - d + j) (Leaf 0)))
+-- The d trees before index k are trees for the first d symbols of the right side of production p.
+abbrev pub TreesMatchRightSide : (t : TableData) (trees : List SyntaxTree) (p d k : ℕ) → Type 0
+TreesMatchRightSide t trees p d k = (d ≤ k) × ((j : ℕ) → j < d → (x : Symbol) × (slice_get (rhs_of t.grammar p) j ≡ Some x) × IsTreeFor t.grammar x (get_or trees (k - d + j) (Leaf 0)))
 
-last_spelled : (t : TableData) (trees : List SyntaxTree) (p d k j : ℕ) (x : Symbol) → d ≤ k → j ≡ d → slice_get (rhs_of t.grammar p) (suc d - 1) ≡ Some x → IsTreeFor t.grammar x (get_or trees k (Leaf 0))
+last_tree_matches : (t : TableData) (trees : List SyntaxTree) (p d k j : ℕ) (x : Symbol) → d ≤ k → j ≡ d → slice_get (rhs_of t.grammar p) (suc d - 1) ≡ Some x → IsTreeFor t.grammar x (get_or trees k (Leaf 0))
     → (y : Symbol) × (slice_get (rhs_of t.grammar p) j ≡ Some y) × IsTreeFor t.grammar y (get_or trees (suc k - suc d + j) (Leaf 0))
-last_spelled t trees p d k j x le e s tree =
+last_tree_matches t trees p d k j x le e s tree =
     let place : suc k - suc d + j ≡ k = omega arith in
     let dot : suc d - 1 ≡ j = omega arith in
     (x, rw dot at s, rw place tree)
 
-pub spelled : (t : TableData) (f : Facts t) (stack : List ℕ) (trees : List SyntaxTree) (g : TreesMatchStack t stack trees) (p d k : ℕ) → length t.grammar.starts ≤ p → k ≤ length trees → InCore t (get_or stack k 0) p d → Spelled t trees p d k
-spelled t f stack trees g p zero k ordinary inside there = (omega arith, λ j lt. absurd (omega arith))
-spelled t f stack trees g p (suc d) zero ordinary inside there = absurd (omega (arith, (f.start_core (get_or stack 0 0) p (suc d) g.start there).1))
-spelled t f stack trees g p (suc d) (suc k) ordinary inside there =
+-- If the state at index k of the stack has the item of production p with the dot at d, the trees match up to the dot.
+pub trees_match_right_side : (t : TableData) (f : Facts t) (stack : List ℕ) (trees : List SyntaxTree) (g : TreesMatchStack t stack trees) (p d k : ℕ) → length t.grammar.starts ≤ p → k ≤ length trees → InCore t (get_or stack k 0) p d → TreesMatchRightSide t trees p d k
+trees_match_right_side t f stack trees g p zero k ordinary inside there = (omega arith, λ j lt. absurd (omega arith))
+trees_match_right_side t f stack trees g p (suc d) zero ordinary inside there = absurd (omega (arith, (f.start_core (get_or stack 0 0) p (suc d) g.start there).1))
+trees_match_right_side t f stack trees g p (suc d) (suc k) ordinary inside there =
     let edge = g.each k (omega arith) in
     let back = f.moved_from (get_or stack k 0) edge.0 (get_or stack (k + 1) 0) p (suc d) edge.1 (let e : k + 1 ≡ suc k = omega arith in rw e there) in
     elim back.source [
       | inl before ↦ (
-          let rest = spelled t f stack trees g p d k ordinary (omega arith) (let e : suc d - 1 ≡ d = omega arith in rw e at before) in
+          let rest = trees_match_right_side t f stack trees g p d k ordinary (omega arith) (let e : suc d - 1 ≡ d = omega arith in rw e at before) in
           let le : d ≤ k = rest.0 in (
             omega arith,
             λ j lt.
@@ -46,10 +47,10 @@ spelled t f stack trees g p (suc d) (suc k) ordinary inside there =
                       let r = rest.1 j less in
                       let e : suc k - suc d + j ≡ k - d + j = omega arith in
                       (r.0, r.1, rw e r.2))
-                  | inr more ↦ last_spelled t trees p d k j edge.0 le (omega arith) back.symbol edge.2
+                  | inr more ↦ last_tree_matches t trees p d k j edge.0 le (omega arith) back.symbol edge.2
                 ],
           ))
-      | inr first ↦ (omega (arith, first.0), λ j lt. last_spelled t trees p d k j edge.0 (omega (arith, first.0)) (omega (arith, first.0)) back.symbol edge.2)
+      | inr first ↦ (omega (arith, first.0), λ j lt. last_tree_matches t trees p d k j edge.0 (omega (arith, first.0)) (omega (arith, first.0)) back.symbol edge.2)
     ]
 
 -- Trees for the symbols of a list, one by one, are a forest for the list.
@@ -67,7 +68,7 @@ forest_from t (x ∷ xs) (tree ∷ trees) e h =
 pub reduced_forest : (t : TableData) (f : Facts t) (stack : List ℕ) (trees : List SyntaxTree) (g : TreesMatchStack t stack trees) (p : ℕ) → length t.grammar.starts ≤ p → InCore t (get_or stack (length trees) 0) p (length (rhs_of t.grammar p))
     → IsForestFor t.grammar (rhs_of t.grammar p) (forest_of (drop (length trees - length (rhs_of t.grammar p)) trees))
 reduced_forest t f stack trees g p ordinary there =
-    let all = spelled t f stack trees g p (length (rhs_of t.grammar p)) (length trees) ordinary (omega arith) there in
+    let all = trees_match_right_side t f stack trees g p (length (rhs_of t.grammar p)) (length trees) ordinary (omega arith) there in
     let le : length (rhs_of t.grammar p) ≤ length trees = all.0 in
     forest_from t (rhs_of t.grammar p) (drop (length trees - length (rhs_of t.grammar p)) trees) (rw length-drop (omega arith))
     (λ j lt. let r = all.1 j lt in (r.0, r.1, rw (get_or-drop (length trees - length (rhs_of t.grammar p)) trees j (Leaf 0)) r.2))

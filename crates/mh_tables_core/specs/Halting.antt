@@ -55,12 +55,12 @@ IsOptionBefore None (Some b) = Unit {0}
 IsOptionBefore (Some a) None = ⊥
 IsOptionBefore (Some a) (Some b) = a < b
 
--- The first relative run that makes more than `max_reductions` reductions: start states alone come first, then edges by
--- their source and then by their target; with no token first, then with the tokens rising.
-pub record LoopsAt (t : TableData) (below : Option ℕ) (s : ℕ) (look : Option ℕ) : Type 0 where
+-- This relative run is the first that loops. Start states alone come first, and then edges by their source and their
+-- target. From the same beginning, the run without a next token comes first, and then those with rising tokens.
+pub record IsFirstLoop (t : TableData) (below : Option ℕ) (s : ℕ) (look : Option ℕ) : Type 0 where
   pub begins : IsBeginning t below s
   pub known : IsLook t look
   pub loops : RunLoops t below s look
   pub no_lower : (b : Option ℕ) (s' : ℕ) → IsOptionBefore b below → IsBeginning t b s' → NeverLoops t b s'
-  pub no_state : (s' : ℕ) → s' < s → IsBeginning t below s' → NeverLoops t below s'
-  pub no_look : (look' : Option ℕ) → IsOptionBefore look' look → IsLook t look' → RunLoops t below s look' → ⊥
+  pub no_earlier_state : (s' : ℕ) → s' < s → IsBeginning t below s' → NeverLoops t below s'
+  pub no_earlier_look : (look' : Option ℕ) → IsOptionBefore look' look → IsLook t look' → RunLoops t below s look' → ⊥

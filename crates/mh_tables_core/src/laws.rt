@@ -1,7 +1,7 @@
 //! Laws of runs, as functions with empty bodies whose contracts state the laws.
 ghost use Rattle.std.specs.Prelude.{◌≡◌, ◌<◌, ◌+◌, ◌++◌, ◌⊎◌, List, ℕ, [], Option, length, take};
 ghost use Rattle.mh_tables_core.specs.Failing.{SentenceAtMost, CatalogueRow, Catalogue};
-ghost use Rattle.mh_tables_core.specs.Halting.{LoopsAt};
+ghost use Rattle.mh_tables_core.specs.Halting.{IsFirstLoop};
 ghost use Rattle.mh_tables_core.specs.Run.{VerdictOf, Ending, Rejected, after, initial};
 ghost use Rattle.mh_tables_core.specs.RunTrees.{TreesMatchRun, trees_after};
 ghost use Rattle.mh_tables_core.specs.TreeRuns.{TreeEnding, IsTreeEnding};
@@ -41,7 +41,7 @@ impl Table {
 
     /// Law: at most one relative run is the first that makes more than `MAX_REDUCTIONS` reductions.
     pub fn one_loop(&self)
-        ensures { (below : Option ℕ) (s : ℕ) (look below' : Option ℕ) (s' : ℕ) (look' : Option ℕ) → LoopsAt self.now below s look → LoopsAt self.now below' s' look' → (below ≡ below') × (s ≡ s') × (look ≡ look') }
+        ensures { (below : Option ℕ) (s : ℕ) (look below' : Option ℕ) (s' : ℕ) (look' : Option ℕ) → IsFirstLoop self.now below s look → IsFirstLoop self.now below' s' look' → (below ≡ below') × (s ≡ s') × (look ≡ look') }
     {}
 
     /// Law: the order of sentences is total and antisymmetric.

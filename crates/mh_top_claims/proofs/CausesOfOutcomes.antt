@@ -54,7 +54,7 @@ abbrev IsRefusal : Cause → Type 0
 IsRefusal (Refused line) = ⊤
 IsRefusal _ = ⊥
 
--- ---- Before the warnings.
+-- ---- A cause with which the work ends before the warnings is explained.
 
 module _ (words : List Text) (files : Option Files) where
   -- The explanation of a cause: the words are misused, or the next file to read is absent or too long.
@@ -112,7 +112,8 @@ module _ (words : List Text) (files : Option Files) where
     of_grammar modules (Go g) stage cause same = absurd (cc)
     of_grammar modules (Halt cause') stage cause same = let one : cause' ≡ cause = cc in subst Accounts one (refused_so cause' _ stage.2)
 
-    -- The causes of the modules of an order, by its sample or its files.
+    -- If reading the modules of an order, from its sample or its files, stops the work, the cause is explained
+    -- (`Accounts`).
     by_sample : (sample : Option ℕ) → ((name : Text) → IsNextFile files IsModule (names_to_read sample order.grammars) name → IsNextFile files IsModule (grammar_files order) name) → (cause : Cause) → AreModulesBy sample files order.grammars (Halt cause) → Accounts cause
     by_sample None turn cause are = of_files order.grammars turn cause are
     by_sample (Some number) turn cause are = at are.0 are.1 are.2
@@ -142,7 +143,7 @@ module _ (words : List Text) (files : Option Files) where
   of_table front source (Go tabled) stage cause same = absurd (cc)
   of_table front source (Halt cause') stage cause same = let one : cause' ≡ cause = cc in subst Accounts one (of_automaton source front.grammar stage.0 stage.1 cause' stage.2)
 
-  -- The causes of the table file.
+  -- If the table file stops the work, the cause is explained (`Accounts`).
   of_tables_found : (name : Text) → IsTableFileNext words files name → (what : FileFound) → IsFound files name what → (cause : Cause) → Halt cause ≡ loaded name what → Accounts cause
   of_tables_found name turn NoFile is cause from = let same : Missing name ≡ cause = cc in subst Accounts same ([], name, OfTables turn refl, is)
   of_tables_found name turn Long is cause from = let same : LongFile name ≡ cause = cc in subst Accounts same ([], name, OfTables turn refl, is)
@@ -174,7 +175,7 @@ module _ (words : List Text) (files : Option Files) where
       at (Go front) here rest = of_source front here rest.0 rest.1 cause rest.2
       at (Halt cause') here same = let one : cause' ≡ cause = cc in subst Accounts one (of_front cause' here)
 
-  -- ---- After the warnings.
+  -- ---- A cause with which the work ends after the warnings is explained.
 
   of_mode : (p : Prepared) (name : Text) (what : FileFound) (cause : Cause) → IsPrepared words files (Go p) → IsNextAfterWarnings files p name → IsFound files name what → loaded name what ≡ Halt cause → Accounts cause
   of_mode p name NoFile cause prepared turn found halt = let same : Missing name ≡ cause = cc in subst Accounts same (warnings_of p, name, OfMode p prepared turn refl, found)

@@ -24,7 +24,7 @@ use Rattle.mh_top_claims.specs.Run as runs
 use Rattle.mh_top_types.specs.Shapes.{Prepared}
 use Rattle.mh_top_claims.specs.Work.{Work, IsPlanUnlessRefused, IsWork, IsWorkOf}
 use Rattle.mh_top_warnings.specs.Warnings.{has_warning, warnings_of}
-use Rattle.mh_top_claims.proofs.Claims.{completes}
+use Rattle.mh_top_claims.proofs.Claims.{does_work_without_fault}
 use Rattle.mh_top_claims.proofs.FinalOutputOutcome.{yields_end}
 use Rattle.mh_top_claims.proofs.PreparedUnique.{prepared_once}
 
@@ -76,7 +76,7 @@ module _ (words : List Text) (files : Files) (p : Prepared) (name bytes : Text) 
 
 module _ (words : List Text) (b a : World) (status : ℕ) where
   pub checks_exactly : runs.Ran words b a status → ChecksErrorsExactly words b a status
-  checks_exactly ran calm files known p name bytes blocks asks = or (completes words b a status ran calm)
+  checks_exactly ran calm files known p name bytes blocks asks = or (does_work_without_fault words b a status ran calm)
     where
       or : (status ≡ 6) ⊎ DoesWork words b a status → (status ≡ 6) ⊎ CheckedErrorsOutcome p name bytes blocks b a status
       or (inl six) = inl six

@@ -1,4 +1,5 @@
--- The end of examining a messages file is unique: either the lines, or the refusal of one state.
+-- Proves that the end of examining a messages file is unique: the end is either the lines, or a refusal that names one
+-- state.
 use Rattle.std.proofs.Common.{◌≡◌, ℕ, List, [], ◌∷◌, Option, None, Some, sym, ◌∙◌, ap, subst}
 use Rattle.mh_grammar.specs.declared.types.Grammar.{Grammar}
 use Rattle.mh_grammar.specs.Text.{Text}
@@ -30,6 +31,6 @@ module _ (g : Grammar) (t : TableData) (name : Text) (blocks : LooseBlocks) (All
   of_lines [] = none
   of_lines (byte ∷ bytes) = may_refuse []
 
-  pub checked_right : (c : Option Cause) (x : Text) → ChecksErrors g t name blocks c x → Allowed c
-  checked_right c x (Checks never cause is) = subst Allowed (sym cause) (of_lines x)
-  checked_right c x (TooLong s long cause out) = subst Allowed (sym cause) (may_refuse (too_long s))
+  pub checked_cause_allowed : (c : Option Cause) (x : Text) → ChecksErrors g t name blocks c x → Allowed c
+  checked_cause_allowed c x (Checks never cause is) = subst Allowed (sym cause) (of_lines x)
+  checked_cause_allowed c x (TooLong s long cause out) = subst Allowed (sym cause) (may_refuse (too_long s))

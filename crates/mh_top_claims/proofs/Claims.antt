@@ -1,4 +1,4 @@
--- Proves the claims on the top call from the definition of a run.
+-- Proves the claims on a call of the whole program (`MeetsClaims`) from the definition of a run (`Ran`).
 use Rattle.std.proofs.Common.{◌≡◌, ◌⊎◌, inl, inr, ℕ, Bool, true, false, List, [], ◌++◌, Option, None, Some, refl, sym, ◌∙◌, ap, subst, arith}
 use Rattle.std.proofs.lemmas.List.{append-nil}
 use Rattle.std.proofs.KnownBytes.{Appends-nil}
@@ -44,7 +44,7 @@ four_not (Some (Missing name)) is = absurd (omega arith)
 four_not (Some (LongFile name)) is = absurd (omega arith)
 four_not (Some LongInput) is = absurd (omega arith)
 
--- ---- Work that was done.
+-- ---- What the status and the input say of the cause with which the work ended.
 
 module _ (words : List Text) (files : Option Files) (w : Work) (input : Option Text) where
   misuse_cause : (cause : Option Cause) → AccountsOn words files w input cause → status_of cause ≡ 2 → (line : Text) × (staged_order words ≡ Halt (Misused line)) × (cause ≡ Some (Misused line))
@@ -162,23 +162,25 @@ module _ (words : List Text) (b a : World) (status : ℕ) where
   abbrev Run : Type 0
   Run = Ran words b a status
 
-  pub completes : Run → Completes words b a status
-  completes (Finished quiet does) calm = inr does
-  completes (CannotReadFile is rose could front name due still at) calm = absurd (not_both_risen b.shelf_faults a.shelf_faults calm.shelf rose)
-  completes (CannotReadInput is rose could h) calm = absurd (not_both_risen b.input_faults a.input_faults calm.input rose)
-  completes (CannotWarn is rose cut) calm = absurd (not_both_risen b.err_faults a.err_faults calm.err rose)
-  completes (CannotWrite is rose input err h) calm = absurd (not_both_risen b.out_faults a.out_faults calm.out rose)
-  completes (CannotSay is out rose says) calm = absurd (not_both_risen b.err_faults a.err_faults calm.err rose)
-  completes (NoMemory is could input done) calm = inl is
+  -- If no device had a fault, the call does the work, unless memory runs out.
+  pub does_work_without_fault : Run → Completes words b a status
+  does_work_without_fault (Finished quiet does) calm = inr does
+  does_work_without_fault (CannotReadFile is rose could front name due still at) calm = absurd (not_both_risen b.shelf_faults a.shelf_faults calm.shelf rose)
+  does_work_without_fault (CannotReadInput is rose could h) calm = absurd (not_both_risen b.input_faults a.input_faults calm.input rose)
+  does_work_without_fault (CannotWarn is rose cut) calm = absurd (not_both_risen b.err_faults a.err_faults calm.err rose)
+  does_work_without_fault (CannotWrite is rose input err h) calm = absurd (not_both_risen b.out_faults a.out_faults calm.out rose)
+  does_work_without_fault (CannotSay is out rose says) calm = absurd (not_both_risen b.err_faults a.err_faults calm.err rose)
+  does_work_without_fault (NoMemory is could input done) calm = inl is
 
-  pub finishes : Run → Finishes words b a status
-  finishes (Finished quiet does) done = (quiet, does)
-  finishes (CannotReadFile is rose could front name due still at) done = absurd (not_done status 3 is (inl refl) done)
-  finishes (CannotReadInput is rose could h) done = absurd (not_done status 3 is (inl refl) done)
-  finishes (CannotWarn is rose cut) done = absurd (not_done status 4 is (inr (inl refl)) done)
-  finishes (CannotWrite is rose input err h) done = absurd (not_done status 4 is (inr (inl refl)) done)
-  finishes (CannotSay is out rose says) done = absurd (not_done status 4 is (inr (inl refl)) done)
-  finishes (NoMemory is could input wants) done = absurd (not_done status 6 is (inr (inr refl)) done)
+  -- If the status is 0, 1, 2 or 5, no device had a fault, and the work was done.
+  pub done_if_status_without_fault : Run → Finishes words b a status
+  done_if_status_without_fault (Finished quiet does) done = (quiet, does)
+  done_if_status_without_fault (CannotReadFile is rose could front name due still at) done = absurd (not_done status 3 is (inl refl) done)
+  done_if_status_without_fault (CannotReadInput is rose could h) done = absurd (not_done status 3 is (inl refl) done)
+  done_if_status_without_fault (CannotWarn is rose cut) done = absurd (not_done status 4 is (inr (inl refl)) done)
+  done_if_status_without_fault (CannotWrite is rose input err h) done = absurd (not_done status 4 is (inr (inl refl)) done)
+  done_if_status_without_fault (CannotSay is out rose says) done = absurd (not_done status 4 is (inr (inl refl)) done)
+  done_if_status_without_fault (NoMemory is could input wants) done = absurd (not_done status 6 is (inr (inr refl)) done)
 
   module _ (does : DoesWork words b a status) where
     accounts : AccountsOn words b.files does.work b.left does.outcome.cause
@@ -220,7 +222,7 @@ module _ (words : List Text) (b a : World) (status : ℕ) where
         does.status_is ∙ ap status_of (past_cause does.work.plan input does.outcome yields past.0 past.1)
 
   misuse_claim : Run → MisuseHasCause words b a status
-  misuse_claim ran two = let p = finishes ran (inr (inr (inl two))) in misuse_at p.1 two
+  misuse_claim ran two = let p = done_if_status_without_fault ran (inr (inr (inl two))) in misuse_at p.1 two
 
   read_claim : Run → ReadFaultHasCause words b a status
   read_claim (Finished quiet does) three = inr (inl (absent_at does three))
@@ -232,7 +234,7 @@ module _ (words : List Text) (b a : World) (status : ℕ) where
   read_claim (NoMemory is could input done) three = absurd (omega arith)
 
   absent_claim : Run → AbsentFileIsReported words b a status
-  absent_claim ran calm files told absent = absent_or (completes ran calm)
+  absent_claim ran calm files told absent = absent_or (does_work_without_fault ran calm)
     where
       absent_or : (status ≡ 6) ⊎ DoesWork words b a status → (status ≡ 3) ⊎ (status ≡ 6)
       absent_or (inl six) = inr six
@@ -283,17 +285,17 @@ module _ (words : List Text) (b a : World) (status : ℕ) where
   want_claim (NoMemory is could input done) six = (input, done)
 
   big_claim : Run → TooBigHasCause words b a status
-  big_claim ran five = let p = finishes ran (inr (inr (inr five))) in big_at p.1 five
+  big_claim ran five = let p = done_if_status_without_fault ran (inr (inr (inr five))) in big_at p.1 five
 
   long_file_claim : Run → LongFileIsReported words b a status
-  long_file_claim ran calm files told long = long_or (completes ran calm)
+  long_file_claim ran calm files told long = long_or (does_work_without_fault ran calm)
     where
       long_or : (status ≡ 6) ⊎ DoesWork words b a status → (status ≡ 5) ⊎ (status ≡ 6)
       long_or (inl six) = inr six
       long_or (inr does) = inl (said_long does files told long)
 
   long_input_claim : Run → LongInputIsReported words b a status
-  long_input_claim ran calm input told past = past_or (completes ran calm)
+  long_input_claim ran calm input told past = past_or (does_work_without_fault ran calm)
     where
       past_or : (status ≡ 6) ⊎ DoesWork words b a status → (status ≡ 5) ⊎ (status ≡ 6)
       past_or (inl six) = inr six
@@ -323,10 +325,10 @@ module _ (words : List Text) (b a : World) (status : ℕ) where
   status_claim (CannotSay is out rose says) = inr (inr (inl is))
   status_claim (NoMemory is could input done) = inr (inr (inr is))
 
-  pub keeps : Run → MeetsClaims words b a status
-  keeps ran = record {
-    complete = completes ran;
-    finishes = finishes ran;
+  pub meets_claims : Run → MeetsClaims words b a status
+  meets_claims ran = record {
+    complete = does_work_without_fault ran;
+    finishes = done_if_status_without_fault ran;
     known = status_claim ran;
     misuse = misuse_claim ran;
     read_fault = read_claim ran;

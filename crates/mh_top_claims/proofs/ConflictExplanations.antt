@@ -15,7 +15,7 @@ use Rattle.mh_grammar.specs.Text.{Text}
 use Rattle.mh_top_claims.specs.Work.{IsWork}
 use Rattle.mh_top_warnings.specs.Warnings.{warnings_of}
 use Rattle.mh_top_drive.specs.declared.stop.Cause.{Cause}
-use Rattle.mh_top_claims.proofs.Claims.{completes}
+use Rattle.mh_top_claims.proofs.Claims.{does_work_without_fault}
 use Rattle.mh_top_claims.proofs.FinalOutputOutcome.{yields_end}
 use Rattle.mh_top_claims.proofs.WorkOfJob.{work_is}
 use Rattle.mh_top_claims.proofs.VerdictClaims.{prepared_fit}
@@ -39,7 +39,7 @@ module _ (words : List Text) (b a : World) (status : ℕ) where
       }
 
   pub explains_exactly : runs.Ran words b a status → ExplainsConflictsExactly words b a status
-  explains_exactly ran no_fault files known p asks = or (completes words b a status ran no_fault)
+  explains_exactly ran no_fault files known p asks = or (does_work_without_fault words b a status ran no_fault)
     where
       or : (status ≡ 6) ⊎ DoesWork words b a status → (status ≡ 6) ⊎ ConflictsAreExplained p b a status
       or (inl six) = inl six

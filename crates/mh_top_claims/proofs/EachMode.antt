@@ -42,7 +42,7 @@ use Rattle.mh_top_plans.proofs.FilesOfMode.{ReadFacts, PreparedFacts, StopsAllow
 use Rattle.mh_top_plans.proofs.IsNextFileOfJob.{IsNextOfMode, no_turn, turn_of_named}
 use Rattle.mh_top_claims.proofs.ErrorListUnique.{list_cause_once, list_out_once}
 use Rattle.mh_top_claims.proofs.IsDrawn.{drawn_once}
-use Rattle.mh_top_claims.proofs.ChecksErrors.{checked_cause_once, checked_out_once, checked_right}
+use Rattle.mh_top_claims.proofs.ChecksErrors.{checked_cause_allowed, checked_cause_once, checked_out_once}
 use Rattle.mh_top_claims.proofs.RebasesFile.{rebased_cause_once, rebased_out_once, rebased_right}
 use Rattle.mh_top_claims.proofs.IsExplained.{final_once}
 use Rattle.mh_top_claims.proofs.CountsSample.{counts_cause_once, counts_out_once, counts_right}
@@ -192,7 +192,7 @@ end_facts (Rebased file p) = record {
 end_facts (Checked name blocks p) = record {
   cause = λ x y is so. checked_cause_once p.grammar p.tabled.halting name blocks x.cause y.cause x.out y.out is so;
   out = λ x y is so. checked_out_once p.grammar p.tabled.halting name blocks x.cause y.cause x.out y.out is so;
-  allowed = λ Right may e right is. checked_right p.grammar p.tabled.halting name blocks (IsAllowed Right) may tt e.cause e.out is;
+  allowed = λ Right may e right is. checked_cause_allowed p.grammar p.tabled.halting name blocks (IsAllowed Right) may tt e.cause e.out is;
 }
 end_facts (Sampled number p) = record {
   cause = λ x y is so. counts_cause_once p.grammar p.tabled.halting number x.cause y.cause x.out y.out is so;

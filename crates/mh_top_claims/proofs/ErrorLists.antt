@@ -16,7 +16,7 @@ use Rattle.mh_grammar.specs.Text.{Text}
 use Rattle.mh_top_claims.specs.Work.{IsWork}
 use Rattle.mh_top_warnings.specs.Warnings.{warnings_of}
 use Rattle.mh_top_drive.specs.declared.stop.Cause.{Cause}
-use Rattle.mh_top_claims.proofs.Claims.{completes}
+use Rattle.mh_top_claims.proofs.Claims.{does_work_without_fault}
 use Rattle.mh_top_claims.proofs.FinalOutputOutcome.{yields_end}
 use Rattle.mh_top_claims.proofs.WorkOfJob.{work_is}
 
@@ -37,7 +37,7 @@ module _ (words : List Text) (b a : World) (status : ℕ) where
       listed p b a status does.outcome.cause does.outcome.out list does.status_is does.on_out (subst (λ (t : Text). Appends b.err a.err (t ++ last_line_of does.outcome.cause)) work.0 does.on_err)
 
   pub lists_exactly : runs.Ran words b a status → ListsErrorsExactly words b a status
-  lists_exactly ran calm files told p asks = or (completes words b a status ran calm)
+  lists_exactly ran calm files told p asks = or (does_work_without_fault words b a status ran calm)
     where
       or : (status ≡ 6) ⊎ DoesWork words b a status → (status ≡ 6) ⊎ ErrorListOutcome p b a status
       or (inl six) = inl six

@@ -11,7 +11,7 @@ use Rattle.mh_items_kernels.specs.KernelTypes.{Automaton}
 use Rattle.mh_items_kernels.specs.Automaton.{IsAutomaton}
 use Rattle.mh_resolve_cells.specs.States.{IsTableOf}
 use Rattle.mh_resolve_cells.specs.declared.kinds.Mode.{Mode}
-use Rattle.mh_resolve_cells.proofs.OneResolution.{table_once}
+use Rattle.mh_resolve_cells.proofs.OneResolution.{resolved_states_once}
 use Rattle.mh_tables_core.specs.declared.parts.StateParts.{StateParts}
 use Rattle.mh_tables_core.specs.Table.{TableData}
 use Rattle.mh_tabfile.specs.Versions.{with_costs}
@@ -48,7 +48,7 @@ table_file_of : (g : Grammar) (a : Automaton) (raw : RawTable) (t : TableData) (
 table_file_of g a raw t parts bytes file valid table = by raw.costs refl valid.header.costs
   where
     whole : with_costs g raw ≡ raw_of g a raw.mode t.states
-    whole = valid_is_written g raw a parts valid ∙ ap (raw_of g a raw.mode) (table_once g a raw.mode parts t.states (resolved_of g raw a parts valid) table.states)
+    whole = valid_is_written g raw a parts valid ∙ ap (raw_of g a raw.mode) (resolved_states_once g a raw.mode parts t.states (resolved_of g raw a parts valid) table.states)
 
     by : (costs : Option (List ℕ)) → raw.costs ≡ costs → AreCostsOf g costs → IsTableFileOf g a raw.mode t bytes
     by None e is =
@@ -83,7 +83,7 @@ module _ (files : Option Files) (order : Order) (g : Grammar) (a : Automaton) (t
       subst (λ (k : AutomatonSource). IsAutomatonStage k g (Go a) → IsTableOf g a (mode_of k) t → IsAutomatonOf files order g a t (mode_of k)) (sym one) (λ stage table. given.Canonical none is stage.1)
   of_source (Some name) canonical source named is from = of_table_file name source named from.0 from.1 from.2
 
--- ---- The prepared table.
+-- ---- The prepared table is the one that the words and the files give (`GivesTable`).
 
 module _ (words : List Text) (files : Option Files) where
   pub prepared_gives : (p : Prepared) → IsPrepared words files (Go p) → sample_of p.order.job ≡ None → GivesTable words files p.order p.grammar p.tabled.automaton p.tabled.halting

@@ -16,7 +16,7 @@ use Rattle.mh_top_load.specs.GrammarNames.{is_instance_byte, HasFileNames, IsIns
 use Rattle.mh_top_load.proofs.HasFileNames.{token_names_named}
 use Rattle.mh_top_load.proofs.InstanceNames.{looked_up}
 
--- ---- The bytes of names.
+-- ---- The name of an instance is a word and has no line end.
 
 other_byte : (b k : ℕ) → is_instance_byte b ≡ true → is_instance_byte k ≡ false → b ≢ k
 other_byte b k is none e = true≢false (sym is ∙ ap is_instance_byte e ∙ none)

@@ -66,7 +66,7 @@ module _ (expected : Bool) (g : Grammar) (a : Automaton) (t : TableData) where
       let read = reread expected g a t facts same names.readable (without_line_ends g names) [] no_entries empty_spells empty_has_no_cr text (list_is_rebased text is) in
       record { file = read.again; spells = read.spells; sound = read.sound; complete = read.complete }
 
--- ---- All claims.
+-- ---- All claims on round trips are true of a prepared table.
 
 module _ (words : List Text) (files : Option Files) (p : Prepared) (is : IsPrepared words files (Go p)) where
   pub has_round_trips : HasRoundTrips p

@@ -1,4 +1,4 @@
--- Proves the headline claims on the top call from the definition of a run.
+-- Proves the headline claims on a call of the whole program from the definition of a run (`Ran`).
 use Rattle.std.proofs.Common.{◌≡◌, ◌⊎◌, inl, inr, ℕ, zero, suc, ◌+◌, ◌-◌, ◌<◌, Bool, true, false, ◌&&◌, List, [], ◌∷◌, ◌++◌, flat_map, length, take, Option, None, Some, Ok, refl, sym, ◌∙◌, ap, subst, arith}
 use Rattle.std.specs.Prelude.{codes, nat_le}
 use Rattle.std.specs.List.{AllByRecursion, AllZip, Contains}
@@ -54,7 +54,7 @@ use Rattle.mh_top_claims.specs.Preparing.{IsPrepared}
 use Rattle.mh_top_claims.specs.Run.{World, DoesWork}
 use Rattle.mh_top_claims.specs.Run as runs
 use Rattle.mh_top_claims.specs.Work.{Work, IsPlanUnlessRefused, IsWork, IsWorkOf}
-use Rattle.mh_top_claims.proofs.Claims.{completes, finishes}
+use Rattle.mh_top_claims.proofs.Claims.{does_work_without_fault, done_if_status_without_fault}
 use Rattle.mh_top_claims.proofs.FinalOutputOutcome.{yields_end}
 use Rattle.mh_top_claims.proofs.GivesTable.{accepted, accepted_prepared, prepared_gives}
 use Rattle.mh_top_claims.proofs.PreparationStages.{found_bytes, stages}
@@ -135,7 +135,7 @@ never_refused files g t name file is cause content = at content.0 (loaded_once f
     at : (read : StageResult Text) → read ≡ Go is.bytes → AfterStage read (AreMessages g t name) (Halt cause) → ⊥
     at read one more = let checked : AreMessages g t name is.bytes (Halt cause) = subst (λ (r : StageResult Text). AfterStage r (AreMessages g t name) (Halt cause)) one more in of_file checked.0 checked.1 checked.2
 
--- ---- Answers to lines.
+-- ---- If the input is within the limits, each of its lines has an answer.
 
 all_lines : (limit max : ℕ) (lines : List Text) → are_within_limits limit max lines ≡ true → lines_within_limits limit max lines ≡ lines
 all_lines limit max [] fit = refl
@@ -147,7 +147,7 @@ all_lines limit (suc max) (line ∷ lines) fit = at (nat_le (length line) limit)
     at false long rest later = absurd (cc)
 
 module _ (by : VerdictContext) where
-  -- The answers, one for each line.
+  -- The text of the answers to lines consists of one answer for each line.
   split_answers : (lines : List Text) (text : Text) (last : Plan) → AnswersAll plan_behavior (Judges by) lines text last → (answers : List Text) × AllZip (IsAnswerToLine by) lines answers × (text ≡ flat_map (λ answer. answer) answers) × (last ≡ Judges by)
   split_answers [] text last all = ([], tt, all.0, all.1)
   split_answers (line ∷ lines) text last all =
@@ -210,7 +210,7 @@ module _ (by : VerdictContext) where
     have_messages (line ∷ lines) [] all = absurd all
     have_messages (line ∷ lines) (answer ∷ answers) all = (has_message line answer all.0, have_messages lines answers all.1)
 
--- ---- Work that ended with status 0.
+-- ---- Work that ended with status 0 ended without a cause.
 
 no_cause : (cause : Option Cause) → status_of cause ≡ 0 → cause ≡ None
 no_cause None is = refl
@@ -241,7 +241,7 @@ module _ (words : List Text) (b a : World) (status : ℕ) where
 
   module _ (ran : runs.Ran words b a status) where
     done : (order : Order) → order_of words ≡ Ok order → status ≡ 0 → IsDone order
-    done order asked is = at (finishes words b a status ran (inl is)).1
+    done order asked is = at (done_if_status_without_fault words b a status ran (inl is)).1
       where
         of_plan : (refused : Bool) (p : Prepared) (plan : Plan) (o : Outcome) → IsPlanUnlessRefused refused b.files p plan → HasOutcome plan_behavior plan b.left o → o.cause ≡ None → IsPlanOfJob p.order.job b.files p plan
         of_plan true p plan o is_plan yields none = absurd (has_cause (Refused []) plan b.left o is_plan yields none)
@@ -335,7 +335,7 @@ module _ (words : List Text) (b a : World) (status : ℕ) where
     pub takes_sound_files : TakesSoundFiles words b a status
     takes_sound_files order name asked job = (
       (λ is. let d = done order asked is in (d.p.grammar, d.p.tabled.automaton, d.p.tabled.halting, gives order d (ap sample_of job), taken order name d (plan_of order (CompileErrors name) job d))),
-      (λ calm files known g automaton t file is sound. takes order name job files known g automaton t file is sound (completes words b a status ran calm)),
+      (λ calm files known g automaton t file is sound. takes order name job files known g automaton t file is sound (does_work_without_fault words b a status ran calm)),
     )
 
     module _ (order : Order) (name input : Text) (named : order.messages ≡ Some name) (bare : order.show_expected ≡ false) (known : b.left ≡ Some input) (d : IsDone order) where

@@ -10,7 +10,7 @@ use Rattle.mh_msgfile.specs.Sentences.{LineResult, IsSentence, IsUnreadable, Nam
 use Rattle.mh_grammar.specs.Text.{Text}
 use Rattle.mh_top_plans.specs.Verdicts.{VerdictContext, IsAnswerToLine, IsAnswerToFound, IsSentenceAnswer, IsAnswerWithTrees, IsRefusalWithTokens, IsEndingText, IsTreeText, refusal_text, expected_line}
 
--- ---- The text for a line.
+-- ---- The text that answers a line is unique.
 
 refused_once : (b : Bool) (by : VerdictContext) (s : Sentence) (at state : ℕ) (x y : Text) → IsRefusalWithTokens b by s at state x → IsRefusalWithTokens b by s at state y → x ≡ y
 refused_once false by s at state x y p q = p ∙ sym q

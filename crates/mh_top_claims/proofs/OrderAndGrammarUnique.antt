@@ -18,7 +18,7 @@ use Rattle.mh_top_load.specs.GrammarStage.{IsGrammarStage}
 use Rattle.mh_top_load.specs.Texts.{refusal, syntax_error}
 use Rattle.mh_top_load.specs.OrderAndGrammar.{IsOrderAndGrammar}
 
--- ---- The grammar files.
+-- ---- The grammar files determine the modules.
 
 module_once : (name bytes : Text) → IsOne (IsModule name bytes)
 module_once name bytes (Go m) (Go n) p q = ap Go (spelled_module_unique bytes m n p q)
@@ -41,7 +41,7 @@ modules_once : (files : Files) (sample : Option ℕ) (names : List Text) → IsO
 modules_once files None names = files_once files names
 modules_once files (Some number) names = then_once (IsModule sample_file (grammar_text number)) (λ m. Gives (m ∷ [])) (module_once sample_file (grammar_text number)) (λ m. gives_once (m ∷ []))
 
--- ---- The grammar.
+-- ---- The modules determine the grammar, or the cause of the refusal.
 
 grammar_once : (prelude : Bool) (modules : List Module) → IsOne (IsGrammarStage prelude modules)
 grammar_once prelude modules (Go g) (Go h) p q = ap Go (one_grammar prelude modules g h p q)
@@ -50,7 +50,7 @@ grammar_once prelude modules (Halt cause) (Go g) p q = absurd (not_grammar_and_f
 grammar_once prelude modules (Halt cause) (Halt cause') p q =
     ap Halt (p.2 ∙ ap (λ f. Refused (refusal f)) (one_fault prelude modules p.0 q.0 p.1 q.1) ∙ sym q.2)
 
--- ---- All stages up to the grammar.
+-- ---- The words and the files determine the result of all stages up to the grammar.
 
 pub order_and_grammar_once : (words : List Text) (files : Files) → IsOne (IsOrderAndGrammar words (Some files))
 order_and_grammar_once words files =

@@ -40,7 +40,7 @@ found_bytes files name bytes is = at is.0 is.1 is.2
     at Long found same = absurd (cc)
     at (Bytes read) found same = let one : read ≡ bytes = cc in subst (λ (b : Text). IsFound files name (Bytes b)) one found
 
--- ---- The modules of the grammar files.
+-- ---- The modules of the grammar files are those that the files spell (`HasModule`).
 
 module _ (files : Option Files) where
   has_module : (name : Text) (m : Module) → IsFileContent files IsModule name (Go m) → HasModule files name m

@@ -25,7 +25,7 @@ use Rattle.mh_top_claims.specs.Run as runs
 use Rattle.mh_top_types.specs.Shapes.{Prepared}
 use Rattle.mh_top_claims.specs.Work.{Work, IsPlanUnlessRefused, IsWork, IsWorkOf}
 use Rattle.mh_top_warnings.specs.Warnings.{has_warning, warnings_of}
-use Rattle.mh_top_claims.proofs.Claims.{completes}
+use Rattle.mh_top_claims.proofs.Claims.{does_work_without_fault}
 use Rattle.mh_top_claims.proofs.FinalOutputOutcome.{yields_end}
 use Rattle.mh_top_claims.proofs.HasFileNames.{without_line_ends}
 use Rattle.mh_top_claims.proofs.PreparedSource.{made}
@@ -77,7 +77,7 @@ module _ (words : List Text) (files : Files) (p : Prepared) (file : LooseFile) (
 
 module _ (words : List Text) (b a : World) (status : ℕ) where
   pub rebases_soundly : runs.Ran words b a status → RebasesSoundly words b a status
-  rebases_soundly ran calm files known p file asks free = or (completes words b a status ran calm)
+  rebases_soundly ran calm files known p file asks free = or (does_work_without_fault words b a status ran calm)
     where
       or : (status ≡ 6) ⊎ DoesWork words b a status → (status ≡ 6) ⊎ RebasedOutcome p file b a status
       or (inl six) = inl six

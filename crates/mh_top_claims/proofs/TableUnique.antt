@@ -8,7 +8,7 @@ use Rattle.mh_pager_steps.proofs.OneMerged.{merged_one}
 use Rattle.mh_resolve_cells.proofs.OneResolution.{one_table, conflicts_once}
 use Rattle.mh_resolve_cells.specs.declared.kinds.Mode.{Mode}
 use Rattle.mh_tables_core.specs.Table.{TableData}
-use Rattle.mh_tables_core.specs.Halting.{AlwaysHalts, LoopsAt}
+use Rattle.mh_tables_core.specs.Halting.{AlwaysHalts, IsFirstLoop}
 use Rattle.mh_tables_core.proofs.OneLoop.{loop_unique}
 use Rattle.mh_outside.specs.Shelf.{Files}
 use Rattle.mh_msgfile.specs.Sentences.{token_names}
@@ -68,7 +68,7 @@ table_file_once name bytes (Halt cause) (Go raw) p q = absurd (formed name bytes
 table_file_once name bytes (Halt cause) (Halt cause') p q =
     ap Halt (p.cause_is ∙ ap (λ (f : TabFault). Refused (table_fault_line name f)) (table_fault_once bytes p.fault q.fault p.has_fault q.has_fault) ∙ sym q.cause_is)
 
--- ---- The table.
+-- ---- The source of the automaton and the table are determined.
 
 source_once : (files : Files) (tables : Option Text) (canonical : Bool) → IsOne (IsAutomatonSourceBy tables canonical (Some files))
 source_once files None canonical = gives_once (source_to_build canonical)
@@ -101,18 +101,18 @@ automaton_once (File name raw) g n (Halt cause) (Go a) p q = absurd (valid_not g
 automaton_once (File name raw) g n (Halt cause) (Halt cause') p q = ap Halt (invalid_once g n name raw cause cause' p q)
 
 -- A table on which every run ends has no relative run that makes too many reductions.
-no_loop : (t : TableData) (below : Option ℕ) (s : ℕ) (look : Option ℕ) → AlwaysHalts t → LoopsAt t below s look → ⊥
+no_loop : (t : TableData) (below : Option ℕ) (s : ℕ) (look : Option ℕ) → AlwaysHalts t → IsFirstLoop t below s look → ⊥
 no_loop t below s look halts loops = let le : 10001 ≤ 10000 = halts below s look 10001 loops.begins loops.known loops.loops in omega arith
 
 loops_not : (mode : Mode) (g : Grammar) (a : Automaton) (x : TabledAutomaton) (cause : Cause) → IsTabledAutomaton mode g a x → HasFirstLoop mode g a cause → ⊥
 loops_not mode g a x cause is first =
     let same : first.found ≡ x.halting = one_table g a mode first.found x.halting first.table is.table in
-    no_loop x.halting first.below first.state first.look is.halts (subst (λ (t : TableData). LoopsAt t first.below first.state first.look) same first.loops)
+    no_loop x.halting first.below first.state first.look is.halts (subst (λ (t : TableData). IsFirstLoop t first.below first.state first.look) same first.loops)
 
 loop_once : (mode : Mode) (g : Grammar) (a : Automaton) (c d : Cause) → HasFirstLoop mode g a c → HasFirstLoop mode g a d → c ≡ d
 loop_once mode g a c d p q =
     let same : q.found ≡ p.found = one_table g a mode q.found p.found q.table p.table in
-    let one = loop_unique p.found p.below p.state p.look q.below q.state q.look p.loops (subst (λ (x : TableData). LoopsAt x q.below q.state q.look) same q.loops) in
+    let one = loop_unique p.found p.below p.state p.look q.below q.state q.look p.loops (subst (λ (x : TableData). IsFirstLoop x q.below q.state q.look) same q.loops) in
     p.cause_is ∙ ap (λ (r : Option ℕ). Refused (loops_line (token_names g) r p.state p.look)) one.0 ∙ ap (λ (s : ℕ). Refused (loops_line (token_names g) q.below s p.look)) one.1
     ∙ ap (λ (z : Option ℕ). Refused (loops_line (token_names g) q.below q.state z)) one.2 ∙ sym q.cause_is
 
@@ -133,7 +133,7 @@ resolved_once mode g a (Halt cause) (Halt cause') p q = ap Halt (loop_once mode 
 table_once : (source : AutomatonSource) (g : Grammar) → AreTokenNamesDistinct g → IsOne (IsTableStage source g)
 table_once source g n = then_once (IsAutomatonStage source g) (IsResolvedStage (mode_of source) g) (automaton_once source g n) (resolved_once (mode_of source) g)
 
--- ---- All stages up to the warnings.
+-- ---- The result of all stages up to the warnings is determined.
 
 from_once : (front : OrderAndGrammar) → AreTokenNamesDistinct front.grammar → (source : AutomatonSource) → IsOne (IsPreparedFromSource front source)
 from_once front n source =

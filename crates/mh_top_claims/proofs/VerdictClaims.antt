@@ -108,7 +108,7 @@ module _ (warnings : Text) (trees expected : Bool) (g : Grammar) (t : TableData)
       at (Go p) prepared is = of_plan words (p.order.strict && has_warning p.tabled.conflicts) files p (prepared_tabled words files p prepared) is.1
       at (Halt cause) prepared is = absurd (no_halt cause is)
 
--- ---- The automaton of the table.
+-- ---- The automaton of the table is an automaton of the grammar.
 
 module _ (g : PlainGrammar) (a : Automaton) (h : IsCanonical g a) where
   state_at : (k : ℕ) (d : Kernel) → k < length a.kernels → IsCanonicalState g (get_or a.kernels k d)
@@ -343,7 +343,7 @@ module _ (words : List Text) (files : Option Files) where
   pub deep_exactly : TooDeepIsExact words files
   deep_exactly g s text by = let text_is = said words files true g s text by in deep_so (answering words files true g s text by) s text text_is.0 text_is.1 text_is.2
 
--- ---- Grammars without warnings.
+-- ---- If a grammar has no levels and no warnings, its table has no conflicts.
 
 prepared_has_no_conflict : (words : List Text) (files : Option Files) (p : Prepared) → IsPrepared words files (Go p) → HasNoLevels p.grammar → warnings_of p ≡ [] → IsConflictFreeTable p.grammar p.tabled.halting
 prepared_has_no_conflict words files p is none silent = let m = made words files p is in at m m.stage.0 m.stage.1 m.stage.2

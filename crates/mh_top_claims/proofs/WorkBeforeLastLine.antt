@@ -95,7 +95,7 @@ module _ (words : List Text) (b a : World) (same : IsUntouched b a) where
       stops_before stop counts (then_on (IsOrderAndGrammar words b.files) (IsPreparedFromFiles b.files) (IsNextToRead words b.files []) front (Err stop) is
       (names_wider (IsPreparedFromFiles b.files front) (λ name. front.order.tables ≡ Some name) (IsNextToRead words b.files []) (Err stop) (λ name named. OfTables (front, is, named) refl) has))
 
--- ---- The warnings.
+-- ---- If writing the warnings stops the work, this is the work before the last line.
 
 module _ (words : List Text) (b : World) (p : Prepared) (is : IsPrepared words b.files (Go p)) (err : Option Text) (n : ℕ) where
   pub warning_stops : (stop : Stop) → Warned (warnings_of p) b.err err (Err stop) → OutCounts {T = Unit {0}} b.err_faults n (Err stop) → IsWorkBeforeLastLine words b (record b { err = err; err_faults = n }) (Err stop)
@@ -109,7 +109,7 @@ module _ (words : List Text) (b : World) (p : Prepared) (is : IsPrepared words b
   warning_stops (ShelfFailed name) wrote counts = absurd wrote
   warning_stops InputFailed wrote counts = absurd wrote
 
--- ---- The mode.
+-- ---- If the mode was opened and ran, or could not be opened, this is the work before the last line.
 
 module _ (words : List Text) (b a : World) (p : Prepared) (is : IsPrepared words b.files (Go p)) (on_err : Appends b.err a.err (warnings_of p)) (err_calm : a.err_faults ≡ b.err_faults) where
   module _ (plan : Plan) (is_plan : IsPlanOf b.files p plan) where
@@ -138,12 +138,13 @@ module _ (words : List Text) (b a : World) (p : Prepared) (is : IsPrepared words
   followed r (inl h) counts read = plan_ran h.0 h.1 r h.2 counts read
   followed r (inr h) counts read = not_opened r h.0 h.1 h.2 counts read
 
--- ---- A shelf from which was read without a fault.
+-- ---- If reading the files changed neither the files nor the number of faults, the work is also that of the world
+-- before.
 
 pub worked_same : (words : List Text) (b a : World) (files : Option Files) (n : ℕ) (r : Result (Unit {0}) Stop) → files ≡ b.files → n ≡ b.shelf_faults → IsWorkBeforeLastLine words (record b { files = files; shelf_faults = n }) a r → IsWorkBeforeLastLine words b a r
 worked_same words b a files n r same calm worked = subst (λ (x : World). IsWorkBeforeLastLine words x a r) (λ i. record b { files = same i; shelf_faults = calm i }) worked
 
--- ---- The refusal under `--strict`.
+-- ---- The refusal under `--strict` follows the plan.
 
 pub refused_followed : (files : Option Files) (p : Prepared) (test : Bool) (stop : Stop) (left out : Option Text) → test ≡ true → test ≡ (p.order.strict && has_warning p.tabled.conflicts) → HaltsWith (Refused []) stop → OpenedAndRan (IsPlanOf files p) (IsNextAfterWarnings files p) left left out out (Err stop)
 refused_followed files p test (Halted cause) left out holds is halt =

@@ -1,4 +1,5 @@
--- The work that the words ask for, if the plan of their job is to write a final output.
+-- Proves what the program does for a command line (`words`) whose job only writes a final output: the program writes
+-- the warnings of the grammar, and then this output.
 use Rattle.std.proofs.Common.{◌≡◌, Bool, true, false, ◌&&◌, List, Option, Some, subst}
 use Rattle.mh_opts.specs.declared.jobs.Job.{Job}
 use Rattle.mh_outside.specs.Shelf.{Files}

@@ -16,7 +16,7 @@ use Rattle.mh_top_drive.proofs.Then.{IsOne}
 use Rattle.mh_top_claims.proofs.PreparedUnique.{prepared_once}
 use Rattle.mh_top_claims.proofs.EachMode.{answer_once, cause_once, out_once, mode_facts}
 
--- ---- The work.
+-- ---- The words and the files determine the work.
 
 plan_once : (refused : Bool) (files : Files) (p : Prepared) → IsOne (IsPlanUnlessRefused refused (Some files) p)
 plan_once true files p x y is so = is ∙ sym so
@@ -34,7 +34,7 @@ pub work_once : (words : List Text) (files : Files) (w v : Work) → IsWork word
 work_once words files w v p q =
     let same : q.0 ≡ p.0 = prepared_once words files q.0 p.0 q.1 p.1 in work_of_once files p.0 w v p.2 (subst (λ (s : StageResult Prepared). IsWorkOf (Some files) s v) same q.2)
 
--- ---- The outcome.
+-- ---- The work and the input determine the outcome.
 
 answers_once : (plan : Plan) (lines : List Text) (a c : Text) (x y : Plan) → AnswersAll plan_behavior plan lines a x → AnswersAll plan_behavior plan lines c y → (a ≡ c) × (x ≡ y)
 answers_once plan [] a c x y p q = (p.0 ∙ sym q.0, p.1 ∙ sym q.1)

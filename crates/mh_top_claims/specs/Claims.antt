@@ -1,5 +1,5 @@
--- The claims on the top call: its status, its texts and the input that it leaves. Each claim follows from the one
--- definition `Ran`.
+-- The claims on a call of the whole program: its status, its texts and the input that the call leaves. Each claim
+-- follows from the one definition `Ran`.
 use Rattle.std.specs.Prelude.{◌≡◌, ◌⊎◌, ℕ, List, [], ◌++◌, Option, Some, None, false, ⊤}
 use Rattle.std.specs.Io.KnownBytes.{Appends}
 use Rattle.mh_outside.specs.Faults.{HasRisen, HasNotRisen}
@@ -23,7 +23,7 @@ use Rattle.mh_top_drive.specs.declared.stop.Cause.TheVariants.{Misused}
 
 -- The shelf has this under the name of the file that is next to be read.
 abbrev pub NextFileIs : List Text → FileFound → Option Files → Type 0
-NextFileIs words what files = (front name : Text) × IsNextToRead words files front name × IsFound files name what
+NextFileIs words what files = (err_text name : Text) × IsNextToRead words files err_text name × IsFound files name what
 
 -- The files are known, and the file that is next to be read is not among them.
 abbrev pub IsNextFileAbsent : List Text → Option Files → Type 0
@@ -76,9 +76,9 @@ MisuseHasCause words before now status = status ≡ 2 → (line : Text) × (stag
 -- absent. Or the input's count of faults rose; then out has exactly the answers to the lines that were read whole.
 abbrev pub ReadFaultHasCause : List Text → World → World → ℕ → Type 0
 ReadFaultHasCause words before now status = status ≡ 3 →
-    (HasRisen before.shelf_faults now.shelf_faults × ((front name : Text) × IsNextToRead words before.files front name × LeavesInputAndOut before now × Appends before.err now.err (front ++ cannot_read name)))
+    (HasRisen before.shelf_faults now.shelf_faults × ((err_text name : Text) × IsNextToRead words before.files err_text name × LeavesInputAndOut before now × Appends before.err now.err (err_text ++ cannot_read name)))
     ⊎ IsNextFileAbsent words before.files
-    ⊎ (HasRisen before.input_faults now.input_faults × AfterWarnings words before (InputReadFailed before now) (λ front. Appends before.err now.err (front ++ cannot_read_input)))
+    ⊎ (HasRisen before.input_faults now.input_faults × AfterWarnings words before (InputReadFailed before now) (λ err_text. Appends before.err now.err (err_text ++ cannot_read_input)))
 
 -- Claim: if the file that is next to be read is absent, and no device had a fault, the status is 3, unless memory runs
 -- out.
@@ -103,7 +103,7 @@ WriteFaultStops words before now status = status ≡ 4 →
 -- Claim: if memory ran out (status 6), the warnings are on err whole or not at all, out has the answers to the first
 -- lines and perhaps a prefix of the text at the end of the mode, and the last line on err says why.
 abbrev pub OutOfMemoryKeepsTexts : List Text → World → World → ℕ → Type 0
-OutOfMemoryKeepsTexts words before now status = status ≡ 6 → (now.input_faults ≡ before.input_faults) × DoneSoFar words before now (λ front. Appends before.err now.err (front ++ out_of_memory))
+OutOfMemoryKeepsTexts words before now status = status ≡ 6 → (now.input_faults ≡ before.input_faults) × DoneSoFar words before now (λ err_text. Appends before.err now.err (err_text ++ out_of_memory))
 
 -- Claim: status 5 means that a limit is passed, by the file that is next to be read or by an input whose lines are
 -- asked for.

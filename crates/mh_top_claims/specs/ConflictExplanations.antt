@@ -1,5 +1,5 @@
--- The claim on the top call that the explanations of conflicts are complete, each with the first sentence that runs
--- into the conflict (this project's own).
+-- The claim on a run of the program: the explanations of conflicts are complete, and each explanation has the first
+-- sentence that runs into the conflict (this project's own).
 use Rattle.std.specs.Prelude.{◌≡◌, ◌⊎◌, ◌&&◌, ℕ, false, List, Option, Some}
 use Rattle.std.specs.Io.KnownBytes.{Appends}
 use Rattle.mh_explain.specs.Explanations.{AreExplanations}
@@ -34,9 +34,10 @@ pub record ConflictsAreExplained (p : Prepared) (before now : World) (status : �
   pub on_err : Appends before.err now.err (warnings_of p)
 
 -- Claim, for every accepted grammar: out has exactly one explanation for each conflict that levels of precedence do not
--- solve and for each conflict with the end of the stream, each with the first sentence that comes there in the order of
--- sentences, or with the words that none comes or that each costs too much (`AreExplanations`). Premises: the files are
--- known, no device had a fault, and memory did not run out.
+-- solve (the conflicts with the end of the stream are among them). Each explanation has the first sentence, in the
+-- order of sentences, that comes to the state of the conflict, or says that no sentence comes there or that each such
+-- sentence costs too much (`AreExplanations`). Premises: the files are known, no device had a fault, and memory did not
+-- run out.
 abbrev pub ExplainsConflictsExactly : List Text → World → World → ℕ → Type 0
 ExplainsConflictsExactly words before now status =
     HasNoDeviceFault before now → (files : Files) → before.files ≡ Some files → (p : Prepared) → AsksForExplanations words (Some files) p → (status ≡ 6) ⊎ ConflictsAreExplained p before now status

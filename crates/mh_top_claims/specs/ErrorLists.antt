@@ -1,5 +1,6 @@
--- The headline claim on the top call: the list of errors is complete and least (after Pottier 2016, "Reachability and
--- error diagnosis in LR(1) parsers").
+-- When the program writes a list of errors: for each accepted grammar the list is written, or a state is reported in
+-- which only sentences of too high a cost fail (after Pottier 2016, "Reachability and error diagnosis in LR(1)
+-- parsers"). What status 0 says of the list without these premises is in `Headline`.
 use Rattle.std.specs.Prelude.{◌≡◌, ◌⊎◌, ◌&&◌, ℕ, false, List, [], ◌++◌, Option, Some}
 use Rattle.std.specs.Io.KnownBytes.{Appends}
 use Rattle.mh_opts.specs.declared.jobs.Job.TheVariants.{ListErrors}

@@ -1,6 +1,7 @@
--- The headline claims on the top call: what a list of errors, a messages file that is taken, and the answer to a refused
--- line say of the table of the grammar (after Pottier 2016, "Reachability and error diagnosis in LR(1) parsers"). No
--- claim speaks of the text of a fault.
+-- The headline claims on a call of the whole program. They say what follows about the table of the grammar from a list
+-- of errors, from an accepted messages file, and from the answer to a refused line (after Pottier 2016, "Reachability
+-- and error diagnosis in LR(1) parsers"). The claims speak of the status and of out alone, and not of the text that a
+-- fault has on err.
 use Rattle.std.specs.Prelude.{◌≡◌, ◌⊎◌, ◌↔◌, ℕ, Bool, true, false, List, ◌++◌, flat_map, Option, Some, Ok, codes}
 use Rattle.std.specs.List.{AllZip, AllByRecursion, Contains}
 use Rattle.std.specs.Io.KnownBytes.{Appends}

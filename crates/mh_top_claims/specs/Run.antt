@@ -1,4 +1,4 @@
--- The runs of the program: `Ran` is the one definition from which all claims on the top call follow.
+-- The runs of the program: `Ran` is the one definition from which all claims on a call of the whole program follow.
 use Rattle.std.specs.Prelude.{◌≡◌, ℕ, Bool, true, false, ◌&&◌, List, [], ◌++◌, Option, Some}
 use Rattle.std.specs.Io.KnownBytes.{Appends}
 use Rattle.mh_outside.specs.Faults.{HasRisen}
@@ -61,12 +61,12 @@ IsNextUnlessRefused false files p name = IsNextFileOfJob p.order.job files p nam
 abbrev pub IsNextAfterWarnings : Option Files → Prepared → Text → Type 0
 IsNextAfterWarnings files p name = IsNextUnlessRefused (p.order.strict && has_warning p.tabled.conflicts) files p name
 
--- This file is the next to be read, and `front` is the text on err before: of the grammar files of the order; or its
+-- This file is the next to be read, and `err_text` is the text on err before: of the grammar files of the order; or its
 -- table file; or, after the warnings, of the files that the mode reads.
-pub data IsNextToRead (words : List Text) (files : Option Files) (front name : Text) : Type 0 where
-  OfGrammar : (order : Order) → staged_order words ≡ Go order → IsNextFile files IsModule (grammar_files order) name → front ≡ [] → IsNextToRead words files front name
-  OfTables : IsTableFileNext words files name → front ≡ [] → IsNextToRead words files front name
-  OfMode : (p : Prepared) → IsPrepared words files (Go p) → IsNextAfterWarnings files p name → front ≡ warnings_of p → IsNextToRead words files front name
+pub data IsNextToRead (words : List Text) (files : Option Files) (err_text name : Text) : Type 0 where
+  OfGrammar : (order : Order) → staged_order words ≡ Go order → IsNextFile files IsModule (grammar_files order) name → err_text ≡ [] → IsNextToRead words files err_text name
+  OfTables : IsTableFileNext words files name → err_text ≡ [] → IsNextToRead words files err_text name
+  OfMode : (p : Prepared) → IsPrepared words files (Go p) → IsNextAfterWarnings files p name → err_text ≡ warnings_of p → IsNextToRead words files err_text name
 
 -- The input and out are unchanged.
 pub record LeavesInputAndOut (before now : World) : Type 0 where
@@ -138,17 +138,17 @@ pub record WarningWriteFailed (words : List Text) (before now : World) : Type 0 
 abbrev pub ModeEnded : World → World → Option Cause → Work → Type 0
 ModeEnded before now cause w = IsCompleteRun plan_behavior w.plan before.left now.left before.out now.out cause
 
--- The whole text `front` was appended, and then a prefix of the line.
+-- The whole text `err_text` was appended, and then a prefix of the line.
 abbrev pub AppendsThenPrefix : Option Text → Option Text → Text → Text → Type 0
-AppendsThenPrefix old new front line = (part : Text) × Appends old new (front ++ part) × IsPrefix part line
+AppendsThenPrefix old new err_text line = (part : Text) × Appends old new (err_text ++ part) × IsPrefix part line
 
--- The last line that the call has to write on err, after the text `front`, for each reason to stop but a failed write:
--- `OnErr front line` is true.
+-- The last line that the call has to write on err, after the text `err_text`, for each reason to stop but a failed
+-- write: `OnErr err_text line` is true.
 pub data HasLastLine (words : List Text) (before now : World) (OnErr : Text → Text → Type 0) : Type 0 where
-  OfCause : (cause : Cause) → AfterWarnings words before (ModeEnded before now (Some cause)) (λ front. OnErr front (line_of_cause cause)) → HasLastLine words before now OnErr
-  OfFile : (front name : Text) → IsNextToRead words before.files front name → LeavesInputAndOut before now → OnErr front (cannot_read name) → HasLastLine words before now OnErr
-  OfInput : AfterWarnings words before (InputReadFailed before now) (λ front. OnErr front cannot_read_input) → HasLastLine words before now OnErr
-  OfMemory : DoneSoFar words before now (λ front. OnErr front out_of_memory) → HasLastLine words before now OnErr
+  OfCause : (cause : Cause) → AfterWarnings words before (ModeEnded before now (Some cause)) (λ err_text. OnErr err_text (line_of_cause cause)) → HasLastLine words before now OnErr
+  OfFile : (err_text name : Text) → IsNextToRead words before.files err_text name → LeavesInputAndOut before now → OnErr err_text (cannot_read name) → HasLastLine words before now OnErr
+  OfInput : AfterWarnings words before (InputReadFailed before now) (λ err_text. OnErr err_text cannot_read_input) → HasLastLine words before now OnErr
+  OfMemory : DoneSoFar words before now (λ err_text. OnErr err_text out_of_memory) → HasLastLine words before now OnErr
 
 -- A run of the program, by the reason for its end: the work was done; a file or the input could not be read; the
 -- warnings, the output or the last line could not be written; or memory ran out. Each case gives the status, the counts
@@ -156,10 +156,10 @@ pub data HasLastLine (words : List Text) (before now : World) (OnErr : Text → 
 pub data Ran (words : List Text) (before now : World) (status : ℕ) : Type 0 where
   Finished : KeepsFaultCounts before now → DoesWork words before now status → Ran words before now status
   -- The shelf failed at the file that was next to be read.
-  CannotReadFile : status ≡ 3 → HasRisen before.shelf_faults now.shelf_faults → NoWriteFailed before now → (front name : Text) → IsNextToRead words before.files front name → LeavesInputAndOut before now → Appends before.err now.err (front ++ cannot_read name) → Ran words before now status
-  CannotReadInput : status ≡ 3 → HasRisen before.input_faults now.input_faults → NoWriteFailed before now → AfterWarnings words before (InputReadFailed before now) (λ front. Appends before.err now.err (front ++ cannot_read_input)) → Ran words before now status
+  CannotReadFile : status ≡ 3 → HasRisen before.shelf_faults now.shelf_faults → NoWriteFailed before now → (err_text name : Text) → IsNextToRead words before.files err_text name → LeavesInputAndOut before now → Appends before.err now.err (err_text ++ cannot_read name) → Ran words before now status
+  CannotReadInput : status ≡ 3 → HasRisen before.input_faults now.input_faults → NoWriteFailed before now → AfterWarnings words before (InputReadFailed before now) (λ err_text. Appends before.err now.err (err_text ++ cannot_read_input)) → Ran words before now status
   CannotWarn : status ≡ 4 → HasRisen before.err_faults now.err_faults → WarningWriteFailed words before now → Ran words before now status
   CannotWrite : status ≡ 4 → HasRisen before.out_faults now.out_faults → now.input_faults ≡ before.input_faults → now.err_faults ≡ before.err_faults → AfterWarnings words before (OutWriteFailed before now) (Appends before.err now.err) → Ran words before now status
   -- The last line was cut short. All warnings are on err.
   CannotSay : status ≡ 4 → now.out_faults ≡ before.out_faults → HasRisen before.err_faults now.err_faults → HasLastLine words before now (AppendsThenPrefix before.err now.err) → Ran words before now status
-  NoMemory : status ≡ 6 → NoWriteFailed before now → now.input_faults ≡ before.input_faults → DoneSoFar words before now (λ front. Appends before.err now.err (front ++ out_of_memory)) → Ran words before now status
+  NoMemory : status ≡ 6 → NoWriteFailed before now → now.input_faults ≡ before.input_faults → DoneSoFar words before now (λ err_text. Appends before.err now.err (err_text ++ out_of_memory)) → Ran words before now status

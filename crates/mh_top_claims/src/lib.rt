@@ -1,5 +1,5 @@
 //! The definition of a run of the program: the work that words ask for over files (`Work`), the end of a run (`Run`),
-//! and the claims on the top call (`Headline`, `Claims`, `ErrorLists`, `RebasedFiles`, `RoundTrips`, `VerdictClaims`).
+//! and the claims on a call of it (`Headline`, `Claims`, `ErrorLists`, `RebasedFiles`, `RoundTrips`, `VerdictClaims`).
 //! The claims are proved here from these definitions alone. The lemmas in `proofs/EachMode` have one case for each
 //! mode.
 #![tactic(auto)]

@@ -61,7 +61,7 @@ module _ {Plan : Type 0} (behavior : ModeBehavior Plan) where
     });
   }
 
-  -- ---- One more line.
+  -- ---- One more line is read, the first of the rest of the input.
 
   lines_of_input-first : (now next line : Text) → now ≡ line ++ 10 ∷ next → HasNoLF line → lines_of_input now ≡ line ∷ lines_of_input next
   lines_of_input-first now next line is h = ap lines_of_input is ∙ lines_of_input-line line next h

@@ -72,7 +72,7 @@ module _ {A : Type 0} (files : Option Files) (Spelled : Text → Text → StageR
         let start : IsSoFar items [] = subst (IsSoFar items) none so_far in
         subst (λ (l : List A). AreFileContents files Spelled whole (Go l)) (append-nil items) (start.all (Go []) refl)
 
-    -- ---- At an index of the list of names.
+    -- ---- At an index of the list of names, one more file is read, or stops the loop.
 
     module _ (told : Option Files) (i : ℕ) (d name : Text) (kept : told ≡ files) (item : name ≡ get_or whole i d) (lt : i < length whole) where
       at_place : (items : List A) → IsSoFar items (drop i whole) → IsSoFar items (name ∷ drop (i + 1) whole)

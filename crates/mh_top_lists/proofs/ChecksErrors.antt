@@ -17,15 +17,15 @@ use Rattle.mh_top_plans.specs.Plan.{IsFinalOutput, Plan, Ends, Checked}
 abbrev pub IsPlanOfBlocks : Prepared → Text → LooseBlocks → Plan → Type 0
 IsPlanOfBlocks p name blocks plan = plan ≡ Ends (Checked name blocks p)
 
--- The end that has these lines.
-abbrev pub end_of_lines : Text → ModeEnd
-end_of_lines lines = record { cause = cause_of_lines lines; out = lines }
+-- The end of the mode that writes these lines.
+abbrev pub end_with_lines : Text → ModeEnd
+end_with_lines lines = record { cause = cause_of_lines lines; out = lines }
 
 module _ (p : Prepared) (name : Text) (blocks : LooseBlocks) (none : (s : ℕ) → TooLongAt p.tabled.halting s → ⊥) (lines : Text) (is : IsErrorText p.grammar p.tabled.halting name blocks lines) (out0 out1 : Option Text) where
-  end_is : (e : ModeEnd) → e ≡ end_of_lines lines → IsFinalOutput (Checked name blocks p) e
+  end_is : (e : ModeEnd) → e ≡ end_with_lines lines → IsFinalOutput (Checked name blocks p) e
   end_is e same = subst (IsFinalOutput (Checked name blocks p)) (sym same) (Checks none refl is)
 
-  pub lines_end : (r : Result (Unit {0}) Stop) → EndIsWritten (λ e. e ≡ end_of_lines lines) out0 out1 r → EndIsWritten (IsFinalOutput (Checked name blocks p)) out0 out1 r
+  pub lines_end : (r : Result (Unit {0}) Stop) → EndIsWritten (λ e. e ≡ end_with_lines lines) out0 out1 r → EndIsWritten (IsFinalOutput (Checked name blocks p)) out0 out1 r
   lines_end (Ok u) (e, same, cause, ends) = (e, end_is e same, cause, ends)
   lines_end (Err (Halted cause)) (e, same, halted, ends) = (e, end_is e same, halted, ends)
   lines_end (Err WriteFailed) (e, same, part) = (e, end_is e same, part)

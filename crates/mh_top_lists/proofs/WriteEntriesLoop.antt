@@ -20,7 +20,7 @@ use Rattle.mh_report_comments.specs.Comments.{comments, message_placeholder}
 use Rattle.mh_report_comments.proofs.CommentParts.{some_block}
 use Rattle.mh_report_comments.proofs.HasFarthestDot.{some_farthest}
 use Rattle.mh_report_comments.proofs.AreEntries.{entries_append}
-use Rattle.mh_tables_core.proofs.RefusingState.{state_refused}
+use Rattle.mh_tables_core.proofs.RefusingState.{refusing_state_known}
 use Rattle.mh_msgfile.specs.FileTexts.{sentence_text}
 use Rattle.mh_grammar.specs.Text.{Text}
 use Rattle.mh_top_plans.specs.Listing.{Lists}
@@ -42,7 +42,7 @@ module _ (p : Prepared) (halts : HaltingFacts p.tabled.halting) (fit : IsConsist
       let a = p.tabled.automaton in
       let t = p.tabled.halting in
       let fails = is.fails in
-      let known = state_refused t halts.facts row.start row.sentence (length row.sentence - 1) row.state fails.sentence.known fails.verdict in
+      let known = refusing_state_known t halts.facts row.start row.sentence (length row.sentence - 1) row.state fails.sentence.known fails.verdict in
       let count = fit.table.states.count in
       let best = some_farthest (kernel_at a row.state).items (fit.automaton.filled row.state (omega arith)) in
       let n = fails.verdict.0 in
@@ -57,12 +57,12 @@ module _ (p : Prepared) (halts : HaltingFacts p.tabled.halting) (fit : IsConsist
   some_entries [] fits = ([], refl)
   some_entries (row ∷ rows) fits = let x = some_entry row fits.0 in let y = some_entries rows fits.1 in (x.0 ++ y.0, (x.0, y.0, x.1, y.1, refl))
 
--- ---- Entries appended to entries.
+-- ---- The text of entries, followed by the text of more entries, is the text of all of them.
 
 one_entry : (p : Prepared) (row : CatalogueRow) (x : Text) → IsEntryOf p row x → AreEntriesOf p (row ∷ []) x
 one_entry p row x is = (x, [], is, refl, sym (append-nil x))
 
--- ---- One row after the other.
+-- ---- The loop over the rows writes the entry of one row after the other.
 
 -- The invariant: the entries of these rows were written.
 pub record Written (p : Prepared) (rows : List CatalogueRow) (out0 out1 : Option Text) : Type 0 where

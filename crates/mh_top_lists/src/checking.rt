@@ -1,13 +1,12 @@
-//! The mode that reports what is wrong with a messages file: it reads the blocks of the file, makes the catalogue of the
-//! table, and then writes the lines.
-ghost use Rattle.std.specs.Prelude.{◌≡◌, ◌≤◌};
+//! The mode that reports what is wrong with a messages file: the mode reads the blocks of the file, makes the catalogue
+//! of the table, and then writes the lines.
+ghost use Rattle.std.specs.Prelude.{◌≡◌};
 ghost use Rattle.mh_opts.specs.declared.jobs.Job.TheVariants.{CheckErrors};
 ghost use Rattle.mh_top_drive.specs.code.ModeCalls.{EndIsWritten, InputAndOutCounts, ModeShelfCounts, OutCounts};
 ghost use Rattle.mh_top_plans.specs.ErrorsChecked.{cause_of_lines};
 ghost use Rattle.mh_top_plans.specs.Files.{IsNextFileOfJob};
 ghost use Rattle.mh_top_plans.specs.Plan.{IsPlanOfJob};
-ghost use Rattle.mh_top_plans.specs.code.Modes.{OpenedAndRan};
-ghost use Rattle.mh_top_types.specs.code.Prepared.{IsConsistent};
+ghost use Rattle.mh_top_plans.specs.code.Modes.{MayRunWithFiles, OpenedAndRan};
 
 use crate::refusing::errors_stop_of;
 use mh_lint_messages::error_lines;
@@ -26,7 +25,7 @@ struct FileErrors<'a, const W: usize> {
     blocks: LooseBlocks,
 }
 
-/// Writes these lines, and refuses the work if there is a line.
+/// Writes these lines. If there is a line, the run then ends with status 1.
 fn write_lines<O: Sink>(alloc: Global, out: &mut O, lines: &[u8]) -> Result<(), Stop>
     requires { O.MayWrite out.old }
     ensures text { EndIsWritten (λ e. e ≡ record { cause = cause_of_lines lines.now; out = lines.now }) (O.written out.old) (O.written out.new) result }
@@ -72,11 +71,7 @@ pub fn check_errors<F: Shelf, I: Source, O: Sink, const W: usize>(
     input: &mut I,
     out: &mut O,
 ) -> Result<(), Stop>
-    requires few { W ≤ 8 }
-    requires consistent { IsConsistent prepared.now }
-    requires asked { F.MayAsk shelf.old name.now }
-    requires may_read { I.MayRead input.old }
-    requires may_write { O.MayWrite out.old }
+    requires { MayRunWithFiles W prepared.now (F.MayAsk shelf.old name.now) (I.MayRead input.old) (O.MayWrite out.old) }
     ensures ran { OpenedAndRan (IsPlanOfJob (CheckErrors name.now) (F.files shelf.old) prepared.now)
         (IsNextFileOfJob (CheckErrors name.now) (F.files shelf.old) prepared.now)
         (I.left input.old) (I.left input.new) (O.written out.old) (O.written out.new) result }

@@ -1,4 +1,4 @@
-//! The mode that explains the conflicts with warnings.
+//! The mode that explains those conflicts for which there is a warning.
 ghost use Rattle.std.specs.Prelude.{IfOk};
 ghost use Rattle.mh_explain.specs.Explanations.{AreExplanations};
 ghost use Rattle.mh_items.specs.Fitting.{FitsSets};

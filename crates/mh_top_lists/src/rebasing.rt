@@ -1,11 +1,10 @@
 //! The mode that rebases a messages file onto the grammar: it reads the entries of the file, makes the catalogue of the
 //! table, and then writes the rebased text.
-ghost use Rattle.std.specs.Prelude.{◌≡◌, ◌≤◌};
+ghost use Rattle.std.specs.Prelude.{◌≡◌};
 ghost use Rattle.mh_opts.specs.declared.jobs.Job.TheVariants.{RebaseErrors};
 ghost use Rattle.mh_top_plans.specs.Files.{IsNextFileOfJob};
 ghost use Rattle.mh_top_plans.specs.Plan.{IsPlanOfJob};
-ghost use Rattle.mh_top_plans.specs.code.Modes.{OpenedAndRan};
-ghost use Rattle.mh_top_types.specs.code.Prepared.{IsConsistent};
+ghost use Rattle.mh_top_plans.specs.code.Modes.{MayRunWithFiles, OpenedAndRan};
 ghost use Rattle.mh_top_drive.specs.code.ModeCalls.{InputAndOutCounts, ModeShelfCounts};
 
 use crate::refusing::rebase_stop_of;
@@ -59,11 +58,7 @@ pub fn rebase_errors<F: Shelf, I: Source, O: Sink, const W: usize>(
     input: &mut I,
     out: &mut O,
 ) -> Result<(), Stop>
-    requires few { W ≤ 8 }
-    requires consistent { IsConsistent prepared.now }
-    requires asked { F.MayAsk shelf.old file.now }
-    requires may_read { I.MayRead input.old }
-    requires may_write { O.MayWrite out.old }
+    requires { MayRunWithFiles W prepared.now (F.MayAsk shelf.old file.now) (I.MayRead input.old) (O.MayWrite out.old) }
     ensures ran { OpenedAndRan (IsPlanOfJob (RebaseErrors file.now) (F.files shelf.old) prepared.now)
         (IsNextFileOfJob (RebaseErrors file.now) (F.files shelf.old) prepared.now)
         (I.left input.old) (I.left input.new) (O.written out.old) (O.written out.new) result }

@@ -38,7 +38,7 @@ found_there k ks none there = let at = at_contains ks k there in true≢false (s
 abbrev Capital : Text → Type 0
 Capital x = is_capital x ≡ true
 
--- ---- The list of the distinct names in order of first occurrence.
+-- ---- The list of distinct names (`insert_all`) has no name twice, and keeps each property of all names.
 module _ {X : Type 0} (eq : X → X → Bool) (P : X → Type 0) where
   put_all : (ks : List X) (x : X) → All P ks → P x → All P (insert_key eq ks x)
   put_all ks x h p = by (list_any (eq x) ks)

@@ -29,11 +29,11 @@ use Rattle.mh_join_names.specs.declared.outlines.Outline.{Outline}
 use Rattle.mh_join_names.specs.Prelude.{prelude_rules}
 use Rattle.mh_join_names.specs.Names.{Definition, definitions, definitions_from, definitions_in, files, is_elsewhere, is_rule, outline_of, owner_in, prelude_definitions, rule_number, rules, same, same_owner, same_rule, start_names, token_names, tokens_in}
 use Rattle.mh_join_names.specs.Faults.{meanings}
-use Rattle.mh_join_names.specs.Joining.{IsJoined, printed_by, rule_without, token_info, without_alternatives}
+use Rattle.mh_join_names.specs.Joining.{IsJoined, printed_name, rule_of_outline, token_info, without_alternatives}
 use Rattle.mh_expand.specs.Terms.{Term, text}
 use Rattle.mh_expand.specs.Expansion.{IsExpanded, IsInstanceOf, start_term, start_terms}
 use Rattle.mh_inline_unfold.specs.Instances.{is_inlined}
-use Rattle.mh_inline.specs.Faults.{HasNoInlineStart}
+use Rattle.mh_inline.specs.GrammarOfInstances.{HasNoInlineStart}
 use Rattle.mh_inline.specs.Inlined.{IsInlined}
 use Rattle.mh_inline.specs.Kept.{is_kept, nonterminal_number, nonterminal_of}
 use Rattle.mh_front.specs.Stages.{IsGrammarOfModules}
@@ -88,14 +88,14 @@ outlines_named p ms all =
     recursion_from_All IsNamedOutline (rules p ms)
     (firsts_all same_rule IsNamedOutline [] (map outline_of (definitions p ms)) (All-nil IsNamedOutline) (All-map IsNamedOutline outline_of (definitions p ms) (definitions_named p ms all)))
 
-rules_named : (elsewhere : ℕ → Text → Bool) (rs : List JoinedRule) (os : List Outline) → map without_alternatives rs ≡ map (rule_without elsewhere) os → AllByRecursion IsNamedOutline os
+rules_named : (elsewhere : ℕ → Text → Bool) (rs : List JoinedRule) (os : List Outline) → map without_alternatives rs ≡ map (rule_of_outline elsewhere) os → AllByRecursion IsNamedOutline os
     → AllByRecursion (λ (r : JoinedRule). IsInstanceName r.name) rs
 rules_named elsewhere [] os are all = tt
 rules_named elsewhere (r ∷ rs) [] are all = absurd (cc)
 rules_named elsewhere (r ∷ rs) (o ∷ os) are all =
-    let here : without_alternatives r ≡ rule_without elsewhere o = first_same (without_alternatives r) (rule_without elsewhere o) (map without_alternatives rs) (map (rule_without elsewhere) os) are in
-    let rest : map without_alternatives rs ≡ map (rule_without elsewhere) os = ap (drop 1) are in
-    let name : r.name ≡ printed_by elsewhere o.name o.owner = ap (λ (q : JoinedRule). q.name) here in
+    let here : without_alternatives r ≡ rule_of_outline elsewhere o = first_same (without_alternatives r) (rule_of_outline elsewhere o) (map without_alternatives rs) (map (rule_of_outline elsewhere) os) are in
+    let rest : map without_alternatives rs ≡ map (rule_of_outline elsewhere) os = ap (drop 1) are in
+    let name : r.name ≡ printed_name elsewhere o.name o.owner = ap (λ (q : JoinedRule). q.name) here in
     (subst IsInstanceName (sym name) (printed_named elsewhere o.name o.owner all.0), rules_named elsewhere rs os rest all.1)
 
 -- ---- The name of a kept instance.
@@ -144,20 +144,20 @@ module _ (p : Bool) (ms : List Module) where
   public_name j is x r number =
       let outline = at_position (is_rule None x) (rules p ms) r number in
       let parts = and_parts (same_owner None outline.0.owner) (same x outline.0.name) outline.2 in
-      let there : option_map without_alternatives (slice_get j.rules r) ≡ Some (rule_without (is_elsewhere ms) outline.0) =
-      sym (slice_get-map without_alternatives j.rules r) ∙ ap (λ (qs : List JoinedRule). slice_get qs r) is.rules_are.outlines_are ∙ slice_get-map (rule_without (is_elsewhere ms)) (rules p ms) r
-      ∙ ap (option_map (rule_without (is_elsewhere ms))) outline.1 in
-      let rule = option_map_some without_alternatives (slice_get j.rules r) (rule_without (is_elsewhere ms) outline.0) there in
-      let printed : rule.0.name ≡ printed_by (is_elsewhere ms) outline.0.name outline.0.owner = ap (λ (q : JoinedRule). q.name) rule.2 in
-      (rule.0, rule.1, printed ∙ ap (printed_by (is_elsewhere ms) outline.0.name) (no_owner outline.0.owner parts.0) ∙ sym (equal_from_same x outline.0.name parts.1))
+      let there : option_map without_alternatives (slice_get j.rules r) ≡ Some (rule_of_outline (is_elsewhere ms) outline.0) =
+      sym (slice_get-map without_alternatives j.rules r) ∙ ap (λ (qs : List JoinedRule). slice_get qs r) is.rules_are.outlines_are ∙ slice_get-map (rule_of_outline (is_elsewhere ms)) (rules p ms) r
+      ∙ ap (option_map (rule_of_outline (is_elsewhere ms))) outline.1 in
+      let rule = option_map_some without_alternatives (slice_get j.rules r) (rule_of_outline (is_elsewhere ms) outline.0) there in
+      let printed : rule.0.name ≡ printed_name (is_elsewhere ms) outline.0.name outline.0.owner = ap (λ (q : JoinedRule). q.name) rule.2 in
+      (rule.0, rule.1, printed ∙ ap (printed_name (is_elsewhere ms) outline.0.name) (no_owner outline.0.owner parts.0) ∙ sym (equal_from_same x outline.0.name parts.1))
 
-  -- The rule of a start symbol.
+  -- Looking up the name of a start symbol gives the number of the start symbol's rule.
   start_rule : (j : Joined) → IsJoined p ms j → (i r : ℕ) → slice_get j.starts i ≡ Some r → (x : Text) × (slice_get (start_names ms) i ≡ Some x) × (rule_number p ms None x ≡ Some r)
   start_rule j is i r at =
       option_map_some (rule_number p ms None) (slice_get (start_names ms) i) (Some r)
       (sym (slice_get-map (rule_number p ms None) (start_names ms) i) ∙ ap (λ (ns : List (Option ℕ)). slice_get ns i) (sym is.starts_are) ∙ slice_get-map Some j.starts i ∙ ap (option_map Some) at)
 
-  -- The instance of a start symbol, with the rule at its head.
+  -- The name of a start symbol's instance is the text of the term that consists of the start symbol's rule.
   start_instance : (j : Joined) (e : Expanded) → IsExpanded j e → (k n : ℕ) → slice_get e.starts k ≡ Some n
       → (r : ℕ) × (slice_get j.starts k ≡ Some r) × (i : Instance) × (slice_get e.instances n ≡ Some i) × (i.name ≡ text j (start_term r))
   start_instance j e is k n at =

@@ -17,7 +17,7 @@ use Rattle.mh_rules.specs.declared.joined.Head.{Head}
 use Rattle.mh_rules.specs.declared.joined.Head.TheVariants as heads
 use Rattle.mh_rules.specs.declared.joined.Joined.{Joined}
 use Rattle.mh_rules.specs.declared.joined.JoinedRule.{JoinedRule}
-use Rattle.mh_join_names.specs.Joining.{printed_by, with_file}
+use Rattle.mh_join_names.specs.Joining.{printed_name, with_file}
 use Rattle.mh_expand.specs.Terms.{Term, Atom, Apply, head_name, separator, text, unclosed}
 use Rattle.mh_expand.specs.Expansion.{IsInstanceOf, rule_at, rule_of}
 use Rattle.mh_top_load.specs.GrammarNames.{is_instance_byte, IsInstanceName}
@@ -49,7 +49,7 @@ word_not_empty w is e = true≢false (sym (subst (λ (x : Text). is_word x ≡ t
 pub word_named : (w : Text) → is_word w ≡ true → IsInstanceName w
 word_named w is = (word_not_empty w is, of_word_bytes w (word_bytes w is))
 
--- ---- Numbers.
+-- ---- The digits of a number are bytes that a name may have.
 
 digit_byte : (b : ℕ) → 48 ≤ b → b ≤ 57 → is_instance_byte b ≡ true
 digit_byte b low high =
@@ -77,9 +77,9 @@ decimal_named : (n : ℕ) → HasNameBytes (decimal n)
 unfolding digits
 decimal_named n = digits_named 64 n [] refl
 
--- ---- Printed names of rules.
+-- ---- The printed name of a rule is a name of an instance.
 
-pub printed_named : (elsewhere : ℕ → Text → Bool) (x : Text) (owner : Option ℕ) → is_word x ≡ true → IsInstanceName (printed_by elsewhere x owner)
+pub printed_named : (elsewhere : ℕ → Text → Bool) (x : Text) (owner : Option ℕ) → is_word x ≡ true → IsInstanceName (printed_name elsewhere x owner)
 printed_named elsewhere x None is = word_named x is
 printed_named elsewhere x (Some k) is = by (elsewhere k x)
   where

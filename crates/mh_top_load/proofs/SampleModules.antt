@@ -110,7 +110,7 @@ pub text_short : {E : Type 0} (number : ℕ) (r : Result (Vec ℕ Global) E) →
 text_short number (Ok v) is = subst (λ (t : Text). length t < 2 ^ 31) (sym is) (grammar_short number)
 text_short number (Err e) is = tt
 
--- ---- The module of a sample.
+-- ---- The modules of a sample are the one module of its text; if this text stops the work, so does the sample.
 
 module _ (number : ℕ) (bytes : Text) (is : bytes ≡ grammar_text number) where
   pub sample_made : (m : Module) (ms : List Module) → ms ≡ m ∷ [] → IsModule sample_file bytes (Go m) → IsSampleModule number (Go ms)
@@ -133,7 +133,7 @@ module _ (files : Option Files) (order : Order) (sample : Option ℕ) (is : samp
 pub sample_alone : (files : Option Files) (order : Order) (number : ℕ) → sample_of order.job ≡ Some number → (r : Result (List Module) Stop) → StageGives (IsSampleModule number) r → FileStageGives (AreModules files order) (IsNextFile files IsModule (grammar_files order)) r
 sample_alone files order number is r has = by_sample files order (Some number) is r (no_names (IsSampleModule number) (IsNextFile files IsModule []) r has)
 
--- A stage that reads no file leaves the count of the shelf unchanged.
+-- A stage that reads no file leaves the fault count of the shelf (the device that gives the files) unchanged.
 pub shelf_counts_of_stage : {A : Type 0} (Has : StageResult (List A) → Type 0) (n : ℕ) (r : Result (Vec A Global) Stop) → StageGives Has (list_result r) → StageShelfCounts n n r
 shelf_counts_of_stage Has n (Ok v) has = refl
 shelf_counts_of_stage Has n (Err (Halted cause)) has = refl

@@ -1,4 +1,5 @@
--- Proves that a property of sentences with an example does not lack a first one, by the order of sentences.
+-- Proves: if some sentence has a property, it is not the case that no sentence is the first, in the order of sentences,
+-- with the property.
 use Rattle.std.proofs.Common.{◌≡◌, ◌∙◌, ℕ, ◌<◌, ◌≤◌, ◌⊎◌, inl, inr, List, [], ◌∷◌, length, refl, sym, subst, arith}
 use Rattle.std.specs.List.{AllByRecursion}
 use Rattle.std.proofs.lemmas.Bool.{cases_lt}

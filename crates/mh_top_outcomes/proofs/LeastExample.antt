@@ -1,4 +1,5 @@
--- Proves that a property of numbers, and a property of words of bounded length, do not lack a least example.
+-- Proves, as a double negation, that a property that holds for some number has a least number for which it holds. The
+-- same is proved for properties of words of bounded length.
 use Rattle.std.proofs.Common.{◌≡◌, ℕ, zero, suc, ◌≤◌, inl, inr, List, [], ◌∷◌, length, sym, subst, arith}
 use Rattle.std.proofs.lemmas.Bool.{cases_lt}
 use Rattle.mh_grammar.specs.WordOrder.{LexLe}

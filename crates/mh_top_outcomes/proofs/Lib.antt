@@ -11,6 +11,7 @@ mod SomeRandom
 mod SomeDecision
 mod SomeRebased
 mod SomeErrorText
+mod SomeFed
 mod SomeExplanations
 mod SomeAnswer
 mod SomeOutcome

@@ -1,4 +1,4 @@
--- Proves that the numbers below a limit with a property do not lack a rising list.
+-- Proves, as a double negation, that there is a rising list of the numbers with a property, if all are below a limit.
 use Rattle.std.proofs.Common.{ℕ, zero, suc, ◌+◌, ◌<◌, ◌≤◌, ◌↔◌, inl, inr, List, [], ◌∷◌, subst, arith}
 use Rattle.std.specs.List.{Contains, AllByRecursion}
 use Rattle.std.proofs.lemmas.Bool.{cases_eq}

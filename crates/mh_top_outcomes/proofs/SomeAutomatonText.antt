@@ -1,4 +1,4 @@
--- Proves that an automaton with its table does not lack a text.
+-- Proves, as a double negation, that an automaton with its table has a text.
 use Rattle.std.proofs.Common.{◌≡◌, ℕ, zero, suc, ◌+◌, inl, inr, Bool, true, false, List, [], ◌++◌, length, Option, Some, None, refl, subst, arith}
 use Rattle.std.specs.Prelude.{MatchBool, slice_index_or}
 use Rattle.mh_grammar.specs.declared.types.Grammar.{Grammar}

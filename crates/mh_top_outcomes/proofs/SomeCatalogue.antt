@@ -1,4 +1,4 @@
--- Proves that a table does not lack a catalogue of the states in which sentences fail.
+-- Proves, as a double negation, that a table has a catalogue of the states in which sentences fail.
 use Rattle.std.proofs.Common.{◌≡◌, ℕ, zero, suc, ◌+◌, ◌-◌, ◌<◌, ◌≤◌, inl, inr, List, [], ◌∷◌, length, sym, subst, arith}
 use Rattle.std.specs.List.{AllByRecursion, Contains}
 use Rattle.std.proofs.lemmas.Bool.{cases_eq}
@@ -9,7 +9,7 @@ use Rattle.mh_grammar_decided.proofs.NotLacking.{given, chain, decided}
 use Rattle.mh_tables_core.specs.Table.{TableData}
 use Rattle.mh_tables_core.specs.Facts.{Facts}
 use Rattle.mh_tables_core.specs.Failing.{Fails, Failing, FailsFirst, CatalogueRow, IsRowBefore, Catalogue}
-use Rattle.mh_tables_core.proofs.RefusingState.{state_refused}
+use Rattle.mh_tables_core.proofs.RefusingState.{refusing_state_known}
 use Rattle.mh_top_outcomes.proofs.FirstSentence.{some_first}
 
 module _ (t : TableData) (f : Facts t) where
@@ -61,7 +61,7 @@ module _ (t : TableData) (f : Facts t) where
   ]))
 
   state_known : (s : ℕ) → Failing t s → s < length t.states
-  state_known s (start, w, fails) = state_refused t f start w (length w - 1) s fails.sentence.known fails.verdict
+  state_known s (start, w, fails) = refusing_state_known t f start w (length w - 1) s fails.sentence.known fails.verdict
 
   pub some_catalogue : NotLacking ((rows : List CatalogueRow) × Catalogue t rows)
   some_catalogue = chain (rows_from 0 (length t.states)) (λ r. given (

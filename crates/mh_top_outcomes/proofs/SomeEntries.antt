@@ -19,12 +19,12 @@ use Rattle.mh_tables_core.specs.Table.{TableData}
 use Rattle.mh_tables_core.specs.Halting.{HaltingFacts}
 use Rattle.mh_tables_core.specs.Failing.{CatalogueRow, Fails, FailsFirst}
 use Rattle.mh_tables_core.specs.Run.{initial}
-use Rattle.mh_tables_core.proofs.RefusingState.{state_refused}
+use Rattle.mh_tables_core.proofs.RefusingState.{refusing_state_known}
 
 module _ (expected : Bool) (g : Grammar) (a : Automaton) (mode : Mode) (t : TableData) (h : HaltingFacts t) (automaton : IsAutomaton (plain_of g) a) (table : IsTableOf g a mode t) where
   pub some_comments : (start : ℕ) (w : List ℕ) (s : ℕ) → Fails t start w s → (text : Text) × IsCommentBlock expected g a t start w text
   some_comments start w s fails =
-      let known = state_refused t h.facts start w (length w - 1) s fails.sentence.known fails.verdict in
+      let known = refusing_state_known t h.facts start w (length w - 1) s fails.sentence.known fails.verdict in
       let count = table.states.count in
       let item = some_farthest (kernel_at a s).items (automaton.filled s (omega (arith, known, count))) in
       let n = fails.verdict.0 in

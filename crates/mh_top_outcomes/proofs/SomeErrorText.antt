@@ -1,5 +1,5 @@
--- Proves that each line of an examined messages file has a decision, and that the file does not lack the text on what is
--- wrong with the file.
+-- Proves that each line of an examined messages file has a decision, and that a text of what is wrong with the file
+-- exists, up to double negation (`NotLacking`).
 use Rattle.std.proofs.Common.{◌≡◌, ◌∙◌, List, [], ◌∷◌, ◌++◌, map, refl, ap}
 use Rattle.std.specs.Prelude.{filter}
 use Rattle.mh_grammar.specs.declared.types.Grammar.{Grammar}

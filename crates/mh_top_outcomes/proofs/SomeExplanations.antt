@@ -1,4 +1,4 @@
--- Proves that conflicts do not lack their explanations.
+-- Proves, as a double negation, that the conflicts of an automaton have explanations.
 use Rattle.std.proofs.Common.{ℕ, ◌<◌, ◌≤◌, inl, inr, List, [], ◌∷◌, ◌++◌, Option, Some, None, map, length, refl, subst, arith}
 use Rattle.std.specs.Prelude.{codes}
 use Rattle.std.specs.List.{AllByRecursion, Contains}
@@ -112,7 +112,7 @@ module _ (t : TableData) (f : Facts t) (s : ℕ) (Shown : ℕ → Type 0) where
     | inr none ↦ given (NoSentence, λ start w z comes. none (start, w, z, comes))
   ])
 
--- ---- The explanations.
+-- ---- Each conflict, and each list of conflicts, has an explanation.
 
 module _ (g : Grammar) (a : Automaton) (t : TableData) (f : Facts t) (range : IsInRange (plain_of g)) (automaton : IsAutomaton (plain_of g) a) where
   module _ (s : ℕ) (known : s < length a.kernels) where

@@ -1,4 +1,5 @@
--- Proves that no work lacks an outcome on an input: each plan that is made for a job answers each line and ends.
+-- Proves, as a double negation, that each work has an outcome on each input: each plan that is made for a job answers
+-- each line and ends.
 use Rattle.std.proofs.Common.{◌≡◌, ℕ, inl, inr, Bool, true, false, List, [], ◌∷◌, ◌++◌, length, Option, Some, None, refl, sym, ap, subst}
 use Rattle.std.specs.Prelude.{◌&&◌}
 use Rattle.mh_outside.specs.Shelf.{Files}
@@ -50,7 +51,7 @@ use Rattle.mh_top_outcomes.proofs.SomeRandom.{some_drawn}
 use Rattle.mh_top_outcomes.proofs.SomeRebased.{some_rebased}
 use Rattle.mh_top_outcomes.proofs.SomeExplanations.{some_explanations}
 use Rattle.mh_top_outcomes.proofs.SomeErrorText.{some_error_text}
-use Rattle.mh_top_outcomes.proofs.SomeAnswer.{some_verdict, some_explanation, some_reply}
+use Rattle.mh_top_outcomes.proofs.SomeAnswer.{AreBranchesOf, no_branches, some_verdict, some_explanation, some_reply}
 
 -- ---- The ends of modes that ask for no line.
 
@@ -119,13 +120,13 @@ data Fits : Plan → Type 0 where
   FitsEnd : {output : FinalOutput} → HasEnd output → Fits (Ends output)
   FitsJudge : {by : VerdictContext} → HaltingFacts by.table → by.table.grammar ≡ plain_of by.grammar → Fits (Judges by)
   FitsExplain : {p : Prepared} {line : Text} → PreparedFacts p → Fits (Explains p line)
-  FitsServe : {g : Grammar} {t : TableData} {branches : Branches} → Fits (Serves g t branches)
+  FitsServe : {g : Grammar} {t : TableData} {branches : Branches} → HaltingFacts t → t.grammar ≡ plain_of g → AreBranchesOf t branches → Fits (Serves g t branches)
 
 answer : (plan : Plan) → Fits plan → (line : Text) → NotLacking ((text : Text) × (next : Plan) × Answers plan line text next × Fits next)
 answer (Ends output) (FitsEnd has) line = given ([], Ends output, (refl, refl), FitsEnd has)
 answer (Judges by) (FitsJudge h same) line = chain (some_verdict by h same line) (λ x. given (x.0, Judges by, (x.1, refl), FitsJudge h same))
 answer (Explains p old) (FitsExplain facts) line = given ([], Explains p line, (refl, refl), FitsExplain facts)
-answer (Serves g t branches) FitsServe line = chain (some_reply t branches g line) (λ x. given (x.0, Serves g t x.1, (x.1, x.2, refl), FitsServe))
+answer (Serves g t branches) (FitsServe h same all) line = chain (some_reply t h branches all g same line) (λ x. given (x.0, Serves g t x.1, (x.1, x.2, refl), FitsServe h same x.3))
 
 answers : (lines : List Text) (plan : Plan) → Fits plan → NotLacking ((text : Text) × (last : Plan) × AnswersAll plan_behavior plan lines text last × Fits last)
 answers [] plan fits = given ([], plan, (refl, refl), fits)
@@ -135,7 +136,7 @@ end : (plan : Plan) → Fits plan → NotLacking ((e : ModeEnd) × EndsWith plan
 end (Ends output) (FitsEnd has) = has
 end (Judges by) (FitsJudge h same) = given (writes [], refl)
 end (Explains p line) (FitsExplain facts) = let made = some_explanation p facts line in given (end_of_final_text made.0, (made.0, made.1, refl))
-end (Serves g t branches) FitsServe = given (writes [], refl)
+end (Serves g t branches) (FitsServe h same all) = given (writes [], refl)
 
 asked : (asks : Asks) (input : Option Text) → (lines : List Text) × (complete : Bool) × AreAskedLines asks input lines complete
 asked NoLine input = ([], true, (refl, refl))
@@ -160,7 +161,7 @@ outcome plan fits input =
     let a = asked (asks_of plan) input in
     chain (answers a.0 plan fits) (λ r. chain (end r.1 r.3) (λ e. given (ended plan input a.0 r.0 r.1 r.2 a.1 a.2 e.0 e.1)))
 
--- ---- The plan for each job.
+-- ---- The plan for each job has what it needs to answer each line and to end (`Fits`).
 
 known : (e : ModeEnd) → Fits (Ends (Known e))
 known e = FitsEnd (given (e, refl))
@@ -176,7 +177,7 @@ module _ (files : Option Files) (p : Prepared) (facts : PreparedFacts p) where
   fits_job : (job : Job) (plan : Plan) → IsPlanOfJob job files p plan → Fits plan
   fits_job jobs.Interpret plan (s, of, is) = subst Fits (sym is) (of_stage (judging_plan p) (λ messages. FitsJudge facts.halts facts.consistent.table.grammar) s)
   fits_job jobs.InterpretError plan is = subst Fits (sym is) (FitsExplain facts)
-  fits_job jobs.Session plan is = subst Fits (sym is) FitsServe
+  fits_job jobs.Session plan is = subst Fits (sym is) (FitsServe facts.halts facts.consistent.table.grammar (no_branches p.tabled.halting))
   fits_job jobs.ShowAutomaton plan is = subst Fits (sym is) (FitsEnd (automaton_end p facts))
   fits_job jobs.WriteTables plan is = subst Fits (sym is) (known (end_of_final_text (Written (table_file_text p))))
   fits_job jobs.ListErrors plan is = subst Fits (sym is) (FitsEnd (errors_end p facts))

@@ -1,4 +1,4 @@
--- Proves that a grammar with a sentence within the limit does not lack the random sentence of a seed.
+-- Proves, as a double negation, that a grammar with a sentence within the limit has a random sentence for each seed.
 use Rattle.std.proofs.Common.{◌≡◌, ◌∙◌, ℕ, zero, suc, ◌+◌, ◌<◌, ◌≤◌, ◌%◌, inl, inr, List, [], ◌∷◌, ◌++◌, length, refl, sym, ap, subst, append_assoc, arith}
 use Rattle.std.proofs.lemmas.Bool.{cases_lt}
 use Rattle.std.proofs.lemmas.List.{append-nil, length-append}
@@ -76,7 +76,7 @@ module _ (g : PlainGrammar) where
     draws d l next (T z ∷ rest) w c = chain (draws d l next rest (w ++ z ∷ []) (rest_can_end g n w (z ∷ []) (T z) rest (token_length g z) c)) (λ s. given (s.0, random.Writes.token s.1))
     draws d l next (N x ∷ rest) w c = chain (some_draw d w x rest c) (λ p. chain (next w (rhs_of g p.0 ++ rest) p.2) (λ s. given (s.0, random.Writes.drawn p.0 l p.1 s.1)))
 
-    -- The rest of the writing after the last draw.
+    -- Once all draws are made, the pending symbols can be written: each nonterminal as its least word.
     least_words : (d : ℕ) → max_draws ≤ d → (pending : List Symbol) (w : List ℕ) → CanEnd g n (length w) pending → NotLacking (Ends d w pending)
     least_words d l [] w c = given (w, random.Writes.ended)
     least_words d l (T z ∷ rest) w c = chain (least_words d l rest (w ++ z ∷ []) (rest_can_end g n w (z ∷ []) (T z) rest (token_length g z) c)) (λ s. given (s.0, random.Writes.token s.1))

@@ -1,4 +1,4 @@
--- Proves that a messages file for another grammar does not lack its rebased text.
+-- Proves, as a double negation, that a messages file for another grammar has a rebased text.
 use Rattle.std.proofs.Common.{◌≡◌, ◌∙◌, Bool, true, false, List, [], ◌∷◌, ◌++◌, map, refl, ap}
 use Rattle.std.specs.List.{AllByRecursion}
 use Rattle.std.specs.Prelude.{filter}

@@ -1,4 +1,5 @@
--- Proves that a grammar does not lack a shortest word of each nonterminal, and the text of all of them.
+-- Proves, as a double negation, that each symbol that derives a word derives a shortest word, and that a grammar has a
+-- text of shortest words.
 use Rattle.std.proofs.Common.{◌≡◌, ◌∙◌, ℕ, ◌+◌, inl, inr, List, length, refl, sym, subst, arith}
 use Rattle.std.specs.Prelude.{slice_index_or}
 use Rattle.std.proofs.lemmas.Bool.{cases_lt}

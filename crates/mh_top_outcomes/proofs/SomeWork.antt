@@ -1,4 +1,4 @@
--- Proves that no words and files lack a work that is asked for: no stage of the work lacks an outcome.
+-- Proves, as a double negation, that all words and files ask for some work, as each stage of the work has an outcome.
 use Rattle.mh_grammar_decided.specs.NotLacking.{NotLacking}
 use Rattle.mh_grammar_decided.proofs.NotLacking.{given, chain, decided, tabled}
 use Rattle.mh_reader.proofs.SpellsOrSyntaxLine.{read_always}
@@ -73,7 +73,7 @@ then_some {A = A} {B = B} First Next some next = chain some (λ f. by f.0 f.1)
     by (Go x) is = chain (next x is) (λ s. given (s.0, (Go x, is, s.1)))
     by (Halt cause) is = given (Halt cause, (Halt cause, is, refl))
 
--- Files.
+-- Each file, and each list of files, has a result of its stage.
 
 module _ {A : Type 0} (Stage : Text → Text → StageResult A → Type 0) (some : (name bytes : Text) → NotLacking ((s : StageResult A) × Stage name bytes s)) where
   loads : (files : Option Files) (name : Text) → (s : StageResult Text) × IsLoaded files name s
@@ -97,7 +97,7 @@ some_modules_by : (sample : Option ℕ) (files : Option Files) (names : List Tex
 some_modules_by None files names = some_files IsModule some_module files names
 some_modules_by (Some number) files names = then_some (IsModule sample_file (grammar_text number)) (λ m. Gives (m ∷ [])) (some_module sample_file (grammar_text number)) (λ m is. given (Go (m ∷ []), refl))
 
--- The grammar.
+-- The stages up to the grammar have a result.
 
 some_grammar_stage : (prelude : Bool) (modules : List Module) → AreModulesReady modules → NotLacking ((s : StageResult Grammar) × IsGrammarStage prelude modules s)
 some_grammar_stage prelude modules ready = chain (some_grammar prelude modules ready) (λ r. elim r [
@@ -113,7 +113,7 @@ some_front words files = at (staged_order words)
     at (Go order) = then_some (AreModules files order) (λ modules. Then (IsGrammarStage order.stdlib modules) (λ grammar. Gives (record { order = order; grammar = grammar }))) (some_modules_by (sample_of order.job) files order.grammars) (λ modules are.
         then_some (IsGrammarStage order.stdlib modules) (λ grammar. Gives (record { order = order; grammar = grammar })) (some_grammar_stage order.stdlib modules (modules_ready files (sample_of order.job) order.grammars modules are)) (λ g is. given (Go (record { order = order; grammar = g }), refl)))
 
--- The table.
+-- The stages up to the table have a result.
 
 some_table_file : (name bytes : Text) → NotLacking ((s : StageResult RawTable) × IsTableFile name bytes s)
 some_table_file name bytes = elim (read_or_bad bytes) [
@@ -135,11 +135,11 @@ module _ (g : Grammar) (range : IsInRange (plain_of g)) where
   some_automaton : (source : AutomatonSource) → NotLacking ((s : StageResult Automaton) × IsAutomatonStage source g s)
   some_automaton Merged = chain (decided (MergingExceeds (plain_of g) max_states)) (λ d. elim d [
     | inl over ↦ given (Halt (Refused too_many_states), (over, refl))
-    | inr not ↦ chain (merging.none_lacks (plain_of g) range max_states few_starts) (λ r. elim r [ inl a ↦ given (Go a.0, (not, a.1)) | inr over ↦ absurd (not over) ])
+    | inr not ↦ chain (merging.merged_or_exceeds (plain_of g) range max_states few_starts) (λ r. elim r [ inl a ↦ given (Go a.0, (not, a.1)) | inr over ↦ absurd (not over) ])
   ])
   some_automaton Canonical = chain (decided (CanonicalExceeds (plain_of g) max_states)) (λ d. elim d [
     | inl over ↦ given (Halt (Refused too_many_states), (over, refl))
-    | inr not ↦ chain (canon.none_lacks (plain_of g) max_states range few_starts) (λ r. elim r [ inl a ↦ given (Go a.0, (not, a.1)) | inr over ↦ absurd (not over) ])
+    | inr not ↦ chain (canon.canonical_or_exceeds (plain_of g) max_states range few_starts) (λ r. elim r [ inl a ↦ given (Go a.0, (not, a.1)) | inr over ↦ absurd (not over) ])
   ])
   some_automaton (File name raw) = chain (valid.valid_or_invalid g raw) (λ r. elim r [
     | inl v ↦ given (Go v.0, (v.1, v.2))
@@ -175,5 +175,5 @@ some_tabled files front ready = then_some (IsAutomatonSource files front.order) 
 pub some_prepared : (words : List Text) (files : Option Files) → NotLacking ((s : StageResult Prepared) × IsPrepared words files s)
 some_prepared words files = then_some (IsOrderAndGrammar words files) (IsPreparedFromFiles files) (some_front words files) (λ front is. some_tabled files front (front_ready words files front is))
 
-pub none_lacks_work : (words : List Text) (files : Option Files) → NotLacking ((w : Work) × IsWork words files w)
-none_lacks_work words files = chain (some_prepared words files) (λ p. given (some_work words files p.0 p.1))
+pub some_asked_work : (words : List Text) (files : Option Files) → NotLacking ((w : Work) × IsWork words files w)
+some_asked_work words files = chain (some_prepared words files) (λ p. given (some_work words files p.0 p.1))

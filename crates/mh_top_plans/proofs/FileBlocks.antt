@@ -19,7 +19,7 @@ use Rattle.mh_top_drive.proofs.Then.{IsOne}
 use Rattle.mh_top_plans.specs.MessagesFiles.{AreLooseBlocks}
 use Rattle.mh_top_plans.proofs.FilesOfMode.{ContentFacts, StopsAllowed, loaded_short}
 
--- ---- The blocks of bytes.
+-- ---- Bytes have exactly one list of blocks.
 
 module _ (bytes : Text) where
   blocks_once : (a b : LooseBlocks) → HasBlocks bytes a → HasBlocks bytes b → a ≡ b
@@ -38,7 +38,7 @@ module _ (bytes : Text) where
     record { lines = all_lines; are = are_lines bytes; entries = refl; unpaired = refl },
   )
 
--- ---- The stage.
+-- ---- The stage that reads the blocks of the named file.
 
 stage_once : (name bytes : Text) → IsOne (AreLooseBlocks name bytes)
 stage_once name bytes (Go a) (Go b) p q = ap Go (blocks_once bytes a b p q)

@@ -19,7 +19,7 @@ use Rattle.mh_top_drive.proofs.Then.{IsOne}
 use Rattle.mh_top_plans.specs.MessagesFiles.{IsLooseFile}
 use Rattle.mh_top_plans.proofs.FilesOfMode.{ContentFacts, StopsAllowed, loaded_short}
 
--- ---- The entries of bytes.
+-- ---- Bytes spell exactly one list of entries, or an entry of them lacks its message.
 
 module _ (bytes : Text) where
   loose_once : (a b : LooseFile) → LooseSpells bytes a → LooseSpells bytes b → a ≡ b
@@ -50,7 +50,7 @@ module _ (bytes : Text) where
   loose_exists : ((file : LooseFile) × LooseSpells bytes file) ⊎ ((n : ℕ) × LacksMessage bytes n)
   loose_exists = found (unpaired_block (blocks all_lines)) refl
 
--- ---- The stage.
+-- ---- The stage that reads the entries has exactly one result.
 
 stage_once : (name bytes : Text) → IsOne (IsLooseFile name bytes)
 stage_once name bytes (Go a) (Go b) p q = ap Go (loose_once bytes a b p q)

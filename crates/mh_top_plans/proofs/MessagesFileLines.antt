@@ -32,7 +32,7 @@ use Rattle.mh_top_plans.specs.code.Modes.{Opens}
 use Rattle.mh_top_plans.specs.Plan.{Plan, AreOptionalMessages, plan_of_stage}
 use Rattle.mh_top_plans.proofs.FilesOfMode.{ContentFacts, StopsAllowed, file_once, file_right, loaded_short, some_file, unread_halts}
 
--- ---- The content of a messages file.
+-- ---- The stage that reads a messages file has exactly one result.
 
 module _ (g : Grammar) where
   spelled_once : (name bytes : Text) → IsOne (IsMessagesFile g name bytes)
@@ -65,7 +65,7 @@ module _ (g : Grammar) (t : TableData) (same : t.grammar ≡ plain_of g) where
       at (Go bytes) loads spells = fits bytes file (loaded_short files name bytes loads) spells
       at (Halt cause) loads same = absurd (cc)
 
--- ---- The messages of a messages file.
+-- ---- The stage that compiles the messages of a messages file has exactly one result.
 
 of_file_once : (t : TableData) (name : Text) (file : MsgFile) → IsOne (AreMessagesOf t name file)
 of_file_once t name file (Go a) (Go b) p q = ap Go (checked.compiled_once t file a b p q)

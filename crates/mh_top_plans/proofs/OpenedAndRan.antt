@@ -13,7 +13,7 @@ use Rattle.mh_top_drive.specs.ModeBehavior.{input_left}
 use Rattle.mh_top_drive.specs.declared.stop.Cause.{Cause}
 use Rattle.mh_top_drive.specs.declared.stop.Stop.{Stop}
 use Rattle.mh_top_drive.specs.declared.stop.Stop.TheVariants.{Halted, ShelfFailed, InputFailed, WriteFailed, OutOfMemory}
-use Rattle.mh_top_drive.proofs.OpenedModes.{ran_read}
+use Rattle.mh_top_drive.proofs.OpenedModes.{shelf_counts_of_mode}
 use Rattle.mh_top_types.specs.Shapes.{Prepared}
 use Rattle.mh_top_plans.specs.Files.{IsNextFileOfJob}
 use Rattle.mh_top_plans.specs.code.Modes.{OpenedAndRan, IsUnopened, Opens, WritesFinal}
@@ -47,7 +47,7 @@ module _ {M : Type 0} (StandsFor : M → Plan → Type 0) where
 
   -- The shelf's count after a mode ran is the count after it was opened.
   pub opened_read : (Is : Plan → Type 0) (Names : Text → Type 0) (opened : Result M Stop) (in0 in1 out0 out1 : Option Text) (n m : ℕ) (r : Result (Unit {0}) Stop) → Opens StandsFor Is Names opened → StageShelfCounts n m opened → OpenedModeRan plan_behavior StandsFor opened in0 in1 out0 out1 r → ModeShelfCounts n m r
-  opened_read Is Names (Ok mode) in0 in1 out0 out1 n m r opens counts driven = subst (λ (k : ℕ). ModeShelfCounts n k r) (sym counts) (ran_read plan_behavior opens.0 in0 in1 out0 out1 n r (driven opens.0 opens.2))
+  opened_read Is Names (Ok mode) in0 in1 out0 out1 n m r opens counts driven = subst (λ (k : ℕ). ModeShelfCounts n k r) (sym counts) (shelf_counts_of_mode plan_behavior opens.0 in0 in1 out0 out1 n r (driven opens.0 opens.2))
   opened_read Is Names (Err stop) in0 in1 out0 out1 n m r opens counts driven = subst (ModeShelfCounts n m) (sym driven.0) (stopped_read stop n m counts)
 
   pub opened_some : (Is : Plan → Type 0) (Names : Text → Type 0) (opened : Result M Stop) → Opens StandsFor Is Names opened → IsOpened StandsFor opened
@@ -100,7 +100,7 @@ module _ (Is : Plan → Type 0) (in0 in1 out0 out1 : Option Text) where
   unopened_read n (Err WriteFailed) is = absurd is
 
   pub still_read : (n : ℕ) (r : Result (Unit {0}) Stop) → OpenedAndRan Is (λ name. ⊥) in0 in1 out0 out1 r → ModeShelfCounts n n r
-  still_read n r (inl ran) = ran_read plan_behavior ran.0 in0 in1 out0 out1 n r ran.2
+  still_read n r (inl ran) = shelf_counts_of_mode plan_behavior ran.0 in0 in1 out0 out1 n r ran.2
   still_read n r (inr not) = unopened_read n r not.0
 
 -- ---- The mode of the job of an order.

@@ -1,4 +1,4 @@
--- Proves that the source of the automaton that the code gives is the one of the definition of the stage.
+-- Proves that the source of the automaton that the code gives is a source that the definition of the stage allows.
 use Rattle.std.proofs.Common.{◌≡◌, ◌<◌, ◌^◌, Bool, true, false, length, Option, Some, None, refl, subst, sym, ap, ◌∙◌}
 use Rattle.std.specs.Prelude.{Result, Err}
 use Rattle.mh_opts.specs.declared.order.Order.{Order}

@@ -7,7 +7,7 @@ use Rattle.mh_resolve_cells.specs.States.{IsTableOf}
 use Rattle.mh_resolve_cells.specs.Conflicts.{AreConflicts}
 use Rattle.mh_resolve_cells.specs.declared.kinds.Mode.{Mode}
 use Rattle.mh_tables_core.specs.Table.{TableData}
-use Rattle.mh_tables_core.specs.Halting.{AlwaysHalts, LoopsAt}
+use Rattle.mh_tables_core.specs.Halting.{AlwaysHalts, IsFirstLoop}
 use Rattle.mh_top_tables.specs.Loops.{loops_line}
 use Rattle.mh_top_drive.specs.StageResults.{StageResult, Go, Halt}
 use Rattle.mh_msgfile.specs.Sentences.{token_names}
@@ -23,7 +23,7 @@ pub record HasFirstLoop (mode : Mode) (g : Grammar) (a : Automaton) (cause : Cau
   pub below : Option ℕ
   pub state : ℕ
   pub look : Option ℕ
-  pub loops : LoopsAt found below state look
+  pub loops : IsFirstLoop found below state look
   pub cause_is : cause ≡ Refused (loops_line (token_names g) below state look)
 
 -- `tabled` is the automaton with its table, on which no relative run makes more than 10,000 reductions, and with its

@@ -29,7 +29,7 @@ use Rattle.mh_report_notation.specs.ItemTexts.{looks_after, item_text, item_line
 use Rattle.mh_grammar_texts.specs.Productions.{spaced_symbols, left_side_text, production_text}
 use Rattle.mh_msgfile.specs.FileTexts.{names_after}
 use Rattle.mh_msgfile.proofs.LineEnds.{with_ends, IsReadUnchanged, no_cr-unchanged}
-use Rattle.mh_tables_core.proofs.RefusingState.{state_refused}
+use Rattle.mh_tables_core.proofs.RefusingState.{refusing_state_known}
 use Rattle.mh_report_comments.specs.Comments.{before_dot, kernel_comments, comments, expected_comment, expected_title, IsCommentBlock, IsCommentText, state_comment, suffix_title, suffix_comment, reduced_title, reduced_comment, reduced_comments}
 use Rattle.mh_grammar.specs.Text.{Text}
 use Rattle.mh_update_renewed.specs.Updates.{is_generated}
@@ -214,7 +214,7 @@ module _ (g : Grammar) (names : HasNamesWithoutLineEnds g) where
   -- The comment text of a sentence that fails consists of generated lines.
   pub IsGeneratedText-comment : (a : Automaton) (t : TableData) → Facts t → (start : ℕ) (w : List ℕ) (text : Text) → IsCommentText g a t start w text → IsGeneratedText text
   IsGeneratedText-comment a t f start w text is =
-      let below : is.state < length t.states = state_refused t f start w (length w - 1) is.state is.fails.sentence.known is.fails.verdict in
+      let below : is.state < length t.states = refusing_state_known t f start w (length w - 1) is.state is.fails.sentence.known is.fails.verdict in
       let few : length t.states < 2 ^ 32 = f.ranges.few_states in
       IsGeneratedText-equal text (comments g (kernel_at a is.state).items is.state is.item is.reduced) is.is (IsGeneratedText-comments (kernel_at a is.state).items is.state is.item is.reduced (omega (arith, below, few)))
 

@@ -53,11 +53,12 @@ place_of_next_line Words Sentences = Sentences
 place_of_next_line Words BeforeMessage = Message
 place_of_next_line Words Message = Message
 
-abbrev pub Content : Type 0
-Content = ℕ × List ℕ
+-- What a sentence line says: the number of the start, and the tokens.
+abbrev pub SentenceContent : Type 0
+SentenceContent = ℕ × List ℕ
 
 -- The start and the tokens of a line that is a sentence.
-abbrev pub content_in : LineResult → Option Content
+abbrev pub content_in : LineResult → Option SentenceContent
 content_in (IsSentence s) = Some (s.start, s.tokens)
 content_in IsUnreadable = None
 content_in (NamesNoStart name) = None
@@ -65,7 +66,7 @@ content_in LacksStart = None
 content_in (NamesUnknown name) = None
 
 -- The start and the tokens of a line of this kind at this place, if it is a sentence line.
-abbrev pub sentence_content : MessagesLineKind → LinePlace → LineResult → Option Content
+abbrev pub sentence_content : MessagesLineKind → LinePlace → LineResult → Option SentenceContent
 sentence_content Remark place found = None
 sentence_content Blank place found = None
 sentence_content Words Outside found = content_in found
@@ -73,7 +74,7 @@ sentence_content Words Sentences found = content_in found
 sentence_content Words BeforeMessage found = None
 sentence_content Words Message found = None
 
-abbrev pub with_sentence : ℕ → Option Content → List MsgSentence → List MsgSentence
+abbrev pub with_sentence : ℕ → Option SentenceContent → List MsgSentence → List MsgSentence
 with_sentence number None xs = xs
 with_sentence number (Some c) xs = record { line = number; start = c.0; tokens = c.1 } ∷ xs
 
@@ -105,15 +106,15 @@ generated_is_remark line is = ap (λ (b : Bool). kind_by b (list_all is_blank li
 -- line, or is a sentence line that comment lines follow.
 -- `comment_blocks` has, for each sentence line, the comment lines to insert after it.
 -- `IsCommentOf` relates the content of a sentence line to the text of its comment lines.
-pub data Walk (v : Vocabulary) (IsCommentOf : Content → Text → Type 0) : LinePlace → List Text → List (List Text) → Type 0 where
+pub data Walk (v : Vocabulary) (IsCommentOf : SentenceContent → Text → Type 0) : LinePlace → List Text → List (List Text) → Type 0 where
   Ended : (place : LinePlace) → Walk v IsCommentOf place [] []
   Dropped : (place : LinePlace) (line : Text) (lines : List Text) (comment_blocks : List (List Text)) → is_generated line ≡ true → Walk v IsCommentOf place lines comment_blocks → Walk v IsCommentOf place (line ∷ lines) comment_blocks
   Uncommented : (place : LinePlace) (line : Text) (lines : List Text) (comment_blocks : List (List Text)) → is_generated line ≡ false → sentence_content (kind_of line) place (sentence_in v line) ≡ None
       → Walk v IsCommentOf (place_of_next_line (kind_of line) place) lines comment_blocks → Walk v IsCommentOf place (line ∷ lines) comment_blocks
-  Commented : (place : LinePlace) (line : Text) (lines : List Text) (content : Content) (comment_block : List Text) (comment_blocks : List (List Text)) → is_generated line ≡ false → sentence_content (kind_of line) place (sentence_in v line) ≡ Some content
+  Commented : (place : LinePlace) (line : Text) (lines : List Text) (content : SentenceContent) (comment_block : List Text) (comment_blocks : List (List Text)) → is_generated line ≡ false → sentence_content (kind_of line) place (sentence_in v line) ≡ Some content
       → IsCommentOf content (with_ends comment_block) → AllByRecursion IsGeneratedLine comment_block → Walk v IsCommentOf (place_of_next_line (kind_of line) place) lines comment_blocks → Walk v IsCommentOf place (line ∷ lines) (comment_block ∷ comment_blocks)
 
-module _ (v : Vocabulary) (IsCommentOf : Content → Text → Type 0) where
+module _ (v : Vocabulary) (IsCommentOf : SentenceContent → Text → Type 0) where
   -- The lines of the updated file.
   abbrev pub updated_lines : (place : LinePlace) (lines : List Text) (comment_blocks : List (List Text)) → Walk v IsCommentOf place lines comment_blocks → List Text
   updated_lines place lines comment_blocks (Ended p) = []
@@ -204,7 +205,7 @@ module _ (v : Vocabulary) (IsCommentOf : Content → Text → Type 0) where
   updated_keeps_lines place lines comment_blocks (Commented p x xs c l ls own some is made walk) =
       one_more x (l ++ updated_lines (place_of_next_line (kind_of x) p) xs ls walk) xs (generated_filtered_out l (updated_lines (place_of_next_line (kind_of x) p) xs ls walk) made ∙ updated_keeps_lines (place_of_next_line (kind_of x) p) xs ls walk)
 
-  -- ---- The text of a walk is the one of the definition.
+  -- ---- The text of a walk is the updated text as `IsUpdated` defines it (`updated_from`).
 
   own_none : (line : Text) → is_generated line ≡ true → kept_text line ≡ []
   own_none line made = rw made refl

@@ -170,7 +170,7 @@ module _ (lines : List Text) where
     of_entries (block ∷ message ∷ rest) right =
         ap (λ (l : List MsgSentence). sentences_of v lines block ++ l) (of_entries rest (nil_parts (faults_of v lines block) (faults_in v lines rest) right).1) ∙ sym (flat_map-append found_at block (odd rest))
 
--- The sentences of a whole file.
+-- The sentences of the entries of a file are the sentences of its lines, in order.
 pub sentences_are : (g : Grammar) (bytes : Text) (file : MsgFile) → MsgSpells g bytes file → all_sentences file ≡ sentences (vocabulary_of g) Outside 0 file.lines
 sentences_are g bytes file spells =
     ap (flat_map (λ (e : Entry). e.sentences)) spells.entries ∙ of_entries file.lines (vocabulary_of g) (blocks file.lines) spells.no_faults ∙ all_read file.lines (vocabulary_of g) 0 file.lines refl Outside

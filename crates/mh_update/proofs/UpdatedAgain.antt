@@ -21,7 +21,7 @@ use Rattle.mh_update_renewed.specs.declared.comment.Comment.{Comment}
 use Rattle.mh_grammar.specs.Text.{Text}
 use Rattle.mh_update_renewed.specs.Updates.{IsComment, AreComments, updated, IsUpdated, is_generated}
 use Rattle.mh_update.specs.NoLineEnds.{HasNamesWithoutLineEnds, HasNoCrAtEnds}
-use Rattle.mh_update.proofs.LineWalk.{LinePlace, Outside, MessagesLineKind, kind_of, place_of_next_line, Content, sentence_content, with_sentence, sentences, generated_is_remark, Walk, Ended, Dropped, Uncommented, Commented, updated_lines, text_of, comments_of, walk_again, updated_text, again_text, updated_lines_read_unchanged, updated_keeps_lines, text_is}
+use Rattle.mh_update.proofs.LineWalk.{LinePlace, Outside, MessagesLineKind, kind_of, place_of_next_line, SentenceContent, sentence_content, with_sentence, sentences, generated_is_remark, Walk, Ended, Dropped, Uncommented, Commented, updated_lines, text_of, comments_of, walk_again, updated_text, again_text, updated_lines_read_unchanged, updated_keeps_lines, text_is}
 use Rattle.mh_update.proofs.SentencesByLine.{sentences_are}
 use Rattle.mh_update.proofs.SameContent.{alike}
 use Rattle.mh_update.proofs.GeneratedText.{IsGeneratedText, IsGeneratedText-block}
@@ -36,7 +36,7 @@ all_whole (line ∷ lines) ends free = (
 )
 
 module _ (expected : Bool) (g : Grammar) (a : Automaton) (t : TableData) where
-  abbrev IsCommentOf : Content → Text → Type 0
+  abbrev IsCommentOf : SentenceContent → Text → Type 0
   IsCommentOf c text = IsCommentBlock expected g a t c.0 c.1 text
 
   abbrev v : Vocabulary
@@ -53,7 +53,7 @@ module _ (expected : Bool) (g : Grammar) (a : Automaton) (t : TableData) where
     abbrev Finds : LinePlace → ℕ → List Text → Type 0
     Finds place before lines = (cs : List Comment) → AreComments expected g a t (sentences v place before lines) cs → WalkFound place before lines cs
 
-    telling : (place : LinePlace) (before : ℕ) (x : Text) (xs : List Text) (content : Content) (cs : List Comment) → is_generated x ≡ false → sentence_content (kind_of x) place (sentence_in v x) ≡ Some content
+    telling : (place : LinePlace) (before : ℕ) (x : Text) (xs : List Text) (content : SentenceContent) (cs : List Comment) → is_generated x ≡ false → sentence_content (kind_of x) place (sentence_in v x) ≡ Some content
         → Finds (place_of_next_line (kind_of x) place) (before + 1) xs → AreComments expected g a t (with_sentence (before + 1) (Some content) (sentences v (place_of_next_line (kind_of x) place) (before + 1) xs)) cs → WalkFound place before (x ∷ xs) cs
     telling place before x xs content [] own some finds are = absurd are
     telling place before x xs content (d ∷ cs) own some finds are =
@@ -66,7 +66,7 @@ module _ (expected : Bool) (g : Grammar) (a : Automaton) (t : TableData) where
           comments_are = (let same = later.comments_are in λ i. record { line = sym line i; text = sym text i } ∷ same i);
         }
 
-    walk_on : (place : LinePlace) (before : ℕ) (x : Text) (xs : List Text) (cs : List Comment) (made : Bool) → is_generated x ≡ made → (o : Option Content) → sentence_content (kind_of x) place (sentence_in v x) ≡ o
+    walk_on : (place : LinePlace) (before : ℕ) (x : Text) (xs : List Text) (cs : List Comment) (made : Bool) → is_generated x ≡ made → (o : Option SentenceContent) → sentence_content (kind_of x) place (sentence_in v x) ≡ o
         → ((p : LinePlace) → Finds p (before + 1) xs) → AreComments expected g a t (sentences v place before (x ∷ xs)) cs → WalkFound place before (x ∷ xs) cs
     walk_on place before x xs cs true made o is finds are =
         let later = finds place cs (subst (λ (k : MessagesLineKind). AreComments expected g a t (with_sentence (before + 1) (sentence_content k place (sentence_in v x)) (sentences v (place_of_next_line k place) (before + 1) xs)) cs) (generated_is_remark x made) are) in record {
@@ -75,13 +75,13 @@ module _ (expected : Bool) (g : Grammar) (a : Automaton) (t : TableData) where
           comments_are = later.comments_are;
         }
     walk_on place before x xs cs false own None is finds are =
-        let later = finds (place_of_next_line (kind_of x) place) cs (subst (λ (o : Option Content). AreComments expected g a t (with_sentence (before + 1) o (sentences v (place_of_next_line (kind_of x) place) (before + 1) xs)) cs) is are) in record {
+        let later = finds (place_of_next_line (kind_of x) place) cs (subst (λ (o : Option SentenceContent). AreComments expected g a t (with_sentence (before + 1) o (sentences v (place_of_next_line (kind_of x) place) (before + 1) xs)) cs) is are) in record {
           comment_blocks = later.comment_blocks;
           walk = Uncommented place x xs later.comment_blocks own is later.walk;
           comments_are = later.comments_are;
         }
     walk_on place before x xs cs false own (Some content) is finds are =
-        telling place before x xs content cs own is (finds (place_of_next_line (kind_of x) place)) (subst (λ (o : Option Content). AreComments expected g a t (with_sentence (before + 1) o (sentences v (place_of_next_line (kind_of x) place) (before + 1) xs)) cs) is are)
+        telling place before x xs content cs own is (finds (place_of_next_line (kind_of x) place)) (subst (λ (o : Option SentenceContent). AreComments expected g a t (with_sentence (before + 1) o (sentences v (place_of_next_line (kind_of x) place) (before + 1) xs)) cs) is are)
 
     walk_from : (lines : List Text) (before : ℕ) (place : LinePlace) → Finds place before lines
     walk_from [] before place [] are = record { comment_blocks = []; walk = Ended place; comments_are = refl }
@@ -94,10 +94,10 @@ module _ (expected : Bool) (g : Grammar) (a : Automaton) (t : TableData) where
   comments_are before place lines comment_blocks (Dropped p x xs ls made walk) =
       subst (λ (k : MessagesLineKind). AreComments expected g a t (with_sentence (before + 1) (sentence_content k p (sentence_in v x)) (sentences v (place_of_next_line k p) (before + 1) xs)) (comments_of v IsCommentOf (before + 1) p xs ls walk)) (sym (generated_is_remark x made)) (comments_are (before + 1) p xs ls walk)
   comments_are before place lines comment_blocks (Uncommented p x xs ls own none walk) =
-      subst (λ (o : Option Content). AreComments expected g a t (with_sentence (before + 1) o (sentences v (place_of_next_line (kind_of x) p) (before + 1) xs)) (comments_of v IsCommentOf (before + 1) (place_of_next_line (kind_of x) p) xs ls walk)) (sym none)
+      subst (λ (o : Option SentenceContent). AreComments expected g a t (with_sentence (before + 1) o (sentences v (place_of_next_line (kind_of x) p) (before + 1) xs)) (comments_of v IsCommentOf (before + 1) (place_of_next_line (kind_of x) p) xs ls walk)) (sym none)
       (comments_are (before + 1) (place_of_next_line (kind_of x) p) xs ls walk)
   comments_are before place lines comment_blocks (Commented p x xs c l ls own some is all walk) =
-      subst (λ (o : Option Content). AreComments expected g a t (with_sentence (before + 1) o (sentences v (place_of_next_line (kind_of x) p) (before + 1) xs)) (record { line = before + 1; text = with_ends l } ∷ comments_of v IsCommentOf (before + 1) (place_of_next_line (kind_of x) p) xs ls walk)) (sym some)
+      subst (λ (o : Option SentenceContent). AreComments expected g a t (with_sentence (before + 1) o (sentences v (place_of_next_line (kind_of x) p) (before + 1) xs)) (record { line = before + 1; text = with_ends l } ∷ comments_of v IsCommentOf (before + 1) (place_of_next_line (kind_of x) p) xs ls walk)) (sym some)
       ((refl, is), comments_are (before + 1) (place_of_next_line (kind_of x) p) xs ls walk)
 
   -- The text of a walk is the file brought up to date.

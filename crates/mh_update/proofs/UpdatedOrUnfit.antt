@@ -22,7 +22,7 @@ use Rattle.mh_msgfile.specs.declared.messages.Entry.{Entry}
 use Rattle.mh_msgfile.specs.declared.messages.MsgFile.{MsgFile}
 use Rattle.mh_msgfile.specs.Messages.{IsSentenceOf, AreSentencesOf}
 use Rattle.mh_check.specs.Checks.{FailsIn, SoundnessFault, NotRefusedAt, RefusedEarlyAt, Accepts, Overshoots, BreaksSoundness, NotRefused, RefusedEarly, Shared, sentences_of}
-use Rattle.mh_tables_core.proofs.RefusingState.{state_refused}
+use Rattle.mh_tables_core.proofs.RefusingState.{refusing_state_known}
 use Rattle.mh_check.proofs.CheckedOnce.{no_refusal_not_rejected}
 use Rattle.mh_report_comments.specs.Comments.{comments}
 use Rattle.mh_report_comments.proofs.HasFarthestDot.{some_farthest}
@@ -88,7 +88,7 @@ module _ (t : TableData) where
     module _ (h : HaltingFacts t) (automaton : IsAutomaton (plain_of g) a) (states : length t.states ≡ length a.kernels) where
       some_comment : (x : MsgSentence) (s : ℕ) → FailsIn t x s → (c : Comment) × IsComment expected g a t x c
       some_comment x s fails =
-          let known : s < length t.states = state_refused t h.facts x.start x.tokens (length x.tokens - 1) s fails.sentence.known fails.verdict in
+          let known : s < length t.states = refusing_state_known t h.facts x.start x.tokens (length x.tokens - 1) s fails.sentence.known fails.verdict in
           let best = some_farthest (kernel_at a s).items (automaton.filled s (omega (arith, known, states))) in
           let n = fails.verdict.0 in
           let reduced = reduced_since t n (initial x.start x.tokens) [] in

@@ -121,7 +121,7 @@ item_looks g raw item is =
     let e : raw.looks ≡ map (look_name g) item.looks = ap (λ (r : RawItem). r.looks) is.spelled in
     (record { spelled = e; each = is.kept.looks; rising = is.kept.rising }, (let n = length-map item.looks (look_name g) in let f = ap length e in let s = is.kept.some in omega arith))
 
--- The lengths of productions.
+-- A start production has length 1, and each other production has the length of the grammar's production.
 
 pub start_length : (g : Grammar) (p : ℕ) → p < length g.starts → 1 ≡ length (rhs_of (plain_of g) p)
 start_length g p lt = sym (ap length (rhs_of-start (plain_of g) p lt))

@@ -1,4 +1,5 @@
--- Proves that a content does not lack both validity and a first test that fails.
+-- Proves the double negation (`NotLacking`) of: the content of a table file is valid, or there is a first test that it
+-- fails.
 use Rattle.mh_resolve_cells.specs.States.{closed_state}
 use Rattle.std.proofs.Common.{◌≡◌, ℕ, ◌+◌, ◌<◌, ◌≤◌, ◌⊎◌, inl, inr, List, [], ◌∷◌, length, Option, None, Some, refl, sym, subst, arith}
 use Rattle.std.specs.Prelude.{slice_index_or}

@@ -128,7 +128,7 @@ fn find_kernels<const W: usize>(
 {
     let lexicon = Lexicon::new(alloc, grammar)?;
     let filled = fill_kernels(alloc, grammar, &lexicon, raw, kernels);
-    // The lexicon has many fields, so it is dropped by one call.
+    // The lexicon is dropped only here, because the proof that drops its many fields takes long.
     drop(lexicon);
     filled
 }

@@ -17,7 +17,7 @@ fn look_of(grammar: &Grammar, lexicon: &Lexicon, name: &Name) -> Option<Look>
     requires lexicon { vocabulary_in lexicon.now ≡ vocabulary_of grammar.now }
     ensures { FindsOne (IsLookOf grammar.now name.now) result }
 {
-    // Only the contract speaks of the grammar.
+    // The argument `grammar` is not used at run time; only the contract mentions it.
     let _grammar = grammar;
     if is_named(name, b"#") {
         return Some(Look::End);

@@ -88,7 +88,7 @@ fn move_rows<const W: usize>(
 {
     let mut mover = MoveBuilder::new(alloc, grammar)?;
     let filled = fill_rows(alloc, grammar, &mut mover, raw, kernels, rows);
-    // The mover has many fields, so it is dropped by one call.
+    // The move builder is dropped only here, because the proof that drops its many fields takes long.
     drop(mover);
     filled
 }

@@ -84,7 +84,7 @@ fn close_rows<const W: usize>(
 {
     let mut closer = ClosureBuilder::new(alloc, grammar)?;
     let filled = fill_parts(alloc, grammar, &mut closer, stated, states);
-    // The closure builder has many fields, so one call drops it.
+    // The closure builder is dropped only here, because the proof that drops its many fields takes long.
     drop(closer);
     filled
 }

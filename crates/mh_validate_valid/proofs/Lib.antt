@@ -8,4 +8,4 @@ pub mod AppendedAt
 pub mod RowEnd
 pub mod CellLines
 pub mod FirstDifference
-mod ComparedMap
+mod YieldsList

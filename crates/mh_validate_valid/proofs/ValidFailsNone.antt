@@ -50,7 +50,7 @@ same_edges g raw ks s es fs h k =
         let (v, there) = j.are_edges.edge x m in
         has_symbol ys x v there
 
--- The edges and the actions of a state of a valid file.
+-- The edges and the actions of each state of a valid file are right, so no reason of invalidity applies.
 pub right_at : (g : Grammar) (n : AreTokenNamesDistinct g) (raw : RawTable) (a : Automaton) (parts : List StateParts) → IsValidFor g raw a parts → (ks : List Kernel) → AreKernels g raw ks → (s : ℕ) → s < length raw.states → IsRightState g raw ks s (slice_index_or a.edges s []) (slice_index_or parts s no_state)
 right_at g n raw a parts v ks are s known = let same = same_kernels g n raw a.kernels ks v.kernels are in rw (← same) (v.each_state s known)
 

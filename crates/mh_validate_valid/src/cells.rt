@@ -66,7 +66,7 @@ fn has_parts(grammar: &Grammar, raw: &RawCells, parts: &StateParts) -> bool
 fn acts(grammar: &Grammar, cells: &[Action]) -> bool
     ensures { result ≡ has_cell_lines (lines.Cells (raw_row grammar.now 0 cells.now)) }
 {
-    // Only the contract speaks of the grammar.
+    // The argument `grammar` is not used at run time; only the contract mentions it.
     let _grammar = grammar;
     for cell in cells {
         if !is_same(*cell, Action::Refuse) {

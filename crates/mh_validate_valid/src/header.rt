@@ -15,29 +15,21 @@ use mh_tabfile_form::{RawProduction, RawTable};
 fn are_tokens(names: &[Name], tokens: &[TokenInfo]) -> bool
     ensures { IsTrue result ↔ (names.now ≡ map (λ t. t.name) tokens.now) }
 {
-    if names.len() != tokens.len() {
-        return false;
-    }
-    for at in 0..names.len() {
-        if !is_named(&names[at], tokens[at].name.as_slice()) {
-            return false;
-        }
-    }
-    true
+    names.len() == tokens.len()
+        && names
+            .iter()
+            .zip(tokens)
+            .all(|(name, token)| is_named(name, token.name.as_slice()))
 }
 
 fn are_costs(costs: &[u32], tokens: &[TokenInfo]) -> bool
     ensures { IsTrue result ↔ (costs.now ≡ costs_of tokens.now) }
 {
-    if costs.len() != tokens.len() {
-        return false;
-    }
-    for at in 0..costs.len() {
-        if costs[at] != tokens[at].cost {
-            return false;
-        }
-    }
-    true
+    costs.len() == tokens.len()
+        && costs
+            .iter()
+            .zip(tokens)
+            .all(|(cost, token)| *cost == token.cost)
 }
 
 fn have_costs(grammar: &Grammar, costs: &Option<Sequence<u32>>) -> bool
@@ -52,29 +44,21 @@ fn have_costs(grammar: &Grammar, costs: &Option<Sequence<u32>>) -> bool
 fn are_symbols(grammar: &Grammar, names: &[Name], symbols: &[Symbol]) -> bool
     ensures { IsTrue result ↔ (names.now ≡ map (name_of_symbol grammar.now) symbols.now) }
 {
-    if names.len() != symbols.len() {
-        return false;
-    }
-    for at in 0..names.len() {
-        if !is_named(&names[at], symbol_name(grammar, symbols[at])) {
-            return false;
-        }
-    }
-    true
+    names.len() == symbols.len()
+        && names.iter().zip(symbols).all(|(name, symbol)| is_named(
+            name,
+            symbol_name(grammar, *symbol),
+        ))
 }
 
 fn are_starts(grammar: &Grammar, names: &[Name], starts: &[u16]) -> bool
     ensures { IsTrue result ↔ (names.now ≡ map (name_of_nonterminal grammar.now) starts.now) }
 {
-    if names.len() != starts.len() {
-        return false;
-    }
-    for at in 0..names.len() {
-        if !is_named(&names[at], nonterminal_name(grammar, starts[at])) {
-            return false;
-        }
-    }
-    true
+    names.len() == starts.len()
+        && names.iter().zip(starts).all(|(name, start)| is_named(
+            name,
+            nonterminal_name(grammar, *start),
+        ))
 }
 
 fn is_production(grammar: &Grammar, raw: &RawProduction, production: &Production) -> bool
@@ -87,15 +71,10 @@ fn is_production(grammar: &Grammar, raw: &RawProduction, production: &Production
 fn are_productions(grammar: &Grammar, raws: &[RawProduction], productions: &[Production]) -> bool
     ensures { IsTrue result ↔ (raws.now ≡ map (raw_production grammar.now) productions.now) }
 {
-    if raws.len() != productions.len() {
-        return false;
-    }
-    for at in 0..raws.len() {
-        if !is_production(grammar, &raws[at], &productions[at]) {
-            return false;
-        }
-    }
-    true
+    raws.len() == productions.len()
+        && raws.iter().zip(productions).all(|(raw, production)| is_production(
+            grammar, raw, production,
+        ))
 }
 
 /// Returns true if the tokens, the costs, the start symbols and the productions are those of the grammar.

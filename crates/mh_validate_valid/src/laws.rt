@@ -1,4 +1,4 @@
-//! Laws of validity, as calls without effect whose contracts other crates can use.
+//! Laws of validity, as functions that do nothing and whose contracts state the laws.
 ghost use Rattle.std.specs.Prelude.{◌≡◌, ◌<◌, ◌^◌, ℕ, List, Option, length};
 ghost use Rattle.mh_grammar.specs.Plain.{plain_of};
 ghost use Rattle.mh_items_kernels.specs.KernelTypes.{Automaton as AutomatonOf};

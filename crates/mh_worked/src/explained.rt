@@ -1,9 +1,9 @@
-//! Explanations of the sentence on the first line of the input.
+//! Entries of a messages file for the sentence on the first line of the input (`--interpret-error`).
 use mh_worked_cases::{ONE_SENTENCE_FILE, check_cases, check_cases_with};
 use std::test::Fail;
 
-// Only the first line is read; without lines, the sentence is empty. If there is nothing to explain for the
-// sentence, the reason is reported.
+// Only the first line is read; without lines, the sentence is empty. If the sentence is not refused at its last token,
+// no entry is written, and the reason is reported.
 const CASES: &str = "0 --interpret-error g.mly
 ~
 A A

@@ -123,6 +123,144 @@ fn each_reply_is_that_of_its_branch(rt: HostRuntime) -> Result<(), Fail> {
     check_cases(rt.alloc(), REPLIES)
 }
 
+// A branch that is fed stops at a refusal, and where the run accepts. In the last case `p` accepts after a reduction
+// that looks at `Z`, so that `Z` is offered and not shifted.
+const FED: &str = "0 --session g.mly
+~
+g.mly
+%token A EOF
+%start s
+%%
+s: A EOF {}
+~
+begin a
+stack a
+feed a A
+stack a
+fork a b
+feed b A EOF
+stack b
+resume b
+feed b A
+feed a EOF
+stack a
+tree a
+feed a A
+begin c
+feed c A EOF A
+begin d
+feed d A A EOF
+show d
+begin e
+offer e A
+feed e EOF
+stack e
+feed f A
+stack f
+feed f Z
+feed e A Z Y
+feed e
+feed
+feed e s:A
+stack e A
+~
+a input-needed 0
+a stack
+a fed 1 input-needed 1
+a stack A
+b input-needed 1
+b fed 0 handling-error 1
+b stack A
+b rejected
+error: wrong phase: rejected
+a fed 1 accepted
+a stack s
+a [s: A EOF]
+error: wrong phase: accepted
+c input-needed 0
+c fed 2 accepted
+d input-needed 0
+d fed 1 handling-error 1
+d handling-error 1
+e input-needed 0
+e shifting 0 A
+error: wrong phase: shifting
+e stack
+error: unknown name
+error: unknown name
+error: unknown token Z
+error: unknown token Z
+error: unreadable
+error: unreadable
+error: unreadable
+error: unreadable
+~
+^
+0 --session g.mly
+~
+g.mly
+%token PLUS INT LP RP EOF
+%start main
+%%
+main: e EOF {}
+e: e PLUS t {} | t {}
+t: INT {} | LP e RP {}
+~
+begin a
+feed a LP INT PLUS INT PLUS LP INT
+stack a
+feed a RP RP
+stack a
+feed a RP EOF
+stack a
+~
+a input-needed 0
+a fed 7 input-needed 6
+a stack LP e PLUS LP e
+a fed 2 input-needed 4
+a stack e
+a fed 0 handling-error 4
+a stack e
+~
+^
+0 --session g.mly
+~
+g.mly
+%token A B Z
+%start p q
+%%
+p: a {}
+q: a Z {}
+a: A {} | A B {}
+~
+begin a p
+feed a A Z B
+stack a
+tree a
+begin b q
+feed b A Z B
+stack b
+begin c p
+feed c A B Z
+~
+a input-needed 0
+a fed 1 accepted
+a stack p
+a [p: [a: A]]
+b input-needed 1
+b fed 2 accepted
+b stack q
+c input-needed 0
+c fed 2 accepted
+~
+menhir: warning: end-of-stream conflict in state 2
+";
+
+#[test]
+fn a_branch_is_fed(rt: HostRuntime) -> Result<(), Fail> {
+    check_cases(rt.alloc(), FED)
+}
+
 /// A list that recurses at the right, so that each token makes the stack higher.
 const CHAIN: &str = "g.mly
 %token A B
@@ -131,18 +269,22 @@ const CHAIN: &str = "g.mly
 s: A s {} | B {}
 ";
 
-// After 4,000 tokens, one more is too deep.
+// After 4,000 tokens, one more is too deep, and the branch stays as it was.
 const DEEP: &str = "0 --session g.mly
 ~
 begin a
 `0..4000 offer a A
 resume a
-`offer a A
+`feed a A
+show a
+offer a A
 resume a
 show a
 ~
 ...
 
+a input-needed 1
+error: too deep
 a input-needed 1
 a shifting 1 A
 error: too deep

@@ -1,5 +1,5 @@
-//! Worked examples of the whole tool: lists of errors; and messages files, compiled, compared, updated, rebased and examined. Each
-//! result was worked out by hand.
+//! Worked examples of the whole tool: lists of errors; and messages files, compiled, compared, updated, rebased and
+//! examined. Each result was worked out by hand.
 #![tactic(auto)]
 
 #[cfg(test)]

@@ -8,8 +8,8 @@ use std::alloc::Global;
 use std::process::Abort;
 use std::test::Fail;
 
-// Compiled files: the messages by state, in rising order; or the first fault in the order of lines; a fault of the form
-// comes last.
+// Compiled files: the messages by state, in rising order; or the first fault, in the order of lines. If the last block
+// has no message, this fault is reported only if all sentence lines can be read.
 const COMPILED: &str = "0 --compile-errors m g.mly
 ~
 m

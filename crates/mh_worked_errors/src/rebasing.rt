@@ -1,5 +1,5 @@
-//! Messages files that are rebased onto a changed grammar: the kept entries, the new entries, and the report of what was
-//! dropped.
+//! Messages files that are rebased onto a changed grammar: the kept entries, the new entries, and the report of what
+//! was dropped.
 use crate::errors::LONG;
 use mh_worked_cases::check_cases_with;
 use std::test::Fail;

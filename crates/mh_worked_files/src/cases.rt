@@ -11,6 +11,7 @@ use crate::joining::put_joined;
 use crate::lexemes::put_lexemes;
 use crate::lines::{Reading, put_reading};
 use crate::modules::{put_costs, put_costs_again, put_depth, put_kept, put_printed};
+use crate::places::put_places;
 use crate::put;
 use crate::words::{put_read, put_words};
 use mh_front::GrammarFault;
@@ -28,6 +29,8 @@ pub enum Subject<'a> {
     /// Whether a grammar file spells a module, and whether printing this module and reading it again gives the same
     /// text.
     Kept,
+    /// The names of a grammar file with their places.
+    Places,
     /// Whether a grammar file of many brackets or suffixes spells a module.
     Depth,
     /// The printed module of a grammar file.
@@ -75,6 +78,7 @@ fn put_answer(
     match subject {
         Subject::Lexemes => put_lexemes(alloc, text, bytes),
         Subject::Kept => put_kept(alloc, text, bytes),
+        Subject::Places => put_places(alloc, text, bytes),
         Subject::Depth => put_depth(alloc, text, given),
         Subject::Printed => put_printed(alloc, text, bytes),
         Subject::Costs => put_costs(alloc, text, bytes),

@@ -8,7 +8,7 @@ use crate::cases::{
 use crate::put;
 use mh_expand::{Expanded, expand};
 use mh_grammar::{Grammar, NontermInfo, Production};
-use mh_inline::{InlineFault, inline_rules, is_grammar_or_fault, is_one_fault, is_one_grammar};
+use mh_inline::{InlineFault, grammar_excludes_fault, inline_rules, is_one_fault, is_one_grammar};
 use std::alloc::Global;
 use std::test::Fail;
 
@@ -132,7 +132,7 @@ fn check_grammar(alloc: Global, expanded: &Expanded) -> Result<(), Fail>
 {
     let grammar = inline_rules(alloc, expanded)?;
     is_one_grammar(expanded, &grammar, &grammar);
-    is_grammar_or_fault(expanded, &grammar, &InlineFault::Memory);
+    grammar_excludes_fault(expanded, &grammar, &InlineFault::Memory);
     drop(grammar);
     Ok(())
 }

@@ -8,8 +8,8 @@ use crate::cases::{
 use crate::put;
 use mh_grammar::TokenInfo;
 use mh_join::{
-    Applied, Head, JoinFault, Joined, JoinedAlternative, JoinedRule, is_joined_or_fault,
-    is_one_fault, is_one_joined, join, prelude_rules,
+    Applied, Head, JoinFault, Joined, JoinedAlternative, JoinedRule, is_one_fault, is_one_joined,
+    join, joined_excludes_fault, prelude_rules,
 };
 use mh_reader_parser::{Actual, Alternative, Module, Ref, Rule};
 use std::alloc::Global;
@@ -265,7 +265,7 @@ fn check_answer(alloc: Global, modules: &[Module]) -> Result<(), Fail>
 {
     let joined = join(alloc, modules, false)?;
     is_one_joined(false, modules, &joined, &joined);
-    is_joined_or_fault(false, modules, &joined, &JoinFault::Memory);
+    joined_excludes_fault(false, modules, &joined, &JoinFault::Memory);
     drop(joined);
     Ok(())
 }

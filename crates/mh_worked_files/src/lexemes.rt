@@ -2,8 +2,8 @@
 use crate::cases::{Subject, check_cases, digit};
 use crate::put;
 use mh_lex::{
-    Kind, Lexeme, SyntaxFault, code_is_taken, keywords_differ, lex, lexed_always, lexed_apart,
-    lexed_code, lexed_once, lexed_texts,
+    Kind, Lexeme, SyntaxFault, code_is_taken, keywords_differ, lex, lexed_always, lexed_code,
+    lexed_texts, lexemes_are_unique, spaced_texts_are_lexemes,
 };
 use std::alloc::Global;
 use std::test::Fail;
@@ -168,8 +168,8 @@ fn cases() -> &'static str {
 #[test]
 fn lexes(rt: HostRuntime) -> Result<(), Fail> {
     lexed_always();
-    lexed_once();
-    lexed_apart();
+    lexemes_are_unique();
+    spaced_texts_are_lexemes();
     lexed_texts();
     lexed_code();
     code_is_taken();

@@ -30,6 +30,8 @@ mod messages;
 #[cfg(test)]
 mod modules;
 #[cfg(test)]
+mod places;
+#[cfg(test)]
 mod real_devices;
 #[cfg(test)]
 mod words;

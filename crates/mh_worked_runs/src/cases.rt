@@ -25,7 +25,7 @@ impl Questions for AboutRuns {
             "random" => sentences::put_random_sentence(alloc, text, grammar, rest)?,
             "accepted" => sentences::put_accepted(alloc, text, grammar, rest)?,
             "sample" => samples::put_line(alloc, text, grammar)?,
-            "tree" => trees::put_made(alloc, text, grammar, rest)?,
+            "tree" => trees::put_built_tree(alloc, text, grammar, rest)?,
             "run" => runs::put_run(alloc, text, grammar, rest)?,
             _ => return Err(Fail::from("an unknown question")),
         }

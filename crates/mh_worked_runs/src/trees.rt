@@ -111,8 +111,8 @@ pub fn put_tree(
     put_text(alloc, text, grammar, tree)
 }
 
-/// Does the same for a tree that the test makes, and drops the tree.
-pub fn put_made(
+/// Builds the tree of this kind, appends its height, its tokens and its text, and drops the tree.
+pub fn put_built_tree(
     alloc: Global,
     text: &mut String,
     grammar: &Grammar,

@@ -1,4 +1,5 @@
-//! Sets of looks at the borders of their words, and the width for a number of tokens.
+//! Lookahead sets whose elements are next to the boundaries of the set's 64-bit words, unions of two sets, and the
+//! number of words for a number of tokens.
 ghost use Rattle.std.specs.Prelude.{◌<◌};
 
 use mh_grammar::Look;

@@ -6,7 +6,8 @@ use Rattle.mh_items_kernels.specs.KernelTypes.{Items, Kernel}
 use Rattle.mh_items.specs.code.AllMoves.{Move, AreMoves, AreMovesOf, symbols_of}
 use Rattle.mh_canon_states.specs.code.FoundStates.{AreStateEdges}
 
--- The row holds the edges of the moves, for every closure with these moves.
+-- `row` holds the edges of a state with these moves, whatever closure the moves come from. Targets that are new states
+-- were appended to the list `old`, which gave `new`.
 abbrev pub AreEdgesOfMoves : PlainGrammar → List Move → List Kernel → List Kernel → List Edge → Type 0
 AreEdgesOfMoves g moves old new row = (closed : Items) → AreMoves g closed moves → AreStateEdges g closed (symbols_of moves) old new row
 

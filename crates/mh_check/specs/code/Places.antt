@@ -1,5 +1,5 @@
--- The contracts of the loop over the sentences: for each state the code keeps the place of the sentence that fails
--- there.
+-- The contracts of the loop over the sentences: for each state the code keeps the place (line and entry) of the
+-- sentence that fails there.
 use Rattle.std.specs.Prelude.{◌≡◌, ℕ, ◌+◌, List, [], ◌∷◌, ◌++◌, map, length, slice_get, Option, Some, None, option_and_then, Result, Ok, Err, Vec}
 use Rattle.std.specs.declared.alloc.Global.{Global}
 use Rattle.std.specs.List.{Contains}
@@ -33,7 +33,8 @@ without_entries xs = map (λ x. x.sentence) xs
 abbrev pub place_of : EntrySentence → SentencePlace
 place_of x = record { line = x.sentence.line; entry = x.entry }
 
--- The sentences `done` are sound, and `places` has for each state the place of the one that fails there.
+-- The sentences `done` are sound, and `places` has, for each state, the place of the sentence that fails there, if a
+-- sentence does.
 pub record ArePlaces (t : TableData) (done : List EntrySentence) (places : List (Option SentencePlace)) : Type 0 where
   pub sound : Sound t (without_entries done)
   pub found : (s : ℕ) (p : SentencePlace) → slice_get places s ≡ Some (Some p) → (x : EntrySentence) × Contains done x × FailsIn t x.sentence s × (p ≡ place_of x)
@@ -59,11 +60,11 @@ listed_places (Err fault) = Err fault
 abbrev pub same_place : Option SentencePlace → Option SentencePlace
 same_place o = o
 
--- The place of a state, if it has one.
+-- The place of the sentence that fails in state s, if there is one.
 abbrev pub place_in : List (Option SentencePlace) → ℕ → Option SentencePlace
 place_in places s = option_and_then same_place (slice_get places s)
 
--- The message of the entry of a place, if there is a place.
+-- The message of the entry in which the sentence at this place is, if a place is given.
 abbrev pub message_of_place : List (List ℕ) → Option SentencePlace → Option (List ℕ)
 message_of_place messages None = None
 message_of_place messages (Some p) = slice_get messages p.entry

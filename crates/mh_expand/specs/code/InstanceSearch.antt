@@ -42,19 +42,22 @@ abbrev pub IsTextWithin : ℕ → List ℕ → Option (List ℕ) → Type 0
 IsTextWithin most text None = most < length text
 IsTextWithin most text (Some name) = (name ≡ text) × (length text ≤ most)
 
--- The term t, found after the terms `before`, has no fault; the instances now are `new`, and p is its part.
+-- The term t, found after the terms `before`, has no fault. The search now has the instances `new`, and p refers to t:
+-- by its token, or by the number of its instance.
 pub record FindsTerm (j : Joined) (before ts : List Term) (t : Term) (old new : List ℕ) (p : Part) : Type 0 where
   pub search : IsInstanceSearch j (before ++ t ∷ []) ts new
   pub part : IsPart (terms_at ts new) t p
   pub grows : (more : List ℕ) × (new ≡ old ++ more)
 
--- After any terms for which the search has these instances, the term t has no fault, and p is its part.
-abbrev pub FindsTermAfterAny : Joined → List Term → Term → List ℕ → List ℕ → Part → Type 0
-FindsTermAfterAny j ts t old new p = (before : List Term) → IsInstanceSearch j before ts old → FindsTerm j before ts t old new p
+-- Whatever terms were found before t, if the search has the instances `old` after these terms: t has no fault, the
+-- search then has the instances `new`, and p refers to t.
+abbrev pub FindsTermForAllBefore : (j : Joined) (ts : List Term) (t : Term) (old new : List ℕ) (p : Part) → Type 0
+FindsTermForAllBefore j ts t old new p = (before : List Term) → IsInstanceSearch j before ts old → FindsTerm j before ts t old new p
 
--- After any terms for which the search has these instances, the term t has this fault, or memory ran out.
-abbrev pub IsFaultAfterAny : Joined → List Term → Term → List ℕ → ExpandFault → Type 0
-IsFaultAfterAny j ts t old fault = (before : List Term) → IsInstanceSearch j before ts old → IsMemoryOr (IsFault j before t) fault
+-- Whatever terms were found before t, if the search has the instances `old` after these terms: t has this fault, or
+-- memory ran out.
+abbrev pub IsMemoryOrFaultForAllBefore : (j : Joined) (ts : List Term) (t : Term) (old : List ℕ) (fault : ExpandFault) → Type 0
+IsMemoryOrFaultForAllBefore j ts t old fault = (before : List Term) → IsInstanceSearch j before ts old → IsMemoryOr (IsFault j before t) fault
 
 -- The terms `seen`, found after the terms `before`, have no fault; the terms and the instances may have grown.
 pub record FindsTerms (j : Joined) (before seen ts us : List Term) (old new : List ℕ) : Type 0 where

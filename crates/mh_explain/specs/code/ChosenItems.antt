@@ -12,6 +12,8 @@ use Rattle.mh_grammar.specs.Text.{Text}
 use Rattle.mh_items_kernels.specs.KernelTypes.{KernelItem}
 use Rattle.mh_resolve_cells.specs.States.{core_item_of, shift_on}
 use Rattle.mh_tables_core.specs.declared.parts.Place.{Place}
+use Rattle.mh_explain.specs.declared.actions.RawAction.{RawAction}
+use Rattle.mh_explain.specs.declared.actions.RawAction.TheVariants.{Shift, Reduce}
 use Rattle.mh_explain.specs.StateActions.{IsPlaceBefore, reduction_lines, shift_lines}
 
 -- The dot is within the right side of the production.
@@ -26,6 +28,11 @@ IsBeforeLook g End item = ⊥
 -- The item is complete and has the look.
 abbrev pub IsCompleteOn : Grammar → Look → KernelItem → Type 0
 IsCompleteOn g look item = (item.dot ≡ length (rhs_of (plain_of g) item.production)) × Contains item.looks look
+
+-- The item gives a raw action of this kind on the look: its dot is before the look, or it is complete and has the look.
+abbrev pub GivesAction : RawAction → Grammar → Look → KernelItem → Type 0
+GivesAction Shift = IsBeforeLook
+GivesAction Reduce = IsCompleteOn
 
 -- The productions and dots of exactly the items with the property, rising.
 pub record AreChosen (Is : KernelItem → Type 0) (items : List KernelItem) (places : List Place) : Type 0 where

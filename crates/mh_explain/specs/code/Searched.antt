@@ -23,7 +23,7 @@ pub record IsTabled (g : Grammar) (a : Automaton) (t : TableData) : Type 0 where
   pub grammar : t.grammar ≡ plain_of g
   pub states : length t.states ≡ length a.kernels
 
--- A token below n with which a conflict of the state s on the look is shown.
+-- The token z is below n, and a sentence runs into the conflict of the state s on the look when z comes next.
 pub record IsShownBelow (t : TableData) (s : ℕ) (look : Look) (n z : ℕ) : Type 0 where
   pub below : z < n
   pub shown : IsShownWith t s look z
@@ -38,7 +38,7 @@ IsSentenceOrder x y Less = LexLe (numbers_of x) (numbers_of y) × (numbers_of x 
 IsSentenceOrder x y Equal = numbers_of x ≡ numbers_of y
 IsSentenceOrder x y Greater = LexLe (numbers_of y) (numbers_of x)
 
--- The best sentence so far costs less than this.
+-- The best sentence so far costs less than the given cost.
 abbrev pub IsCostlier : ℕ → FoundSentence → Type 0
 IsCostlier cost NoSentence = ⊥
 IsCostlier cost TooLong = ⊥
@@ -56,12 +56,11 @@ IsNoSooner cost x NoSentence = ⊥
 IsNoSooner cost x TooLong = ⊥
 IsNoSooner cost x (First least y z) = (least < cost) ⊎ ((least ≡ cost) × LexLe (numbers_of y) (numbers_of x))
 
--- The sentence x of this cost, with the token z next, is taken in place of the best one so far, if it comes before
--- that.
+-- The sentence x of this cost, with the token z next, replaces the best one so far if x comes before it.
 abbrev pub TakesSooner : ℕ → Sentence → ℕ → FoundSentence → FoundSentence → Type 0
 TakesSooner cost x z old new = ((new ≡ First cost x z) × IsSooner cost x old) ⊎ ((new ≡ old) × IsNoSooner cost x old)
 
--- The best sentence so far, after one more that is too long.
+-- The best sentence so far, after one more sentence, which is too long.
 abbrev pub with_too_long : FoundSentence → FoundSentence
 with_too_long NoSentence = TooLong
 with_too_long TooLong = TooLong

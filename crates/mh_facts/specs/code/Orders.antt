@@ -15,14 +15,14 @@ pub data CostLexLe (weigh : ℕ → ℕ) (u v : List ℕ) : Type 0 where
   Over : cap ≤ cost_by weigh u → cap ≤ cost_by weigh v → CostLexLe weigh u v
   Lower : cost_by weigh u ≡ cost_by weigh v → LexLe u v → CostLexLe weigh u v
 
--- The order of labels by cost, then by start, then lexicographically. Labels that reach the highest cost are not
--- distinguished.
+-- The order of sentences (a label is a start and a word) by cost, then by start, then lexicographically. Sentences that
+-- reach the highest cost are not distinguished.
 pub data SentenceLe (weigh : ℕ → ℕ) (k l : Label) : Type 0 where
   Cheaper : cost_by weigh k.word < cost_by weigh l.word → SentenceLe weigh k l
   Over : cap ≤ cost_by weigh k.word → cap ≤ cost_by weigh l.word → SentenceLe weigh k l
   Sooner : cost_by weigh k.word ≡ cost_by weigh l.word → k.start < l.start → SentenceLe weigh k l
   Lower : cost_by weigh k.word ≡ cost_by weigh l.word → k.start ≡ l.start → LexLe k.word l.word → SentenceLe weigh k l
 
--- The order of labels by cost alone.
+-- The order of sentences (a start and a word) by cost alone.
 abbrev pub LabelCostLe : (ℕ → ℕ) → Label → Label → Type 0
 LabelCostLe weigh k l = CostLe weigh k.word l.word

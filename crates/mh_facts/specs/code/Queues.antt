@@ -16,7 +16,8 @@ row_of rows n = items_of (slice_get rows n)
 abbrev pub Waits : {X : Type 0} → List (Vec X) → ℕ → X → Type 0
 Waits queue cost i = Contains (row_of queue cost) i
 
--- The item waits in the queue, or is in a separate list of the items whose cost is the level.
+-- The item i waits in the queue with the cost `cost`; or `cost` is `level`, and i is in the list `beside`, which has
+-- items of this cost outside the queue.
 abbrev pub WaitsOrIsListed : {X : Type 0} → List (Vec X) → ℕ → List X → ℕ → X → Type 0
 WaitsOrIsListed queue level beside cost i = Waits queue cost i ⊎ ((cost ≡ level) × Contains beside i)
 
@@ -26,14 +27,14 @@ pub record QueueGains {X : Type 0} (P : ℕ → X → Type 0) (old new : List (V
   pub all : (cost : ℕ) (o : X) → P cost o → Waits new cost o
   pub only : (cost : ℕ) (o : X) → Waits new cost o → Waits old cost o ⊎ P cost o
 
--- The item o with cost c is exactly the item i with this cost.
-abbrev pub IsOne : {X : Type 0} → ℕ → X → ℕ → X → Type 0
-IsOne cost i c o = (c ≡ cost) × (o ≡ i)
+-- The costs c and `cost` are equal, and the items o and i are equal.
+abbrev pub IsSameQueueEntry : {X : Type 0} → ℕ → X → ℕ → X → Type 0
+IsSameQueueEntry cost i c o = (c ≡ cost) × (o ≡ i)
 
--- The item i is taken out of the queue.
+-- The item i, which has this cost, is taken out of the queue.
 pub record TakesItem {X : Type 0} (old new : List (Vec X)) (cost : ℕ) (i : X) : Type 0 where
   pub waited : Waits old cost i
-  pub kept : (c : ℕ) (o : X) → Waits old c o → Waits new c o ⊎ IsOne cost i c o
+  pub kept : (c : ℕ) (o : X) → Waits old c o → Waits new c o ⊎ IsSameQueueEntry cost i c o
   pub only : (c : ℕ) (o : X) → Waits new c o → Waits old c o
   pub fewer : length (row_of new cost) < length (row_of old cost)
 

@@ -17,7 +17,7 @@ use Rattle.mh_facts.specs.declared.work.CompletePath.{CompletePath}
 use Rattle.mh_facts.specs.declared.work.GotoFact.{GotoFact}
 use Rattle.mh_facts.specs.declared.work.SearchData.{SearchData}
 use Rattle.mh_facts.specs.declared.classes.TokenClasses.{TokenClasses}
-use Rattle.mh_facts.specs.code.Queues.{Waits, IsOne, row_of}
+use Rattle.mh_facts.specs.code.Queues.{Waits, IsSameQueueEntry, row_of}
 use Rattle.mh_facts.specs.code.TokenClasses.{rep_of, place_of, representatives_at}
 
 -- The numbers of a settled fact are in the range of the table, and `end` is the end of its path.
@@ -63,14 +63,14 @@ pub record FollowsGoto (t : TableData) (p : SettledFact) (w : CompletePath) (cos
   pub cost_is : cost ≡ min (p.cost + w.cost) cap
   pub is : o ≡ record { key = key_further p.key w.next; end = w.target; back = backs.Reduced p.key w.inner }
 
--- If an item is given, it is the only one that has the property P with a cost, and it has this cost. If none is given,
--- no item has the property.
+-- `Some i`: P holds of the item i with the cost `cost`, and of no other item and no other cost. `None`: P holds of no
+-- item with any cost.
 abbrev pub IsUniqueItem : {Y : Type 0} → (ℕ → Y → Type 0) → ℕ → Option Y → Type 0
 IsUniqueItem {Y} P cost None = (c : ℕ) (o : Y) → P c o → ⊥
-IsUniqueItem {Y} P cost (Some i) = P cost i × ((c : ℕ) (o : Y) → P c o → IsOne cost i c o)
+IsUniqueItem {Y} P cost (Some i) = P cost i × ((c : ℕ) (o : Y) → P c o → IsSameQueueEntry cost i c o)
 
--- The path p is complete and is reduced on x, a representative of the state `target` to which the goto on its left side
--- leads.
+-- The path p is complete, the goto on its left side leads to the state `target`, and p is reduced on the token x, which
+-- represents one of the token classes of `target`.
 pub record IsReducedOn (t : TableData) (c : TokenClasses) (p : SettledFact) (target x : ℕ) : Type 0 where
   pub complete : p.key.dot ≡ length (rhs_of t.grammar p.key.production)
   pub edge : edge_of t p.key.from (N (lhs_of t.grammar p.key.production)) ≡ Some target
@@ -96,11 +96,12 @@ pub record IsCompletePathOf (t : TableData) (c : TokenClasses) (p : SettledFact)
 abbrev pub queue_of : SearchData → List (Rattle.std.specs.Global.Vec QueuedFact)
 queue_of work = work.queue.buckets.items
 
--- The settled facts in the row of this class number, which wait for a goto.
+-- The settled facts in row n, which wait for a goto. The row number n is the number of a token class of a state
+-- (`place_of`).
 abbrev pub paths_at : SearchData → ℕ → List SettledFact
 paths_at work n = row_of work.paths.items n
 
--- The complete paths in the row of this class number.
+-- The complete paths in row n, where n is the number of a token class of a state (`place_of`).
 abbrev pub complete_paths_at : SearchData → ℕ → List CompletePath
 complete_paths_at work n = row_of work.complete_paths.items n
 
@@ -108,14 +109,14 @@ complete_paths_at work n = row_of work.complete_paths.items n
 abbrev pub KnowsGoto : SearchData → GotoFact → Type 0
 KnowsGoto work k = Contains work.known.keys k
 
--- There is a row for each class number, and the paths in the rows are in range.
+-- There is a row for each token class of each state, and the paths in the rows are in range.
 pub record HasRows (t : TableData) (c : TokenClasses) (work : SearchData) : Type 0 where
   pub paths : length work.paths.items ≡ c.places
   pub complete_paths : length work.complete_paths.items ≡ c.places
   pub each_path : (n : ℕ) (p : SettledFact) → Contains (paths_at work n) p → InRange t p
 
 -- There are rows, and the costs of the complete paths in them are at most the highest cost.
-pub record IsReady (t : TableData) (c : TokenClasses) (work : SearchData) : Type 0 where
+pub record HasBoundedRows (t : TableData) (c : TokenClasses) (work : SearchData) : Type 0 where
   pub rows : HasRows t c work
   pub each_complete_path : (n : ℕ) (w : CompletePath) → Contains (complete_paths_at work n) w → w.cost ≤ cap
 
@@ -142,8 +143,8 @@ pub record ExpandsFact (t : TableData) (c : TokenClasses) (old new : SearchData)
   pub known_kept : (k : GotoFact) → KnowsGoto old k → KnowsGoto new k
   pub known_only : (k : GotoFact) → KnowsGoto new k → KnowsGoto old k ⊎ ((w : CompletePath) × Contains (complete_paths_at new (place_of c k.from k.first)) w × (goto_fact w ≡ k))
 
--- The fact of an empty path, with cost 0.
-pub record IsEmptyItem (t : TableData) (c : TokenClasses) (from : ℕ) (cost : ℕ) (o : QueuedFact) : Type 0 where
+-- The fact o of an empty path, whose cost is 0.
+pub record IsEmptyPathFact (t : TableData) (c : TokenClasses) (from : ℕ) (cost : ℕ) (o : QueuedFact) : Type 0 where
   pub production : ℕ
   pub x : ℕ
   pub ordinary : length t.grammar.starts ≤ production

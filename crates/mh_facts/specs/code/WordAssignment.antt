@@ -10,7 +10,7 @@ use Rattle.mh_facts.specs.declared.store.FactKey.{FactKey}
 use Rattle.mh_facts.specs.declared.store.Fact.{Fact}
 use Rattle.mh_facts.specs.declared.store.Back.{Back}
 use Rattle.mh_facts.specs.declared.store.Back.TheVariants as backs
-use Rattle.mh_facts.specs.Stored.{Facts, fact_at, same_fact}
+use Rattle.mh_facts.specs.Stored.{StoredFacts, fact_at, same_fact}
 use Rattle.mh_facts.specs.code.Orders.{CostLexLe, LabelCostLe}
 use Rattle.mh_facts.specs.Costs.{cap}
 use Rattle.mh_facts.specs.code.BestFirst.{Label}
@@ -64,7 +64,7 @@ with_value f k v other = if same_fact other k then v else f other
 abbrev pub with_size : (FactKey → ℕ) → FactKey × Fact → FactKey → ℕ
 with_size sizes e = with_value sizes e.0 (size_by sizes e.1.back)
 
-abbrev pub sizes_of : Facts → FactKey → ℕ
+abbrev pub sizes_of : StoredFacts → FactKey → ℕ
 sizes_of facts = fold (λ sizes e. with_size sizes e) (λ k. 0) facts
 
 pub record IsFactOfWord (t : TableData) (words : FactKey → Option (List ℕ)) (sizes : FactKey → ℕ) (k : FactKey) (f : Fact) : Type 0 where
@@ -77,7 +77,7 @@ pub record IsFactOfWord (t : TableData) (words : FactKey → Option (List ℕ)) 
   pub size : size_by sizes f.back ≤ sizes k
 
 -- Words for exactly the stored facts, each with the cost of its fact.
-pub record WordAssignment (t : TableData) (facts : Facts) : Type 0 where
+pub record WordAssignment (t : TableData) (facts : StoredFacts) : Type 0 where
   pub words : FactKey → Option (List ℕ)
   pub none : (k : FactKey) → fact_at facts k ≡ None → words k ≡ None
   pub some : (k : FactKey) (f : Fact) → fact_at facts k ≡ Some f → IsFactOfWord t words (sizes_of facts) k f

@@ -1,4 +1,5 @@
--- The invariant of the depth-first search: all numbers are those of instances.
+-- The invariant of the depth-first search: `lowest` and `ranks` have an entry for each instance, and the other lists
+-- hold numbers of instances.
 use Rattle.std.specs.Prelude.{◌≡◌, ◌<◌, ℕ, length}
 use Rattle.std.specs.List.{All}
 use Rattle.mh_inline.specs.declared.depth.Visit.{Visit}
@@ -12,4 +13,4 @@ pub record IsDepthSearch (count : ℕ) (s : DepthSearch) : Type 0 where
   pub ranks : length s.ranks.items ≡ count
   pub visits : All (IsVisitBelow count) s.stack.items
   pub open_ones : All (λ n. n < count) s.open.items
-  pub left : All (λ n. n < count) s.left.items
+  pub finished : All (λ n. n < count) s.finished.items

@@ -3,7 +3,8 @@ use Rattle.std.specs.Prelude.{◌≡◌, ◌<◌, ℕ, Bool, true, false, List, 
 use Rattle.mh_grammar.specs.declared.types.Grammar.{Grammar}
 use Rattle.mh_rules.specs.declared.instances.Expanded.{Expanded}
 use Rattle.mh_inline.specs.Cycles.{HasNoCycle}
-use Rattle.mh_inline.specs.Faults.{HasNoInlineStart, IsFirstEmptyAt, IsWithinLimits}
+use Rattle.mh_inline.specs.GrammarOfInstances.{HasNoInlineStart, IsWithinLimits}
+use Rattle.mh_inline.specs.Faults.{IsFirstEmptyAt}
 use Rattle.mh_inline.specs.Inlined.{IsInlined}
 
 -- The position of the first start symbol without a mark.

@@ -21,20 +21,21 @@ pub record HasFoundNothing (t : TableData) (found : Findings) : Type 0 where
   pub lines : AreKeptLines [] found.kept_lines.items
   pub text : found.text.items ≡ []
 
--- The line has this fault, and the line on its reason is appended.
+-- The sentence line has this fault, and a line of the report with the reason of the fault is appended to the text.
 pub record WritesFault (name : Text) (line : ℕ) (fault : SentenceFault) (old new : Text) : Type 0 where
   pub reason : DropReason
   pub is : IsReasonOfFault fault reason
   pub written : new ≡ old ++ decision_text name line (Drop reason)
 
--- A line with this reading is decided on, and the line that follows from the decision is appended.
+-- A sentence line that is read as `found` is decided on, and the report's line for the decision is appended.
 pub record DecidesLine (g : Grammar) (t : TableData) (name : Text) (line : ℕ) (found : LineResult) (old new : Findings) : Type 0 where
   pub decision : Decision
   pub decided : (before : List DecidedLine) → AreKeptLines before old.kept_lines.items → (text : Text) → sentence_in (vocabulary_of g) text ≡ found
       → IsLineDecision g t before text decision × AreKeptLines (before ++ record { line = record { line = line; text = text }; decision = decision } ∷ []) new.kept_lines.items
   pub written : new.text.items ≡ old.text.items ++ decision_text name line decision
 
--- These lines are decided on in order, the lines that follow are appended, and this is the number of the last line.
+-- These lines are decided on in order, the report's lines for the decisions are appended, and `last` is the number of
+-- the last line.
 pub record DecidesLines (g : Grammar) (t : TableData) (name : Text) (lines : List LooseLine) (last : ℕ) (old new : Findings) : Type 0 where
   pub done : List DecidedLine
   pub of_lines : map (λ j. j.line) done ≡ lines
@@ -42,7 +43,7 @@ pub record DecidesLines (g : Grammar) (t : TableData) (name : Text) (lines : Lis
   pub decided : (before : List DecidedLine) → AreKeptLines before old.kept_lines.items → AreLineDecisions g t before done × AreKeptLines (before ++ done) new.kept_lines.items
   pub written : new.text.items ≡ old.text.items ++ decision_texts name done
 
--- These entries are decided on in order, and the lines that follow are appended.
+-- These entries are decided on in order, and the report's lines for the entries are appended.
 pub record DecidesEntries (g : Grammar) (t : TableData) (name : Text) (entries : List LooseEntry) (old new : Findings) : Type 0 where
   pub done : List DecidedEntry
   pub of_entries : map without_decisions done ≡ entries

@@ -25,16 +25,6 @@ or_else (Some first) later = Some first
 abbrev pub InsertsName : Text → ℕ → List (Vec ℕ Global × ℕ) → List (Vec ℕ Global × ℕ) → Type 0
 InsertsName name number old new = (other : Text) → number_in new other ≡ or_else (number_in old other) (if bytes_eq other name then Some number else None)
 
--- The number of separators at the front of the list.
-abbrev pub blank_count : {A : Type 0} → (A → Bool) → List A → ℕ
-blank_count separates [] = 0
-blank_count separates (x ∷ xs) = if separates x then blank_count separates xs + 1 else 0
-
--- The number of items before the first separator.
-abbrev pub piece_size : {A : Type 0} → (A → Bool) → List A → ℕ
-piece_size separates [] = 0
-piece_size separates (x ∷ xs) = if separates x then 0 else piece_size separates xs + 1
-
 -- The result is the only word of a text, if the text has exactly one piece.
 abbrev pub IsOnlyWord : Text → Option (Bor Text) → Type 0
 IsOnlyWord bytes None = only_word (pieces bytes) ≡ None

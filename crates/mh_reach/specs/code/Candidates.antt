@@ -7,7 +7,7 @@ use Rattle.mh_tables_core.specs.Run.{Refuses, run_move_of}
 use Rattle.mh_facts.specs.declared.store.FactKey.{FactKey}
 use Rattle.mh_tables_core.specs.Failing.{Fails, Failing, SentenceAtMost, cost_of_word}
 use Rattle.mh_reach.specs.Coming.{Comes}
-use Rattle.mh_facts.specs.Stored.{Facts}
+use Rattle.mh_facts.specs.Stored.{StoredFacts}
 use Rattle.mh_facts.specs.code.BestFirst.{Label}
 use Rattle.mh_facts.specs.Costs.{cap}
 use Rattle.mh_reach.specs.declared.sentences.FailureCandidate.{FailureCandidate}
@@ -50,14 +50,14 @@ abbrev pub step_of : FailureCandidate → ArrivalStep
 step_of b = steps.Shift b.spot b.token
 
 -- The candidate a costs less than b, or costs the same and its sentence comes no later.
-abbrev pub IsNoWorse : TableData → Facts → ArrivalList → FailureCandidate → FailureCandidate → Type 0
+abbrev pub IsNoWorse : TableData → StoredFacts → ArrivalList → FailureCandidate → FailureCandidate → Type 0
 IsNoWorse t facts spots a b = (a.cost < b.cost) ⊎ ((a.cost ≡ b.cost) × Precedes t facts spots (step_of a) (step_of b))
 
 -- The better of two candidates.
-abbrev pub IsBetterOf : TableData → Facts → ArrivalList → FailureCandidate → FailureCandidate → FailureCandidate → Type 0
+abbrev pub IsBetterOf : TableData → StoredFacts → ArrivalList → FailureCandidate → FailureCandidate → FailureCandidate → Type 0
 IsBetterOf t facts spots a b best = ((best ≡ a) × IsNoWorse t facts spots a b) ⊎ ((best ≡ b) × IsNoWorse t facts spots b a)
 
-abbrev pub IsBetterOfOptions : TableData → Facts → ArrivalList → Option FailureCandidate → Option FailureCandidate → Option FailureCandidate → Type 0
+abbrev pub IsBetterOfOptions : TableData → StoredFacts → ArrivalList → Option FailureCandidate → Option FailureCandidate → Option FailureCandidate → Type 0
 IsBetterOfOptions t facts spots None b best = best ≡ b
 IsBetterOfOptions t facts spots (Some a) None best = best ≡ Some a
 IsBetterOfOptions t facts spots (Some a) (Some b) best = (x : FailureCandidate) × (best ≡ Some x) × IsBetterOf t facts spots a b x
@@ -72,13 +72,13 @@ IsCandidateOn t c spots s z None = (r : Arrival) → run_move_of t s (z ∷ []) 
 IsCandidateOn t c spots s z (Some b) = (r : Arrival) × (run_move_of t s (z ∷ []) ≡ Refuses) × (arrival_at spots (spot_of c s z) ≡ Some r) × (b ≡ best_for t c s z r)
 
 -- The best candidate of a state for the tokens below n.
-abbrev pub IsBestBelow : TableData → TokenClasses → Facts → ArrivalList → ℕ → ℕ → Option FailureCandidate → Type 0
+abbrev pub IsBestBelow : TableData → TokenClasses → StoredFacts → ArrivalList → ℕ → ℕ → Option FailureCandidate → Type 0
 IsBestBelow t c facts spots s n None = (z : ℕ) (r : Arrival) → z < n → run_move_of t s (z ∷ []) ≡ Refuses → arrival_at spots (spot_of c s z) ≡ Some r → ⊥
 IsBestBelow t c facts spots s n (Some b) = ((z : ℕ) (r : Arrival) → z < n → run_move_of t s (z ∷ []) ≡ Refuses → arrival_at spots (spot_of c s z) ≡ Some r → IsNoWorse t facts spots b (best_for t c s z r))
     × ((z : ℕ) × (z < n) × IsCandidateOn t c spots s z (Some b))
 
 -- The best candidate of each state below n.
-pub record AreBest (t : TableData) (c : TokenClasses) (facts : Facts) (spots : ArrivalList) (n : ℕ) (best : List (Option FailureCandidate)) : Type 0 where
+pub record AreBest (t : TableData) (c : TokenClasses) (facts : StoredFacts) (spots : ArrivalList) (n : ℕ) (best : List (Option FailureCandidate)) : Type 0 where
   pub len : length best ≡ n
   pub each : (s : ℕ) (b : Option FailureCandidate) → slice_get best s ≡ Some b → IsBestBelow t c facts spots s t.grammar.tokens b
 
@@ -95,7 +95,7 @@ IsComingAt t s z (Some l) = IsComingLabel t s z l
 
 -- The result of both searches, with the best candidate of each state. The label of each arrival is the first sentence
 -- that comes there.
-pub record IsReachResult (t : TableData) (c : TokenClasses) (facts : Facts) (spots : ArrivalList) (best : List (Option FailureCandidate)) : Type 0 where
+pub record IsReachResult (t : TableData) (c : TokenClasses) (facts : StoredFacts) (spots : ArrivalList) (best : List (Option FailureCandidate)) : Type 0 where
   pub sized : IsSized t c
   pub word_assignment : WordAssignment t facts
   pub label_assignment : LabelAssignment t word_assignment.words spots

@@ -17,7 +17,7 @@ use Rattle.mh_reach_found.specs.declared.arrivals.ArrivalStep.{ArrivalStep}
 use Rattle.mh_reach_found.specs.declared.arrivals.ArrivalStep.TheVariants as steps
 use Rattle.mh_reach_found.specs.declared.arrivals.Arrival.{Arrival}
 use Rattle.mh_reach_arrivals.specs.declared.queued_arrivals.WaitingArrival.{WaitingArrival}
-use Rattle.mh_facts.specs.code.Queues.{Waits, WaitsOrIsListed, IsOne, Below, Among}
+use Rattle.mh_facts.specs.code.Queues.{Waits, WaitsOrIsListed, IsSameQueueEntry, Below, Among}
 use Rattle.mh_reach_found.specs.code.QueueDraws.{DrawsOne, DrawsNone, AppendsUnlessDone, DrawsSome, DrawsAll}
 use Rattle.mh_facts.specs.code.TokenClasses.{AreTokenClasses, rep_of, place_of, representatives_at}
 use Rattle.mh_facts.specs.code.SearchRules.{complete_paths_at}
@@ -35,7 +35,7 @@ pub record CanStepFrom (t : TableData) (c : TokenClasses) (k : StateAndNext) (n 
 
 -- The arrival at a state by a step, with the next token z.
 abbrev pub StepsOn : ℕ → ℕ → ArrivalStep → ℕ → ℕ → WaitingArrival → Type 0
-StepsOn cost state step z = IsOne cost (record { spot = spot state z; step = step })
+StepsOn cost state step z = IsSameQueueEntry cost (record { spot = spot state z; step = step })
 
 -- The arrival o follows from an arrival at the spot k by a shift of the token x.
 pub record StepsAlong (t : TableData) (c : TokenClasses) (k : StateAndNext) (cost x at : ℕ) (o : WaitingArrival) : Type 0 where
@@ -66,7 +66,7 @@ FollowsArrival t c work k cost at o = StepsShift t c k cost at o ⊎ Among (Step
 
 -- The arrival at the beginning of a run, with one next token.
 abbrev pub IsStartArrivalOn : ℕ → ℕ → ℕ → WaitingArrival → Type 0
-IsStartArrivalOn start z = IsOne 0 (record { spot = spot start z; step = steps.Begin start })
+IsStartArrivalOn start z = IsSameQueueEntry 0 (record { spot = spot start z; step = steps.Begin start })
 
 abbrev pub IsStartArrival : TableData → TokenClasses → ℕ → WaitingArrival → Type 0
 IsStartArrival t c = Below (λ start. Among (IsStartArrivalOn start) (representatives_at c start)) (length t.grammar.starts)
@@ -82,8 +82,8 @@ pub record IsSoundArrival (t : TableData) (c : TokenClasses) (words : FactKey �
   pub sound : SoundLabel t (rep_of c) o.spot.state o.spot.next label
 
 -- The arrival waits in the queue, or in a separate list of arrivals of the level's cost.
-abbrev pub Waiting : List (Rattle.std.specs.Global.Vec WaitingArrival) → ℕ → List WaitingArrival → ℕ → WaitingArrival → Type 0
-Waiting q level beside cost o = WaitsOrIsListed q level beside cost o
+abbrev pub WaitsOrIsBeside : List (Rattle.std.specs.Global.Vec WaitingArrival) → ℕ → List WaitingArrival → ℕ → WaitingArrival → Type 0
+WaitsOrIsBeside q level beside cost o = WaitsOrIsListed q level beside cost o
 
 -- The label of the spot, or the sentence of an arrival that waits for the spot, comes no later than l.
 abbrev pub IsPendingLabel : TableData → (FactKey → Option (List ℕ)) → (StateAndNext → Option Label) → (ℕ → WaitingArrival → Type 0) → ℕ → ℕ → Label → Type 0
@@ -94,13 +94,13 @@ IsPendingLabel t words labels waits s z l = HasNoLaterLabel (LabelNoLater t) (la
 -- may wait in the separate list `beside`.
 pub record ArrivalInvariant (t : TableData) (c : TokenClasses) (words : FactKey → Option (List ℕ)) (work : SearchData) (spots : ArrivalList) (q : List (Rattle.std.specs.Global.Vec WaitingArrival)) (level : ℕ) (beside : List WaitingArrival) : Type 0 where
   pub label_assignment : LabelAssignment t words spots
-  pub closed : LabelsClosedByGotos t (rep_of c) (GotoFactsIn c words work) (labels_at label_assignment.labels) (IsPendingLabel t words label_assignment.labels (Waiting q level beside))
+  pub closed : LabelsClosedByGotos t (rep_of c) (GotoFactsIn c words work) (labels_at label_assignment.labels) (IsPendingLabel t words label_assignment.labels (WaitsOrIsBeside q level beside))
   pub sound : (s z : ℕ) (l : Label) → label_assignment.labels (spot s z) ≡ Some l → SoundLabel t (rep_of c) s z l
-  pub items : (cost : ℕ) (o : WaitingArrival) → Waiting q level beside cost o → IsSoundArrival t c words label_assignment.labels cost o
-  pub at_least_level : (cost : ℕ) (o : WaitingArrival) → Waiting q level beside cost o → level ≤ cost
+  pub items : (cost : ℕ) (o : WaitingArrival) → WaitsOrIsBeside q level beside cost o → IsSoundArrival t c words label_assignment.labels cost o
+  pub at_least_level : (cost : ℕ) (o : WaitingArrival) → WaitsOrIsBeside q level beside cost o → level ≤ cost
   pub at_most_level : (k : StateAndNext) (r : Arrival) → arrival_at spots k ≡ Some r → r.cost ≤ level
   -- Stored labels come no later than the sentences of arrivals that wait.
-  pub before : (k : StateAndNext) (l m : Label) (cost : ℕ) (o : WaitingArrival) → label_assignment.labels k ≡ Some l → Waiting q level beside cost o → LabelBy words label_assignment.labels o.step m → LabelNoLater t l m
+  pub before : (k : StateAndNext) (l m : Label) (cost : ℕ) (o : WaitingArrival) → label_assignment.labels k ≡ Some l → WaitsOrIsBeside q level beside cost o → LabelBy words label_assignment.labels o.step m → LabelNoLater t l m
 
 -- The sentence of x comes no later than the sentence of y.
 abbrev pub NoLaterBy : TableData → (FactKey → Option (List ℕ)) → (StateAndNext → Option Label) → WaitingArrival → WaitingArrival → Type 0
@@ -110,7 +110,7 @@ NoLaterBy t words labels x y = (k l : Label) → LabelBy words labels x.step k �
 -- sentences.
 pub record ArrivalsInOrder (t : TableData) (c : TokenClasses) (words : FactKey → Option (List ℕ)) (work : SearchData) (spots : ArrivalList) (q : List (Rattle.std.specs.Global.Vec WaitingArrival)) (level : ℕ) (beside : List WaitingArrival) : Type 0 where
   pub invariant : ArrivalInvariant t c words work spots q level beside
-  pub none_earlier : (x y : WaitingArrival) (cost : ℕ) → Waits q level x → Waiting q level beside cost y → NoLaterBy t words invariant.label_assignment.labels x y
+  pub none_earlier : (x y : WaitingArrival) (cost : ℕ) → Waits q level x → WaitsOrIsBeside q level beside cost y → NoLaterBy t words invariant.label_assignment.labels x y
   pub rising : IsSorted (NoLaterBy t words invariant.label_assignment.labels) beside
 
 -- No arrival of the level waits in the queue, and the separate list is sorted by sentences.
@@ -133,7 +133,8 @@ abbrev pub TakesNextArrival : ArrivalList → List (Rattle.std.specs.Global.Vec 
 TakesNextArrival spots old new cost None = NoUnreachedLeft spots old new cost
 TakesNextArrival spots old new cost (Some i) = TakesUnreached spots old new cost i
 
--- There is a row of complete paths for each class number, and their costs are at most the highest cost.
+-- There is a row of complete paths for each token class of each state, and the costs of these paths are at most the
+-- highest cost.
 pub record HasGotoRows (t : TableData) (c : TokenClasses) (work : SearchData) : Type 0 where
   pub rows : length work.complete_paths.items ≡ c.places
   pub few : (n : ℕ) (w : CompletePath) → Contains (complete_paths_at work n) w → w.cost ≤ cap

@@ -1,5 +1,6 @@
--- Definitions on the search that follows the search for facts. For each spot, which is a state with a next token, it
--- finds an arrival: the least sentence that reaches the spot.
+-- Definitions on the second search. The first search finds facts: a fact says that from a state, a word leads over the
+-- first symbols of a right side if a given token is next. For each spot, which is a state with a next token, the second
+-- search finds an arrival: the least sentence that reaches the spot.
 use Rattle.std.specs.Prelude.{◌≡◌, ℕ, List, [], ◌∷◌, fold, Option, Some, None, Bool, if◌then◌else◌, nat_eq, ◌&&◌, ◌≤◌, ◌+◌}
 use Rattle.std.specs.Map.{lookup}
 use Rattle.mh_tables_core.specs.Table.{TableData}

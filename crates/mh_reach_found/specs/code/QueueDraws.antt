@@ -2,13 +2,13 @@
 use Rattle.std.specs.Prelude.{◌≡◌, ◌⊎◌, ℕ, List, [], ◌∷◌, ◌++◌}
 use Rattle.std.specs.List.{Contains}
 use Rattle.std.specs.Global.{Vec}
-use Rattle.mh_facts.specs.code.Queues.{Waits, IsOne}
+use Rattle.mh_facts.specs.code.Queues.{Waits, IsSameQueueEntry}
 
 -- The next item of the cost that is not done is taken; items that are done may be dropped.
 pub record DrawsOne {X : Type 0} (Done Fresh : X → Type 0) (old new : List (Vec X)) (cost : ℕ) (i : X) : Type 0 where
   pub waited : Waits old cost i
   pub fresh : Fresh i
-  pub kept : (c : ℕ) (o : X) → Waits old c o → (Waits new c o ⊎ Done o) ⊎ IsOne cost i c o
+  pub kept : (c : ℕ) (o : X) → Waits old c o → (Waits new c o ⊎ Done o) ⊎ IsSameQueueEntry cost i c o
   pub only : (c : ℕ) (o : X) → Waits new c o → Waits old c o
 
 -- No item of the cost is left.

@@ -5,7 +5,7 @@ use Rattle.mh_grammar.specs.declared.types.Symbol.TheVariants.{N}
 use Rattle.mh_tables_core.specs.Table.{TableData, edge_of}
 use Rattle.mh_facts.specs.declared.store.FactKey.{FactKey}
 use Rattle.mh_facts.specs.declared.store.Fact.{Fact}
-use Rattle.mh_facts.specs.Stored.{Facts, fact_at}
+use Rattle.mh_facts.specs.Stored.{StoredFacts, fact_at}
 use Rattle.mh_facts.specs.code.BestFirst.{SoundFact, SoundGoto, Complete, ClosedByGotos, HasNoLater}
 use Rattle.mh_facts.specs.Costs.{cap}
 use Rattle.mh_facts.specs.declared.work.CompletePath.{CompletePath}
@@ -18,7 +18,7 @@ use Rattle.mh_reach_found.specs.declared.search_result.SearchResult.{SearchResul
 use Rattle.mh_reach_found.specs.code.WordNumbers.{FactsAreNumbered}
 
 -- A fact is stored for the key.
-abbrev pub IsStored : Facts → FactKey → Type 0
+abbrev pub IsStored : StoredFacts → FactKey → Type 0
 IsStored facts k = (f : Fact) × (fact_at facts k ≡ Some f)
 
 -- The goto facts of the complete paths in the search data, each with the word of its path.

@@ -4,7 +4,7 @@ use Rattle.std.specs.Prelude.{ℕ, List, ◌∷◌, Option, Some, None, Bool, tr
 use Rattle.mh_tables_core.specs.Table.{TableData}
 use Rattle.mh_grammar.specs.WordOrder.{LexLe}
 use Rattle.mh_facts.specs.declared.store.FactKey.{FactKey}
-use Rattle.mh_facts.specs.Stored.{Facts}
+use Rattle.mh_facts.specs.Stored.{StoredFacts}
 use Rattle.mh_facts.specs.code.BestFirst.{Label}
 use Rattle.mh_reach_found.specs.declared.word_comparison.WordPart.{WordPart}
 use Rattle.mh_reach_found.specs.declared.word_comparison.WordPart.TheVariants as parts
@@ -47,7 +47,7 @@ pub record HasSentence (spots : ArrivalList) (step : ArrivalStep) : Type 0 where
   pub label_by : LabelBy words label_assignment.labels step label
 
 -- The arrival and the fact that a step refers to are stored.
-abbrev pub IsKnownStep : Facts → ArrivalList → ArrivalStep → Type 0
+abbrev pub IsKnownStep : StoredFacts → ArrivalList → ArrivalStep → Type 0
 IsKnownStep facts spots (steps.Begin start) = Unit {0}
 IsKnownStep facts spots (steps.Shift from token) = HasArrival spots from
 IsKnownStep facts spots (steps.Goto from inner) = HasArrival spots from × IsStored facts inner
@@ -56,12 +56,12 @@ IsKnownStep facts spots (steps.Goto from inner) = HasArrival spots from × IsSto
 abbrev pub PrecedesBy : (FactKey → Option (List ℕ)) → (StateAndNext → Option Label) → ArrivalStep → ArrivalStep → Type 0
 PrecedesBy words labels left right = (k l : Label) → LabelBy words labels left k → LabelBy words labels right l → LexLe (numbers_of k) (numbers_of l)
 
-abbrev pub Precedes : TableData → Facts → ArrivalList → ArrivalStep → ArrivalStep → Type 0
+abbrev pub Precedes : TableData → StoredFacts → ArrivalList → ArrivalStep → ArrivalStep → Type 0
 Precedes t facts spots left right = (word_assignment : WordAssignment t facts) (label_assignment : LabelAssignment t word_assignment.words spots) → PrecedesBy word_assignment.words label_assignment.labels left right
 
 -- The result of the question whether the sentence of the left step comes later; for equal sentences both results are
 -- right.
-abbrev pub ComesLater : TableData → Facts → ArrivalList → ArrivalStep → ArrivalStep → Bool → Type 0
+abbrev pub ComesLater : TableData → StoredFacts → ArrivalList → ArrivalStep → ArrivalStep → Bool → Type 0
 ComesLater t facts spots left right true = Precedes t facts spots right left
 ComesLater t facts spots left right false = Precedes t facts spots left right
 

@@ -6,7 +6,7 @@ use Rattle.mh_tables_core.specs.Table.{TableData}
 use Rattle.mh_facts.specs.declared.store.FactKey.{FactKey}
 use Rattle.mh_facts.specs.declared.store.Back.{Back}
 use Rattle.mh_facts.specs.declared.store.Back.TheVariants as backs
-use Rattle.mh_facts.specs.Stored.{Facts}
+use Rattle.mh_facts.specs.Stored.{StoredFacts}
 use Rattle.mh_grammar.specs.WordOrder.{LexLe}
 use Rattle.mh_facts.specs.Costs.{cap}
 use Rattle.mh_reach_words.specs.code.Words.{LessAtDifference}
@@ -49,7 +49,7 @@ weight sizes (parts.Token x ∷ ps) = 1 + weight sizes ps
 weight sizes (parts.Fact k ∷ ps) = 2 * sizes k + weight sizes ps
 
 -- A part is replaced by its own parts on a stack: the stack spells the same word, and its weight is lower.
-abbrev pub ReplacesFactByParts : TableData → Facts → WordPart → List WordPart → List WordPart → Type 0
+abbrev pub ReplacesFactByParts : TableData → StoredFacts → WordPart → List WordPart → List WordPart → Type 0
 ReplacesFactByParts t facts p old new = (word_assignment : WordAssignment t facts) (v : List ℕ) → IsWordOf word_assignment.words p v →
     ((u : List ℕ) → AreWordOf word_assignment.words old u → AreWordOf word_assignment.words new (v ++ u)) × (weight (sizes_of facts) new < weight (sizes_of facts) (p ∷ old))
 
@@ -76,31 +76,31 @@ AgreesWithOrder tolds.Later a b = LessAtDifference b a
 AgreesWithOrder tolds.Cheaper a b = Unit {0}
 AgreesWithOrder tolds.Costlier a b = Unit {0}
 
-abbrev pub GivesWordOrder : Facts → WordNumbering → FactKey → FactKey → WordOrder → Type 0
+abbrev pub GivesWordOrder : StoredFacts → WordNumbering → FactKey → FactKey → WordOrder → Type 0
 GivesWordOrder facts numbering j k told = (words : FactKey → Option (List ℕ)) (a b : List ℕ) → FactsAreNumbered facts words (cap + 1) numbering → words j ≡ Some a → words k ≡ Some b → AgreesWithOrder told a b
 
 -- The result of a step: the order, if it is decided; else the two words are a common prefix followed by the words that
 -- remain on the stacks.
-pub record IsComparisonResult (t : TableData) (facts : Facts) (old new : Rests) (left right : WordPart) (order : Option Ordering) (word_assignment : WordAssignment t facts) (a b u v : List ℕ) : Type 0 where
+pub record IsComparisonResult (t : TableData) (facts : StoredFacts) (old new : Rests) (left right : WordPart) (order : Option Ordering) (word_assignment : WordAssignment t facts) (a b u v : List ℕ) : Type 0 where
   pub ordered : IsOrderedBy order (a ++ u) (b ++ v)
   pub rest : order ≡ None → (p : List ℕ) × (r : List ℕ) × (s : List ℕ) × AreWordOf word_assignment.words new.left.items r × AreWordOf word_assignment.words new.right.items s × (a ++ u ≡ p ++ r) × (b ++ v ≡ p ++ s)
   pub smaller : order ≡ None → weight (sizes_of facts) new.left.items + weight (sizes_of facts) new.right.items < weight (sizes_of facts) (left ∷ old.left.items) + weight (sizes_of facts) (right ∷ old.right.items)
 
-abbrev pub IsFactComparisonStep : TableData → Facts → Rests → Rests → WordPart → WordPart → Option Ordering → Type 0
+abbrev pub IsFactComparisonStep : TableData → StoredFacts → Rests → Rests → WordPart → WordPart → Option Ordering → Type 0
 IsFactComparisonStep t facts old new left right order = (word_assignment : WordAssignment t facts) (a b u v : List ℕ) → IsWordOf word_assignment.words left a → IsWordOf word_assignment.words right b → AreWordOf word_assignment.words old.left.items u → AreWordOf word_assignment.words old.right.items v →
     IsComparisonResult t facts old new left right order word_assignment a b u v
 
 -- The word of the left stack comes no later in lexicographic order.
-abbrev pub StackNoLater : TableData → Facts → List WordPart → List WordPart → Type 0
+abbrev pub StackNoLater : TableData → StoredFacts → List WordPart → List WordPart → Type 0
 StackNoLater t facts left right = (word_assignment : WordAssignment t facts) (u v : List ℕ) → AreWordOf word_assignment.words left u → AreWordOf word_assignment.words right v → LexLe u v
 
 -- The result of the question whether the left word comes later; for equal words both results are right.
-abbrev pub IsStackLater : TableData → Facts → List WordPart → List WordPart → Bool → Type 0
+abbrev pub IsStackLater : TableData → StoredFacts → List WordPart → List WordPart → Bool → Type 0
 IsStackLater t facts left right true = StackNoLater t facts right left
 IsStackLater t facts left right false = StackNoLater t facts left right
 
 -- Both stacks spell words.
-pub record AreComparable (t : TableData) (facts : Facts) (left right : List WordPart) : Type 0 where
+pub record AreComparable (t : TableData) (facts : StoredFacts) (left right : List WordPart) : Type 0 where
   pub word_assignment : WordAssignment t facts
   pub left_word : List ℕ
   pub right_word : List ℕ
@@ -108,7 +108,7 @@ pub record AreComparable (t : TableData) (facts : Facts) (left right : List Word
   pub right_is : AreWordOf word_assignment.words right right_word
 
 -- The words u and v are a common prefix and the words of the two stacks.
-pub record AreFactRemainders (t : TableData) (facts : Facts) (word_assignment : WordAssignment t facts) (left right : List WordPart) (u v : List ℕ) : Type 0 where
+pub record AreFactRemainders (t : TableData) (facts : StoredFacts) (word_assignment : WordAssignment t facts) (left right : List WordPart) (u v : List ℕ) : Type 0 where
   pub prefix : List ℕ
   pub left_rest : List ℕ
   pub right_rest : List ℕ
@@ -117,7 +117,7 @@ pub record AreFactRemainders (t : TableData) (facts : Facts) (word_assignment : 
   pub left_is : u ≡ prefix ++ left_rest
   pub right_is : v ≡ prefix ++ right_rest
 
-abbrev pub KeepRemainders : TableData → Facts → Rests → Rests → Type 0
+abbrev pub KeepRemainders : TableData → StoredFacts → Rests → Rests → Type 0
 KeepRemainders t facts all rests = (word_assignment : WordAssignment t facts) (u v : List ℕ) → AreWordOf word_assignment.words all.left.items u → AreWordOf word_assignment.words all.right.items v → AreFactRemainders t facts word_assignment rests.left.items rests.right.items u v
 
 -- The top parts are taken off both stacks, if both have one.

@@ -13,16 +13,16 @@ use Rattle.mh_facts.specs.declared.work.CompletePath.{CompletePath}
 use Rattle.mh_facts.specs.declared.work.GotoFact.{GotoFact}
 use Rattle.mh_facts.specs.declared.classes.TokenClasses.{TokenClasses}
 use Rattle.mh_facts.specs.declared.left_sides.ByLeftSide.{ByLeftSide}
-use Rattle.mh_facts.specs.code.Queues.{Among, IsOne, Waits, Below}
+use Rattle.mh_facts.specs.code.Queues.{Among, IsSameQueueEntry, Waits, Below}
 use Rattle.mh_facts.specs.code.ByLeftSide.{productions_at}
-use Rattle.mh_facts.specs.code.SearchRules.{IsEmptyItem, queue_of, paths_at, complete_paths_at, KnowsGoto}
+use Rattle.mh_facts.specs.code.SearchRules.{IsEmptyPathFact, queue_of, paths_at, complete_paths_at, KnowsGoto}
 
-abbrev pub empty_item : ℕ → ℕ → ℕ → QueuedFact
-empty_item from production x = record { key = record { from = from; production = production; dot = 0; first = x; next = x }; end = from; back = backs.Empty }
+abbrev pub empty_path_fact : ℕ → ℕ → ℕ → QueuedFact
+empty_path_fact from production x = record { key = record { from = from; production = production; dot = 0; first = x; next = x }; end = from; back = backs.Empty }
 
 -- The empty path of a production, with one next token.
 abbrev pub EmptyOn : ℕ → ℕ → ℕ → ℕ → QueuedFact → Type 0
-EmptyOn from production x = IsOne 0 (empty_item from production x)
+EmptyOn from production x = IsSameQueueEntry 0 (empty_path_fact from production x)
 
 -- The empty paths of a production, with each of the tokens.
 abbrev pub BeginsOn : ℕ → List ℕ → ℕ → ℕ → QueuedFact → Type 0
@@ -34,7 +34,7 @@ BeginsOverEdge from tokens left edge cost o = (n : ℕ) × (edge.symbol ≡ N n)
 
 -- The empty paths of all states.
 abbrev pub IsEmptyPath : TableData → TokenClasses → ℕ → QueuedFact → Type 0
-IsEmptyPath t c = Below (IsEmptyItem t c) (length t.states)
+IsEmptyPath t c = Below (IsEmptyPathFact t c) (length t.states)
 
 -- The working data before the first step: exactly the empty paths wait, and nothing is settled.
 pub record IsBegun (t : TableData) (c : TokenClasses) (work : SearchData) : Type 0 where

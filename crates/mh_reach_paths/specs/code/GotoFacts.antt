@@ -11,7 +11,7 @@ use Rattle.mh_facts.specs.declared.work.CompletePath.{CompletePath}
 use Rattle.mh_facts.specs.declared.work.GotoFact.{GotoFact}
 use Rattle.mh_facts.specs.declared.work.SearchData.{SearchData}
 use Rattle.mh_facts.specs.declared.classes.TokenClasses.{TokenClasses}
-use Rattle.mh_facts.specs.code.Queues.{Waits, Among, IsOne}
+use Rattle.mh_facts.specs.code.Queues.{Waits, Among, IsSameQueueEntry}
 use Rattle.mh_facts.specs.code.TokenClasses.{AreTokenClasses, place_of}
 use Rattle.mh_facts.specs.code.SearchRules.{FollowsGoto, HasRows, InRange, IsReducedOn, complete_path_of, goto_fact, IsCompletePathOf, queue_of, paths_at, complete_paths_at, KnowsGoto}
 
@@ -19,7 +19,7 @@ abbrev pub with_next : QueuedFact → ℕ → QueuedFact
 with_next i z = record { key = record { from = i.key.from; production = i.key.production; dot = i.key.dot; first = i.key.first; next = z }; end = i.end; back = i.back }
 
 abbrev pub WithNext : ℕ → QueuedFact → ℕ → ℕ → QueuedFact → Type 0
-WithNext cost item z = IsOne cost (with_next item z)
+WithNext cost item z = IsSameQueueEntry cost (with_next item z)
 
 -- The settled paths that a goto fact of p may extend.
 abbrev pub paths_before : TokenClasses → SearchData → SettledFact → List SettledFact

@@ -1,12 +1,13 @@
--- The invariant of the search, between two steps. An item is a fact that waits in the queue; the fact is settled when
--- it is stored with its least word. A level is all work of one cost.
+-- The invariant of the search, between two steps. A fact says that from a state, a word leads over the first symbols of
+-- a right side if a given token is next. An item is a fact that waits in the queue; the fact is settled when it is
+-- stored with its least word. A level is all work of one cost.
 use Rattle.std.specs.Prelude.{◌≡◌, ℕ, List, [], ◌∷◌, ◌++◌, slice_get, Option, Some, None, ◌≤◌}
 use Rattle.std.specs.List.{Contains}
 use Rattle.mh_grammar.specs.declared.types.Symbol.TheVariants.{N}
 use Rattle.mh_grammar.specs.Plain.{rhs_of}
 use Rattle.mh_tables_core.specs.Table.{TableData}
 use Rattle.mh_facts.specs.declared.store.FactKey.{FactKey}
-use Rattle.mh_facts.specs.Stored.{Facts, fact_at, highest_cost}
+use Rattle.mh_facts.specs.Stored.{StoredFacts, fact_at, highest_cost}
 use Rattle.mh_facts.specs.code.BestFirst.{IsPathEnd, SearchInvariant, SoundFact}
 use Rattle.mh_facts.specs.declared.work.QueuedFact.{QueuedFact}
 use Rattle.mh_facts.specs.declared.work.SettledFact.{SettledFact}
@@ -17,22 +18,23 @@ use Rattle.mh_facts.specs.declared.classes.TokenClasses.{TokenClasses}
 use Rattle.mh_facts.specs.code.Queues.{Waits, WaitsOrIsListed}
 use Rattle.mh_reach_found.specs.code.QueueDraws.{DrawsOne, DrawsNone, AppendsUnlessDone, DrawsSome, DrawsAll}
 use Rattle.mh_facts.specs.code.TokenClasses.{rep_of, place_of}
-use Rattle.mh_facts.specs.code.SearchRules.{InRange, settled_of, goto_fact, queue_of, paths_at, complete_paths_at, KnowsGoto, IsReady}
+use Rattle.mh_facts.specs.code.SearchRules.{InRange, settled_of, goto_fact, queue_of, paths_at, complete_paths_at, KnowsGoto, HasBoundedRows}
 use Rattle.mh_facts.specs.code.WordAssignment.{WordNoLater, cost_up_to_cap, WordBy, WordAssignment}
 use Rattle.mh_reach_found.specs.code.SearchResult.{IsStored, GotoFactsIn, IsSoundCompletePath}
 
-abbrev pub IsItemSettled : Facts → QueuedFact → Type 0
+abbrev pub IsItemSettled : StoredFacts → QueuedFact → Type 0
 IsItemSettled facts i = IsStored facts i.key
 
--- The item i is the next item of the cost that is not stored; stored items are dropped.
-abbrev pub TakesUnsettled : Facts → List (Rattle.std.specs.Global.Vec QueuedFact) → List (Rattle.std.specs.Global.Vec QueuedFact) → ℕ → QueuedFact → Type 0
+-- From the items of this cost, the item i is taken, whose fact is not stored yet. Items whose facts are stored may be
+-- dropped.
+abbrev pub TakesUnsettled : StoredFacts → List (Rattle.std.specs.Global.Vec QueuedFact) → List (Rattle.std.specs.Global.Vec QueuedFact) → ℕ → QueuedFact → Type 0
 TakesUnsettled facts old new cost i = DrawsOne (IsItemSettled facts) (λ o. fact_at facts o.key ≡ None) old new cost i
 
-abbrev pub NoUnsettledLeft : Facts → List (Rattle.std.specs.Global.Vec QueuedFact) → List (Rattle.std.specs.Global.Vec QueuedFact) → ℕ → Type 0
+abbrev pub NoUnsettledLeft : StoredFacts → List (Rattle.std.specs.Global.Vec QueuedFact) → List (Rattle.std.specs.Global.Vec QueuedFact) → ℕ → Type 0
 NoUnsettledLeft facts old new cost = DrawsNone (IsItemSettled facts) old new cost
 
--- The next item of the cost that is not stored, if there is one, is taken and stored.
-abbrev pub SettlesNext : Facts → Facts → List (Rattle.std.specs.Global.Vec QueuedFact) → List (Rattle.std.specs.Global.Vec QueuedFact) → ℕ → Option QueuedFact → Type 0
+-- If an item of this cost waits whose fact is not stored yet, such an item is taken and its fact is stored.
+abbrev pub SettlesNext : StoredFacts → StoredFacts → List (Rattle.std.specs.Global.Vec QueuedFact) → List (Rattle.std.specs.Global.Vec QueuedFact) → ℕ → Option QueuedFact → Type 0
 SettlesNext facts more old new cost None = (more ≡ facts) × NoUnsettledLeft facts old new cost
 SettlesNext facts more old new cost (Some i) = (more ≡ facts ++ (i.key, record { cost = cost; back = i.back }) ∷ []) × TakesUnsettled facts old new cost i
 
@@ -41,10 +43,10 @@ abbrev pub WaitsWithWord : TableData → (FactKey → Option (List ℕ)) → (�
 WaitsWithWord t words waits k u = (cost : ℕ) × (i : QueuedFact) × waits cost i × (i.key ≡ k) × WordBy t words i.key i.back u
 
 -- The item waits in the queue, or in a separate list of items of the level's cost.
-abbrev pub Waiting : SearchData → ℕ → List QueuedFact → ℕ → QueuedFact → Type 0
-Waiting work level beside cost i = WaitsOrIsListed (queue_of work) level beside cost i
+abbrev pub WaitsOrIsBeside : SearchData → ℕ → List QueuedFact → ℕ → QueuedFact → Type 0
+WaitsOrIsBeside work level beside cost i = WaitsOrIsListed (queue_of work) level beside cost i
 
--- An item that waits is in range and sound, and its cost is the cost of its word.
+-- An item that waits is in range and sound, and its cost is the cost of its word. If the cost is 0, the word is empty.
 pub record IsSoundItem (t : TableData) (rep : ℕ → ℕ → ℕ) (words : FactKey → Option (List ℕ)) (cost : ℕ) (i : QueuedFact) : Type 0 where
   pub range : InRange t (settled_of cost i)
   pub word : List ℕ
@@ -53,7 +55,8 @@ pub record IsSoundItem (t : TableData) (rep : ℕ → ℕ → ℕ) (words : Fact
   pub short : cost ≡ 0 → word ≡ []
   pub sound : SoundFact t rep i.key word
 
--- A path in a row of the search data is in range and stored, and its cost is the cost of its word.
+-- A path in a row of the search data is in range and stored, and its cost is the cost of its word. If the cost is 0,
+-- the word is empty.
 pub record IsSoundPath (t : TableData) (words : FactKey → Option (List ℕ)) (p : SettledFact) : Type 0 where
   pub range : InRange t p
   pub word : List ℕ
@@ -63,12 +66,12 @@ pub record IsSoundPath (t : TableData) (words : FactKey → Option (List ℕ)) (
 
 -- The invariant of the search at a level: all facts of a lower cost are settled. Items of the level's cost may wait in
 -- the separate list `beside`.
-pub record LevelInvariant (t : TableData) (c : TokenClasses) (facts : Facts) (work : SearchData) (level : ℕ) (beside : List QueuedFact) : Type 0 where
+pub record LevelInvariant (t : TableData) (c : TokenClasses) (facts : StoredFacts) (work : SearchData) (level : ℕ) (beside : List QueuedFact) : Type 0 where
   pub word_assignment : WordAssignment t facts
-  pub ready : IsReady t c work
-  pub frontier : SearchInvariant t (rep_of c) (WordNoLater t) word_assignment.words (GotoFactsIn c word_assignment.words work) (WaitsWithWord t word_assignment.words (Waiting work level beside))
-  pub items : (cost : ℕ) (i : QueuedFact) → Waiting work level beside cost i → IsSoundItem t (rep_of c) word_assignment.words cost i
-  pub at_least_level : (cost : ℕ) (i : QueuedFact) → Waiting work level beside cost i → level ≤ cost
+  pub ready : HasBoundedRows t c work
+  pub search_invariant : SearchInvariant t (rep_of c) (WordNoLater t) word_assignment.words (GotoFactsIn c word_assignment.words work) (WaitsWithWord t word_assignment.words (WaitsOrIsBeside work level beside))
+  pub items : (cost : ℕ) (i : QueuedFact) → WaitsOrIsBeside work level beside cost i → IsSoundItem t (rep_of c) word_assignment.words cost i
+  pub at_least_level : (cost : ℕ) (i : QueuedFact) → WaitsOrIsBeside work level beside cost i → level ≤ cost
   pub at_most_level : highest_cost facts ≤ level
   pub paths : (n : ℕ) (p : SettledFact) → Contains (paths_at work n) p → IsSoundPath t word_assignment.words p
   pub all_paths : (k : FactKey) (u : List ℕ) (s n : ℕ) → word_assignment.words k ≡ Some u → IsPathEnd t k.from k.production k.dot s → slice_get (rhs_of t.grammar k.production) k.dot ≡ Some (N n) → (p : SettledFact) × Contains (paths_at work (place_of c s k.next)) p × (p.key ≡ k)
@@ -82,24 +85,25 @@ AreSortedByWord t words (i ∷ is) = ((o : QueuedFact) (u v : List ℕ) → Cont
 
 -- Each item of the level in the queue comes no later than all items that wait, and the separate list is sorted by
 -- words.
-pub record LevelInOrder (t : TableData) (c : TokenClasses) (facts : Facts) (work : SearchData) (level : ℕ) (beside : List QueuedFact) : Type 0 where
+pub record LevelInOrder (t : TableData) (c : TokenClasses) (facts : StoredFacts) (work : SearchData) (level : ℕ) (beside : List QueuedFact) : Type 0 where
   pub invariant : LevelInvariant t c facts work level beside
-  pub none_earlier : (o i : QueuedFact) (cost : ℕ) (u v : List ℕ) → Waits (queue_of work) level o → Waiting work level beside cost i → WordBy t invariant.word_assignment.words o.key o.back u → WordBy t invariant.word_assignment.words i.key i.back v → WordNoLater t u v
+  pub none_earlier : (o i : QueuedFact) (cost : ℕ) (u v : List ℕ) → Waits (queue_of work) level o → WaitsOrIsBeside work level beside cost i → WordBy t invariant.word_assignment.words o.key o.back u → WordBy t invariant.word_assignment.words i.key i.back v → WordNoLater t u v
   pub rising : AreSortedByWord t invariant.word_assignment.words beside
 
 -- No item of the level waits in the queue, and the separate list is sorted by words.
-pub record LevelReady (t : TableData) (c : TokenClasses) (facts : Facts) (work : SearchData) (level : ℕ) (beside : List QueuedFact) : Type 0 where
+pub record LevelReady (t : TableData) (c : TokenClasses) (facts : StoredFacts) (work : SearchData) (level : ℕ) (beside : List QueuedFact) : Type 0 where
   pub invariant : LevelInvariant t c facts work level beside
   pub none : (o : QueuedFact) → Waits (queue_of work) level o → ⊥
   pub rising : AreSortedByWord t invariant.word_assignment.words beside
 
-abbrev pub KeepsNew : Facts → QueuedFact → List QueuedFact → List QueuedFact → Type 0
-KeepsNew facts i old new = AppendsUnlessDone (IsItemSettled facts) i old new
+-- The item is appended to the list `old`, unless its fact is stored already; the result is the list `new`.
+abbrev pub AppendsIfUnsettled : StoredFacts → QueuedFact → List QueuedFact → List QueuedFact → Type 0
+AppendsIfUnsettled facts i old new = AppendsUnlessDone (IsItemSettled facts) i old new
 
--- Some items of the cost are taken; those that are not stored are in the list `all`.
-abbrev pub TakesSomeUnsettled : Facts → List (Rattle.std.specs.Global.Vec QueuedFact) → List (Rattle.std.specs.Global.Vec QueuedFact) → ℕ → List QueuedFact → Type 0
+-- Some items of this cost are taken from the queue; the list `all` holds those of them whose facts are not stored.
+abbrev pub TakesSomeUnsettled : StoredFacts → List (Rattle.std.specs.Global.Vec QueuedFact) → List (Rattle.std.specs.Global.Vec QueuedFact) → ℕ → List QueuedFact → Type 0
 TakesSomeUnsettled facts old new cost all = DrawsSome (IsItemSettled facts) old new cost all
 
--- All items of the cost are taken.
-abbrev pub TakesAllUnsettled : Facts → List (Rattle.std.specs.Global.Vec QueuedFact) → List (Rattle.std.specs.Global.Vec QueuedFact) → ℕ → List QueuedFact → Type 0
+-- All items of this cost are taken from the queue; the list `all` holds those of them whose facts are not stored.
+abbrev pub TakesAllUnsettled : StoredFacts → List (Rattle.std.specs.Global.Vec QueuedFact) → List (Rattle.std.specs.Global.Vec QueuedFact) → ℕ → List QueuedFact → Type 0
 TakesAllUnsettled facts old new cost all = DrawsAll (IsItemSettled facts) old new cost all

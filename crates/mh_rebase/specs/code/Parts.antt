@@ -44,13 +44,13 @@ pub record WritesKeptSentence (expected : Bool) (g : Grammar) (a : Automaton) (t
   pub is_more : IsExpectedPart expected g t x more
   pub written : new ≡ old ++ (sentence_text g x.start x.tokens ++ 10 ∷ (comments g (kernel_at a state).items state item reduced ++ more))
 
--- The line has this fault, and the line that reports its reason is appended.
+-- The sentence line has this fault, and the text that reports the line as dropped for this fault is appended.
 pub record DropsFault (line : ℕ) (fault : SentenceFault) (old new : Text) : Type 0 where
   pub reason : DropReason
   pub is : IsReasonOfFault fault reason
   pub drops : new ≡ old ++ dropped_line_text line (Drop reason)
 
--- A line with this reading is decided on, and the texts that follow are appended.
+-- A sentence line that is read as `found` is decided on, and the texts for the decision are appended to the parts.
 pub record DecidesLine (expected : Bool) (g : Grammar) (a : Automaton) (t : TableData) (line : ℕ) (found : LineResult) (kept : Bool) (old new : Parts) : Type 0 where
   pub decision : Decision
   pub kept_is : kept ≡ is_keep decision
@@ -59,7 +59,7 @@ pub record DecidesLine (expected : Bool) (g : Grammar) (a : Automaton) (t : Tabl
   pub keeps : new.kept.items ≡ old.kept.items ++ kept_sentence_text g decision
   pub drops : new.dropped.items ≡ old.dropped.items ++ dropped_line_text line decision
 
--- These lines are decided on in order, and the texts that follow are appended.
+-- These lines are decided on in order, and the texts for the decisions are appended to the parts.
 pub record DecidesLines (expected : Bool) (g : Grammar) (a : Automaton) (t : TableData) (lines : List LooseLine) (kept : Bool) (old new : Parts) : Type 0 where
   pub done : List DecidedLine
   pub of_lines : map (λ j. j.line) done ≡ lines
@@ -68,7 +68,7 @@ pub record DecidesLines (expected : Bool) (g : Grammar) (a : Automaton) (t : Tab
   pub keeps : new.kept.items ≡ old.kept.items ++ kept_sentence_texts g done
   pub drops : new.dropped.items ≡ old.dropped.items ++ dropped_lines_text done
 
--- These entries are decided on in order, and the texts that follow are appended.
+-- These entries are decided on in order, and the texts for the decisions are appended to the parts.
 pub record DecidesEntries (expected : Bool) (g : Grammar) (a : Automaton) (t : TableData) (entries : List LooseEntry) (old new : Parts) : Type 0 where
   pub done : List DecidedEntry
   pub of_entries : map without_decisions done ≡ entries

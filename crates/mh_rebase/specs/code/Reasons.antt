@@ -21,11 +21,12 @@ IsReasonOfFault fault reason = (v : Vocabulary) (t : TableData) (before : List D
 abbrev pub kept_line_in : List (Option ℕ) → ℕ → Option ℕ
 kept_line_in kept state = option_and_then (λ (line : Option ℕ). line) (slice_get kept state)
 
--- The last of so many tokens is refused in this state, and no kept sentence fails there.
+-- The verdict refuses the last of the sentence's tokens in this state, and no kept sentence fails there. The sentence
+-- has `tokens` tokens.
 abbrev pub IsStateToKeep : Verdict → ℕ → List (Option ℕ) → ℕ → Type 0
 IsStateToKeep verdict tokens kept state = (at : ℕ) × (verdict ≡ Reject at state) × (at + 1 ≡ tokens) × (kept_line_in kept state ≡ None)
 
--- A sentence with this verdict and so many tokens is dropped for this reason.
+-- A sentence with this verdict and this number of tokens is dropped for this reason.
 abbrev pub IsReasonOfVerdict : Verdict → ℕ → List (Option ℕ) → DropReason → Type 0
 IsReasonOfVerdict verdict tokens kept (reasons.NotRefused other) = (other ≡ verdict) × IsNoRefusal (ending_for verdict)
 IsReasonOfVerdict verdict tokens kept (reasons.RefusedEarly at) = (state : ℕ) × (verdict ≡ Reject at state) × (at + 1 ≢ tokens)

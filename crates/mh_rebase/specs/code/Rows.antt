@@ -5,7 +5,7 @@ use Rattle.mh_grammar.specs.Text.{Text}
 use Rattle.mh_rebase.specs.code.Reasons.{kept_line_in}
 use Rattle.mh_items_kernels.specs.KernelTypes.{Automaton}
 use Rattle.mh_tables_core.specs.Table.{TableData}
-use Rattle.mh_tables_core.specs.Failing.{Fails, CatalogueRow as TableRow}
+use Rattle.mh_tables_core.specs.Failing.{Fails, CatalogueRow}
 use Rattle.mh_catalogue_rows.specs.Rows.{rows_of}
 use Rattle.mh_catalogue_rows.specs.declared.rows.Row.{Row}
 use Rattle.mh_report_comments.specs.CatalogueTexts.{AreEntries}
@@ -16,7 +16,7 @@ pub record IsFitRow (t : TableData) (row : Row) : Type 0 where
   pub few : length row.sentence < 2 ^ 32
 
 -- Whether no kept sentence fails in the state of the row.
-abbrev pub has_no_kept_line : List (Option ℕ) → TableRow → Bool
+abbrev pub has_no_kept_line : List (Option ℕ) → CatalogueRow → Bool
 has_no_kept_line kept row = is_none (kept_line_in kept row.state)
 
 -- The entries of the rows in whose states no kept sentence fails are appended.

@@ -10,7 +10,8 @@ use Rattle.mh_items_kernels.specs.KernelTypes.{Kernel}
 use Rattle.mh_items_kernels.specs.Kernels.{IsItemList}
 use Rattle.mh_resolve_cells.specs.code.StateResults.{AreEdgesKnown}
 
--- The closure builder b and the kernel k are those of the grammar; the edges rise, and lead from tokens of the grammar.
+-- The closure builder b and the kernel k are those of the grammar; the edges rise, and each token that labels an edge
+-- is a token of the grammar.
 pub record IsStateInput {W : ℕ} (g : Grammar) (b : ClosureBuilder W) (k : Kernel) (es : List Edge) : Type 0 where
   pub closer : IsClosureBuilder (plain_of g) b
   pub kernel : IsItemList (plain_of g) k

@@ -27,6 +27,8 @@ initial_reader = record { mode = Merged; tokens = []; costs = None; starts = [];
 abbrev pub table_of : Reader → RawTable
 table_of r = record { mode = r.mode; tokens = r.tokens; costs = r.costs; starts = r.starts; productions = r.productions; states = r.states }
 
+-- The costs that a reader has after a head line with this version: none in version 1, and an empty list in version 2,
+-- where a line with the costs follows. There is no other version.
 abbrev pub costs_for : ℕ → Option (Option (List ℕ))
 costs_for version = if version == 1 then Some None else if version == 2 then Some (Some []) else None
 
@@ -76,19 +78,21 @@ abbrev pub at_end : Reader → LineKind → Line → Option Reader
 at_end r kinds.End [] = Some (record r { place = places.Ended })
 at_end r _ words = None
 
-abbrev pub at_between : Reader → ℕ → LineKind → Line → Option Reader
-at_between r left kind words = if left == 0 then at_end r kind words else at_state r left kind words
+-- The reader after a line that begins the next state or, if no state is left, is the end line.
+abbrev pub at_between_states : Reader → ℕ → LineKind → Line → Option Reader
+at_between_states r left kind words = if left == 0 then at_end r kind words else at_state r left kind words
 
 -- The reader after the open state is completed with its cells or its default action.
 abbrev pub state_ended_by : Reader → RawCells → ExpectedLine → Reader
 state_ended_by r cells place = record r { states = r.states ++ record { items = r.items; edges = r.edges; cells = cells } ∷ []; items = []; edges = []; cells = []; place = place }
 
+-- The reader after the open state is completed with the cells that were read for it.
 abbrev pub state_closed : Reader → Reader
 state_closed r = state_ended_by r (cells.Cells r.cells) r.place
 
 abbrev pub at_cells : Reader → ℕ → LineKind → Line → Option Reader
 at_cells r left kinds.Cell words = cell_of words >>= λ c. Some (record r { cells = r.cells ++ c ∷ []; place = places.Cells left })
-at_cells r left kind words = at_between (state_closed r) left kind words
+at_cells r left kind words = at_between_states (state_closed r) left kind words
 
 abbrev pub at_edges : Reader → ℕ → LineKind → Line → Option Reader
 at_edges r left kinds.Edge words = edge_of words >>= λ e. Some (record r { edges = r.edges ++ e ∷ []; place = places.Edges left })
@@ -99,8 +103,10 @@ abbrev pub at_items : Reader → ℕ → LineKind → Line → Option Reader
 at_items r left kinds.Item words = item_of words >>= λ i. Some (record r { items = r.items ++ i ∷ []; place = places.Items left })
 at_items r left kind words = at_edges r left kind words
 
-abbrev pub at_listing : Reader → ℕ → List ℕ → Line → Option Reader
-at_listing r left word words = if left == 0 then at_states r (kind_of word) words else at_production r left (word ∷ words)
+-- The reader after a line in the list of productions: the next production or, if no production is left, the number of
+-- states.
+abbrev pub at_production_list : Reader → ℕ → List ℕ → Line → Option Reader
+at_production_list r left word words = if left == 0 then at_states r (kind_of word) words else at_production r left (word ∷ words)
 
 abbrev pub next_at : ExpectedLine → Reader → List ℕ → Line → Option Reader
 next_at places.Head r word words = at_head r (kind_of word) words
@@ -108,8 +114,8 @@ next_at places.Tokens r word words = at_tokens r (kind_of word) words
 next_at places.Costs r word words = at_costs r (kind_of word) words
 next_at places.Starts r word words = at_starts r (kind_of word) words
 next_at places.Productions r word words = at_productions r (kind_of word) words
-next_at (places.Listing left) r word words = at_listing r left word words
-next_at (places.Between left) r word words = at_between r left (kind_of word) words
+next_at (places.Listing left) r word words = at_production_list r left word words
+next_at (places.Between left) r word words = at_between_states r left (kind_of word) words
 next_at (places.Items left) r word words = at_items r left (kind_of word) words
 next_at (places.Edges left) r word words = at_edges r left (kind_of word) words
 next_at (places.Cells left) r word words = at_cells r left (kind_of word) words

@@ -1,4 +1,5 @@
--- Upper bounds on the reductions of relative runs above an edge, by the symbol of the edge.
+-- Upper bounds on the reductions of relative runs above an edge, by the symbol of the edge. Such a run begins with the
+-- target of the edge (the upper state) above the source of the edge (the lower state).
 use Rattle.std.specs.Prelude.{◌≡◌, ◌<◌, ◌≤◌, ◌+◌, ◌⊎◌, ℕ, List, length, slice_index, slice_get, Option, Some, None}
 use Rattle.std.specs.List.{Contains}
 use Rattle.mh_grammar.specs.declared.types.Symbol.{Symbol}

@@ -9,7 +9,7 @@ use Rattle.mh_tables_core.specs.Table.{TableData, fallback_of}
 use Rattle.mh_tables.specs.declared.relative_runs.RelativeRun.{RelativeRun}
 use Rattle.mh_tables_core.specs.Limits.{max_reductions}
 use Rattle.mh_tables_core.specs.Run.{Reduces, run_move_of, top_of, reduce, reduction, reductions}
-use Rattle.mh_tables_core.specs.Halting.{IsBeginning, IsLook, RunLoops, NeverLoops, IsOptionBefore, LoopsAt, look_list, beginning}
+use Rattle.mh_tables_core.specs.Halting.{IsBeginning, IsLook, RunLoops, NeverLoops, IsOptionBefore, IsFirstLoop, look_list, beginning}
 
 -- If the result is true, a reduction was made; otherwise the next move is not a reduction, and the stack is unchanged.
 abbrev pub IsReduceOnceResult : TableData → List ℕ → List ℕ → List ℕ → Bool → Type 0
@@ -73,7 +73,7 @@ pub record StopsWithoutDefault (t : TableData) (below : Option ℕ) (s top : ℕ
 pub record IsFirstLoopingLook (t : TableData) (below : Option ℕ) (s : ℕ) (look : Option ℕ) : Type 0 where
   pub known : IsLook t look
   pub loops : RunLoops t below s look
-  pub no_look : (look' : Option ℕ) → IsOptionBefore look' look → IsLook t look' → RunLoops t below s look' → ⊥
+  pub no_earlier_look : (look' : Option ℕ) → IsOptionBefore look' look → IsLook t look' → RunLoops t below s look' → ⊥
 
 -- The first look with which a relative run with this beginning loops, if there is one.
 abbrev pub LookFound : TableData → Option ℕ → ℕ → Option (Option ℕ) → Type 0
@@ -85,11 +85,12 @@ abbrev pub TokenFound : TableData → Option ℕ → ℕ → Option ℕ → Type
 TokenFound t below s None = NeverLoops t below s
 TokenFound t below s (Some z) = IsFirstLoopingLook t below s (Some z)
 
--- The first upper state above the state `below`, or the first start state alone, with which a relative run loops.
+-- s is the first state that begins a relative run that loops, above the state `below` or alone as a start state; `look`
+-- is the first look with which it does.
 pub record IsFirstLoopingState (t : TableData) (below : Option ℕ) (s : ℕ) (look : Option ℕ) : Type 0 where
   pub begins : IsBeginning t below s
   pub first : IsFirstLoopingLook t below s look
-  pub no_state : (s' : ℕ) → s' < s → IsBeginning t below s' → NeverLoops t below s'
+  pub no_earlier_state : (s' : ℕ) → s' < s → IsBeginning t below s' → NeverLoops t below s'
 
 -- No relative run above the state `below` loops.
 abbrev pub NoneLoopsAbove : TableData → Option ℕ → Type 0
@@ -100,13 +101,13 @@ abbrev pub StateFound : TableData → Option ℕ → Option RelativeRun → Type
 StateFound t below None = NoneLoopsAbove t below
 StateFound t below (Some run) = (run.below ≡ below) × IsFirstLoopingState t below run.state run.token
 
--- The target of an edge was added to the list, or no relative run above the edge loops.
+-- The target u of an edge of state r was added to the list, or no relative run that begins with u above r loops.
 pub record AddsTarget (t : TableData) (r u : ℕ) (old new : List ℕ) : Type 0 where
   pub each : All (IsBeginning t (Some r)) old → All (IsBeginning t (Some r)) new
   pub kept : (v : ℕ) → Contains old v → Contains new v
   pub added_or_halts : Contains new u ⊎ NeverLoops t (Some r) u
 
--- The list holds, in the order of states, the targets of the edges of state r above which relative runs have to be
+-- The list holds, in the order of states, the targets of edges of state r with which relative runs above r have to be
 -- tried.
 pub record AreTargets (t : TableData) (r : ℕ) (targets : List ℕ) : Type 0 where
   pub each : All (IsBeginning t (Some r)) targets
@@ -118,7 +119,7 @@ pub record AreTargets (t : TableData) (r : ℕ) (targets : List ℕ) : Type 0 wh
 abbrev pub NoneLoops : TableData → Type 0
 NoneLoops t = (below : Option ℕ) (s : ℕ) → IsBeginning t below s → NeverLoops t below s
 
--- The result of the whole test: the first relative run that loops, if there is one.
-abbrev pub TestFound : TableData → Option RelativeRun → Type 0
-TestFound t None = NoneLoops t
-TestFound t (Some run) = LoopsAt t run.below run.state run.token
+-- The result of the whole test is the first relative run that loops, or `None` if no relative run loops.
+abbrev pub IsTestResult : TableData → Option RelativeRun → Type 0
+IsTestResult t None = NoneLoops t
+IsTestResult t (Some run) = IsFirstLoop t run.below run.state run.token

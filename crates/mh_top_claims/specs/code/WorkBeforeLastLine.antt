@@ -11,7 +11,7 @@ use Rattle.mh_top_claims.specs.Run.{AfterWarnings, NoWriteFailed, OutWriteFailed
 abbrev pub IsWorkBeforeLastLine : List Text → World → World → Result (Unit {0}) Stop → Type 0
 IsWorkBeforeLastLine words before now (Ok _) = KeepsFaultCounts before now × AfterWarnings words before (ModeEnded before now None) (Appends before.err now.err)
 IsWorkBeforeLastLine words before now (Err (Halted cause)) = KeepsFaultCounts before now × AfterWarnings words before (ModeEnded before now (Some cause)) (Appends before.err now.err)
-IsWorkBeforeLastLine words before now (Err (ShelfFailed name)) = HasRisen before.shelf_faults now.shelf_faults × NoWriteFailed before now × ((front : Text) × IsNextToRead words before.files front name × LeavesInputAndOut before now × Appends before.err now.err front)
+IsWorkBeforeLastLine words before now (Err (ShelfFailed name)) = HasRisen before.shelf_faults now.shelf_faults × NoWriteFailed before now × ((err_text : Text) × IsNextToRead words before.files err_text name × LeavesInputAndOut before now × Appends before.err now.err err_text)
 IsWorkBeforeLastLine words before now (Err InputFailed) = HasRisen before.input_faults now.input_faults × NoWriteFailed before now × AfterWarnings words before (InputReadFailed before now) (Appends before.err now.err)
 IsWorkBeforeLastLine words before now (Err WriteFailed) =
     (HasRisen before.err_faults now.err_faults × WarningWriteFailed words before now) ⊎ (HasRisen before.out_faults now.out_faults × (now.input_faults ≡ before.input_faults) × (now.err_faults ≡ before.err_faults) × AfterWarnings words before (OutWriteFailed before now) (Appends before.err now.err))

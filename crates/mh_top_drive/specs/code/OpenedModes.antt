@@ -1,4 +1,4 @@
--- The contract of running a mode that may have failed to open.
+-- The contract of running a mode, which was opened (made ready to run) or failed to open.
 use Rattle.std.specs.Prelude.{◌≡◌, Option, Result, Ok, Err, ⊤}
 use Rattle.mh_grammar.specs.Text.{Text}
 use Rattle.mh_top_drive.specs.code.ModeCalls.{ModeRan}

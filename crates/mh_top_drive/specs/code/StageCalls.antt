@@ -14,7 +14,8 @@ StopsWith cause (Halted given) = given ≡ cause
 StopsWith cause OutOfMemory = ⊤
 StopsWith cause _ = ⊥
 
--- The work stops since the shelf failed at this file, or memory ran out.
+-- The work stops because the shelf (the device that gives the files) failed while this file was read, or because memory
+-- ran out.
 abbrev pub ShelfFailsAt : Text → Stop → Type 0
 ShelfFailsAt name (ShelfFailed given) = given ≡ name
 ShelfFailsAt name OutOfMemory = ⊤

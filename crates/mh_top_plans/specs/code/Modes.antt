@@ -1,11 +1,22 @@
 -- The contracts of the calls that open the mode of a job and run it.
-use Rattle.std.specs.Prelude.{◌≡◌, ◌⊎◌, Option, Result, Ok, Err, ⊤}
+use Rattle.std.specs.Prelude.{◌≡◌, ◌≤◌, ◌⊎◌, ℕ, Option, Result, Ok, Err, ⊤}
 use Rattle.mh_grammar.specs.Text.{Text}
 use Rattle.mh_top_drive.specs.code.ModeCalls.{ModeRan}
 use Rattle.mh_top_drive.specs.declared.stop.Stop.{Stop}
 use Rattle.mh_top_drive.specs.declared.stop.Stop.TheVariants.{Halted, ShelfFailed, OutOfMemory}
+use Rattle.mh_top_types.specs.Shapes.{Prepared}
+use Rattle.mh_top_types.specs.code.Prepared.{IsConsistent}
 use Rattle.mh_top_plans.specs.Plan.{Plan, plan_behavior, halts, writing_plan}
 use Rattle.mh_top_plans.specs.declared.at_end.FinalText.{FinalText}
+
+-- A mode that reads files may run on what is prepared, with sets of tokens of `width` words: the parts of what is
+-- prepared agree, and the files of the mode (`Asks`), the input (`Reads`) and out (`Writes`) may be used.
+pub record MayRunWithFiles (width : ℕ) (p : Prepared) (Asks Reads Writes : Type 0) : Type 0 where
+  pub few : width ≤ 8
+  pub consistent : IsConsistent p
+  pub asked : Asks
+  pub may_read : Reads
+  pub may_write : Writes
 
 -- The result of opening a mode: a value that represents one of the possible plans (`Is`), or a refusal that is the
 -- cause of one of these plans. Two more results are possible: memory ran out, or the shelf failed at a file that was

@@ -1,5 +1,5 @@
 use Rattle.std.proofs.Common.{arith, rules}
-use Rattle.mh_resolve_cells.proofs.AreResolved.{items_of}
+use Rattle.mh_resolve_cells.proofs.AreResolved.{kernel_is_item_list}
 use Rattle.mh_explain.proofs.ChosenItems.{closed_of}
 use Rattle.mh_explain.proofs.ExplanationParts.{explanation_written, next_known}
 use Rattle.mh_explain.proofs.explanations.write_explanation.Goals as goal
@@ -12,7 +12,7 @@ close-requires g c = (
   search rules,
   (
     search rules,
-    (c.requires.fits, (c.requires.closer, items_of c.args.searched.now.grammar.now c.args.searched.now.automaton.now c.requires.fit.automaton c.args.conflict.now.state c.index.result.now c.requires.conflict.0 c.index.ensures)),
+    (c.requires.fits, (c.requires.closer, kernel_is_item_list c.args.searched.now.grammar.now c.args.searched.now.automaton.now c.requires.fit.automaton c.args.conflict.now.state c.index.result.now c.requires.conflict.0 c.index.ensures)),
   ),
 )
 

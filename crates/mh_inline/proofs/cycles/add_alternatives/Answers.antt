@@ -1,9 +1,9 @@
-use Rattle.mh_inline_unfold.proofs.Occurrences.{each_none}
+use Rattle.mh_inline_unfold.proofs.Occurrences.{no_occurrence_in_empty_alternatives}
 use Rattle.mh_inline.proofs.AddsFound.{AddsFound-none, IsFoundTable-after, each_step}
 use Rattle.mh_inline.proofs.cycles.add_alternatives.Goals as goal
 
 pub loop-production-init : goal.loop-production-init
-loop-production-init c = AddsFound-none _ c.args.found.now c.requires.sets (each_none c.args.expanded.now.instances)
+loop-production-init c = AddsFound-none _ c.args.found.now c.requires.sets (no_occurrence_in_empty_alternatives c.args.expanded.now.instances)
 
 pub add_side-requires : goal.add_side-requires
 add_side-requires c = IsFoundTable-after c.args.expanded.now.instances _ c.args.found.now c.loop-production.found c.requires c.loop-production.invariant

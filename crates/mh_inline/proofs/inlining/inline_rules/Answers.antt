@@ -2,7 +2,7 @@ use Rattle.std.proofs.Common.{sym, subst}
 use Rattle.std.proofs.lemmas.Result.{IfOk-weaker}
 use Rattle.mh_grammar.specs.Numbering.{AreDistinct}
 use Rattle.mh_grammar.specs.Plain.{plain_of, IsInRange}
-use Rattle.mh_inline.specs.Faults.{IsGrammarOf}
+use Rattle.mh_inline.specs.GrammarOfInstances.{IsGrammarOf}
 use Rattle.mh_inline.specs.Sentences.{KeepsSentences}
 use Rattle.mh_inline.proofs.Ranges.{in_range, distinct_starts}
 use Rattle.mh_inline.proofs.Sentences.{keeps_sentences}

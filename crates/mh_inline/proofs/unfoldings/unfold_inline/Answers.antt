@@ -1,10 +1,10 @@
 use Rattle.std.proofs.Common.{◌∙◌, arith, subst}
 use Rattle.mh_inline.specs.code.LastUses.{AreLastUses}
-use Rattle.mh_inline.proofs.LastUses.{order_within, KnowsNeeded-start, KnowsNeeded-all}
+use Rattle.mh_inline.proofs.LastUses.{order_within-get_or, KnowsNeeded-start, KnowsNeeded-all}
 use Rattle.mh_inline.proofs.unfoldings.unfold_inline.Goals as goal
 
 pub last_uses-requires : goal.last_uses-requires
-last_uses-requires c = order_within c.args.expanded.now.instances c.args.sizing.now c.as_slice.result.now c.as_slice.ensures.value c.requires.sizing
+last_uses-requires c = order_within-get_or c.args.expanded.now.instances c.args.sizing.now c.as_slice.result.now c.as_slice.ensures.value c.requires.sizing
 
 pub loop-place-init : goal.loop-place-init
 loop-place-init c = KnowsNeeded-start c.args.expanded.now.instances c.args.sizing.now.order.items c.in_ok-last.last.items c.in_ok-known.known.items (c.in_ok-known.ensures ∙ c.len.ensures)

@@ -3,12 +3,12 @@ use Rattle.std.proofs.lemmas.Option.{slice_get_within, get_or_from_slice_get}
 use Rattle.std.proofs.lemmas.Result.{on_ok_weaker}
 use Rattle.mh_grammar.proofs.Lists.{get_within}
 use Rattle.mh_inline.proofs.UnfoldedInstances.{next_from}
-use Rattle.mh_inline.proofs.LastUses.{ordered_within, KnowsNeeded-more}
+use Rattle.mh_inline.proofs.LastUses.{order_within-slice_get, KnowsNeeded-more}
 use Rattle.mh_inline.proofs.MovedUnfoldings.{lacks_kept, last_of, last_unneeded}
 use Rattle.mh_inline.proofs.unfoldings.unfold_next.Goals as goal
 
 pub last_use_of-moved-requires : goal.last_use_of-moved-requires
-last_use_of-moved-requires c = ordered_within c.args.expanded.now.instances c.args.sizing.now c.requires.sizing c.args.place c.number_at-number.result c.number_at-number.ensures
+last_use_of-moved-requires c = order_within-slice_get c.args.expanded.now.instances c.args.sizing.now c.requires.sizing c.args.place c.number_at-number.result c.number_at-number.ensures
 
 pub unfold_one-requires-clause-next : goal.unfold_one-requires-clause-next
 unfold_one-requires-clause-next c = next_from c.args.expanded.now.instances c.args.sizing.now c.args.last.now c.args.known.now.items c.args.place c.number_at-number.result c.requires.sizing c.requires.last c.requires.known c.number_at-number.ensures
@@ -18,13 +18,13 @@ unfold_one-requires-clause-last c = λ i at. last_of c.args.expanded.now.instanc
 
 pub index_mut-requires : goal.index_mut-requires
 index_mut-requires c =
-    let w = ordered_within c.args.expanded.now.instances c.args.sizing.now c.requires.sizing c.args.place c.number_at-number.result c.number_at-number.ensures in
+    let w = order_within-slice_get c.args.expanded.now.instances c.args.sizing.now c.requires.sizing c.args.place c.number_at-number.result c.number_at-number.ensures in
     let len = c.requires.known.len in
     let same = c.in_ok-all.ensures.known.len in
     omega arith
 
 pub forget_inlined-requires-clause-number : goal.forget_inlined-requires-clause-number
-forget_inlined-requires-clause-number c = ordered_within c.args.expanded.now.instances c.args.sizing.now c.requires.sizing c.args.place c.number_at-number.result c.number_at-number.ensures
+forget_inlined-requires-clause-number c = order_within-slice_get c.args.expanded.now.instances c.args.sizing.now c.requires.sizing c.args.place c.number_at-number.result c.number_at-number.ensures
 
 pub forget_inlined-requires-clause-known : goal.forget_inlined-requires-clause-known
 forget_inlined-requires-clause-known c = length-set c.unfold_one.new.known.items c.number_at-number.result c.in_ok-all.all ∙ c.in_ok-all.ensures.known.len ∙ c.requires.known.len
@@ -42,7 +42,7 @@ returns c =
     let last = c.args.last.now in
     let all = c.in_ok-all.all in
     let new = c.forget_inlined.new.known.items in
-    let w = ordered_within is c.args.sizing.now c.requires.sizing i n c.number_at-number.ensures in
+    let w = order_within-slice_get is c.args.sizing.now c.requires.sizing i n c.number_at-number.ensures in
     let len = c.requires.known.len in
     let within : n < length known = omega arith in
     let q = c.last_use_of-moved.result in

@@ -4,7 +4,7 @@ use Rattle.std.proofs.lemmas.Option.{slice_get_read}
 use Rattle.mh_grammar.specs.Plain.{plain_of}
 use Rattle.mh_items_kernels.specs.Kernels.{IsKernelItem}
 use Rattle.mh_grammar.proofs.Lists.{recursion_at}
-use Rattle.mh_items.proofs.IsJoined.{joined_item}
+use Rattle.mh_items.proofs.HasLooksOfBoth.{joined_item}
 use Rattle.mh_items.proofs.IsUnionSoFar.{IsUnionSoFar-left, IsUnionSoFar-right, IsUnionSoFar-both}
 use Rattle.mh_items.proofs.merging.next_item.Goals as goal
 

@@ -13,4 +13,4 @@ returns-in-Some c = (
 )
 
 pub returns-in-None : goal.returns-in-None
-returns-in-None c = takes.finds_open c.args.bytes.now c.args.at c.in-Long.opening c.in-Long.what c.in-Long.code c.in-Long.ensures.value c.in-None.ensures.none
+returns-in-None c = takes.finds_unclosed c.args.bytes.now c.args.at c.in-Long.opening c.in-Long.what c.in-Long.code c.in-Long.ensures.value c.in-None.ensures.none

@@ -1,11 +1,11 @@
-use Rattle.std.proofs.Common.{arith, refl, sym, ◌∙◌}
-use Rattle.mh_msgfile.specs.code.LineSteps.{piece_size}
+use Rattle.std.proofs.Common.{◌∙◌, rules, tests, not}
+use Rattle.std.proofs.lemmas.Iterator.{YieldsList-from_slice}
+use Rattle.std.proofs.lemmas.Iterator.Consumers.{count_from_yields_List}
+use Rattle.std.proofs.lemmas.Iterator.Search.{YieldsList-from_take_while}
+use Rattle.std.proofs.lemmas.List.Folds.{length-prefix_len}
 use Rattle.mh_msgfile.specs.Lines.{is_blank_line}
-use Rattle.mh_msgfile.proofs.LoopSteps.{counted_next, counted_to}
 use Rattle.mh_msgfile.proofs.messages.size_of_block.Goals as goal
 
-pub loop-number-preserved : goal.loop-number-preserved
-loop-number-preserved c = (omega (arith, c.loop-number.invariant.0), counted_next (piece_size (is_blank_line c.args.lines.now)) c.args.numbers.now c.loop-number.number-index 0 c.loop-number.invariant.1 c.loop-number-test.true (rw (sym c.is_blank_line.ensures ∙ c.if-is_blank_line.false) refl))
-
-pub returns-then-is_blank_line-clause-value : goal.returns-then-is_blank_line-clause-value
-returns-then-is_blank_line-clause-value c = counted_to (piece_size (is_blank_line c.args.lines.now)) c.args.numbers.now c.loop-number.number-index 0 c.loop-number.invariant.1 c.loop-number-test.true c.loop-number.count c.loop-number.invariant.0 (rw (sym c.is_blank_line.ensures ∙ c.if-is_blank_line.true) refl)
+pub returns-clause-value : goal.returns-clause-value
+returns-clause-value c =
+    count_from_yields_List c.take_while.result _ c.count.ensures.ran (YieldsList-from_take_while _ (λ x. not (is_blank_line c.args.lines.now x)) (YieldsList-from_slice c.args.numbers.now (cc)) c.take_while.ensures.closure c.take_while.ensures.done (λ x b q k. search (rules, tests))) ∙ length-prefix_len (λ x. not (is_blank_line c.args.lines.now x)) c.args.numbers.now

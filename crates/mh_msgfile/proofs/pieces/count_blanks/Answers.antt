@@ -1,11 +1,11 @@
-use Rattle.std.proofs.Common.{arith, refl, sym, ◌∙◌}
-use Rattle.mh_msgfile.specs.code.LineSteps.{blank_count}
+use Rattle.std.proofs.Common.{◌∙◌, rules, tests}
+use Rattle.std.proofs.lemmas.Iterator.{YieldsList-from_slice}
+use Rattle.std.proofs.lemmas.Iterator.Consumers.{count_from_yields_List}
+use Rattle.std.proofs.lemmas.Iterator.Search.{YieldsList-from_take_while}
+use Rattle.std.proofs.lemmas.List.Folds.{length-prefix_len}
 use Rattle.mh_msgfile.specs.Lines.{is_blank}
-use Rattle.mh_msgfile.proofs.LoopSteps.{counted_next, counted_to}
 use Rattle.mh_msgfile.proofs.pieces.count_blanks.Goals as goal
 
-pub loop-byte-preserved : goal.loop-byte-preserved
-loop-byte-preserved c = (omega (arith, c.loop-byte.invariant.0), counted_next (blank_count is_blank) c.args.bytes.now c.loop-byte.byte-index 0 c.loop-byte.invariant.1 c.loop-byte-test.true (rw (sym c.is_blank.ensures ∙ c.if-not-is_blank.false) refl))
-
-pub returns-then-not-is_blank-clause-value : goal.returns-then-not-is_blank-clause-value
-returns-then-not-is_blank-clause-value c = counted_to (blank_count is_blank) c.args.bytes.now c.loop-byte.byte-index 0 c.loop-byte.invariant.1 c.loop-byte-test.true c.loop-byte.count c.loop-byte.invariant.0 (rw (sym c.is_blank.ensures ∙ c.if-not-is_blank.true) refl)
+pub returns-clause-value : goal.returns-clause-value
+returns-clause-value c =
+    count_from_yields_List c.take_while.result _ c.count.ensures.ran (YieldsList-from_take_while _ is_blank (YieldsList-from_slice c.args.bytes.now (cc)) c.take_while.ensures.closure c.take_while.ensures.done (λ x b q k. search (rules, tests))) ∙ length-prefix_len is_blank c.args.bytes.now

@@ -2,7 +2,7 @@ use Rattle.std.proofs.Common.{◌≡◌, ◌<◌, ◌⊎◌, inl, inr}
 use Rattle.std.specs.Prelude.{max}
 use Rattle.std.proofs.lemmas.Result.{IfOk-weaker}
 use Rattle.mh_facts.specs.Costs.{cap}
-use Rattle.mh_reach_paths.proofs.WordNumbers.{numbered_higher, some_level, plain_numbered, between, made_known, made_prefix_free, made_numbered}
+use Rattle.mh_reach_paths.proofs.WordNumbers.{numbered_higher, max_one_of_positive, plain_numbered, between, made_known, made_prefix_free, made_numbered}
 use Rattle.mh_reach_paths.proofs.numbering.numbers_of.Goals as goal
 use Rattle.mh_reach_paths.proofs.numbering.numbers_of.Goals.{then-cost-eq0-via-then-cost-eq0, then-cost-eq0-via-else-cost-eq0+then-cost-eq-CAP}
 
@@ -26,7 +26,7 @@ number_all-requires-clause-prefix_free c =
     rw c.as_slice.ensures.value (made_prefix_free c.args.table.now c.args.store.now c.args.numbering.now c.rising.ensures c.args.cost (apart c).1 c.args.items.now c.in_ok-made.made.items c.in_ok-made.ensures c.requires)
 
 pub number_all-requires-clause-fresh : goal.number_all-requires-clause-fresh
-number_all-requires-clause-fresh c = (numbered_higher c.args.store.now c.requires.word_assignment.words (max 1 c.args.cost) c.args.cost c.args.numbering.now (some_level c.args.cost (apart c).0) c.requires.numbered).below
+number_all-requires-clause-fresh c = (numbered_higher c.args.store.now c.requires.word_assignment.words (max 1 c.args.cost) c.args.cost c.args.numbering.now (max_one_of_positive c.args.cost (apart c).0) c.requires.numbered).below
 
 pub returns : goal.returns
 returns c =

@@ -1,4 +1,4 @@
-use Rattle.std.proofs.Common.{None, sym, subst}
+use Rattle.std.proofs.Common.{sym, subst}
 use Rattle.mh_reader_parser.specs.code.ParserSteps.{AgreesWithStep}
 use Rattle.mh_reader_parser.proofs.RuleSteps.{token_without_alias}
 use Rattle.mh_reader_parser.proofs.declarations.at_token.Goals as goal

@@ -1,7 +1,7 @@
 use Rattle.std.proofs.Common.{arith}
 use Rattle.mh_lex.specs.declared.kinds.Kind.TheVariants.{Word}
 use Rattle.mh_lex.specs.declared.kinds.Lexeme.{Lexeme}
-use Rattle.std.proofs.Common.{get_or}
+use Rattle.std.proofs.Common.{get_or, length, refl}
 use Rattle.mh_reader_parser.proofs.ParserExact as exact
 use Rattle.mh_reader_parser.proofs.reading.read_lexemes.Goals as goal
 
@@ -10,8 +10,8 @@ none = record { kind = Word; start = 0; end = 0 }
 
 pub returns-in-Err-Unexpected-clause-fault : goal.returns-in-Err-Unexpected-clause-fault
 returns-in-Err-Unexpected-clause-fault c =
-    exact.unexpected_lexeme_at c.args.bytes.now c.args.lexemes.now c.loop-lexeme.lexeme-index none c.loop-lexeme.reader c.first_line.result (omega arith) c.loop-lexeme.invariant.goes
-    (rw c.in-Err-Unexpected.field-0-is at c.in-Err-Unexpected.ensures) c.first_line.ensures
+    exact.unexpected_lexeme_at c.args.bytes.now c.args.lexemes.now c.loop-lexeme.lexeme-index none c.loop-lexeme.reader (get_or c.args.lexemes.now c.loop-lexeme.lexeme-index none).start (omega arith) c.loop-lexeme.invariant.goes
+    (rw c.in-Err-Unexpected.field-0-is at c.in-Err-Unexpected.ensures) refl
 
 pub loop-lexeme-preserved : goal.loop-lexeme-preserved
 loop-lexeme-preserved c = record {
@@ -25,5 +25,5 @@ returns-in-Ok-ended-clause-spelled c =
 
 pub returns-in-Err-Unexpected-ended-clause-fault : goal.returns-in-Err-Unexpected-ended-clause-fault
 returns-in-Err-Unexpected-ended-clause-fault c =
-    exact.unexpected_end_at c.args.bytes.now c.args.lexemes.now c.loop-lexeme.lexeme-index c.loop-lexeme.reader c.last_line.result (omega arith) c.loop-lexeme.invariant.goes
-    (rw c.in-Err-Unexpected-ended.field-0-is at c.in-Err-Unexpected-ended.ensures) c.last_line.ensures
+    exact.unexpected_end_at c.args.bytes.now c.args.lexemes.now c.loop-lexeme.lexeme-index c.loop-lexeme.reader (length c.args.bytes.now) (omega arith) c.loop-lexeme.invariant.goes
+    (rw c.in-Err-Unexpected-ended.field-0-is at c.in-Err-Unexpected-ended.ensures) refl

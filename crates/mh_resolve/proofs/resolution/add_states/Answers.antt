@@ -1,5 +1,5 @@
 use Rattle.std.proofs.Common.{◌≡◌, ◌<◌, length, arith, refl, rules}
-use Rattle.mh_resolve_cells.proofs.AreResolved.{items_of, edges_known, edges_rise, first_states_more, all_resolved, Facts-resolved, none_collected, collected_more, IsCellRow-state_of, all_collected}
+use Rattle.mh_resolve_cells.proofs.AreResolved.{kernel_is_item_list, edges_known, edges_rise, first_states_more, all_resolved, Facts-resolved, none_collected, collected_more, IsCellRow-state_of, all_collected}
 use Rattle.mh_resolve.proofs.resolution.add_states.Goals as goal
 
 pub loop-state-init : goal.loop-state-init
@@ -13,7 +13,7 @@ pub resolve_state-requires : goal.resolve_state-requires
 resolve_state-requires g c =
     let automaton = c.args.automaton.now in
     let within : c.loop-state.state < length automaton.kernels = (let n = c.len-state-end.ensures in omega arith) in
-    let kernel = items_of c.args.grammar.now automaton c.requires.automaton c.loop-state.state c.index-kernel.result.now within c.index-kernel.ensures in
+    let kernel = kernel_is_item_list c.args.grammar.now automaton c.requires.automaton c.loop-state.state c.index-kernel.result.now within c.index-kernel.ensures in
     let rising = edges_rise c.args.grammar.now automaton c.requires.automaton c.loop-state.state c.as_slice-edges.result.now c.index.result.now within c.index.ensures c.as_slice-edges.ensures in
     let known = edges_known c.args.grammar.now automaton c.requires.fits.range c.requires.automaton c.loop-state.state c.as_slice-edges.result.now c.index.result.now within c.index.ensures c.as_slice-edges.ensures in
     (search rules, (search rules, (c.requires.fits, record { closer = c.loop-state.invariant.2; kernel = kernel; rising = rising; known = known })))

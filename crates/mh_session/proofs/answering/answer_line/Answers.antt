@@ -1,7 +1,7 @@
 use Rattle.std.proofs.Common.{Err}
 use Rattle.mh_msgfile.specs.Sentences.{vocabulary_in}
 use Rattle.mh_session_branches.specs.LineForms.{Asks}
-use Rattle.mh_session.proofs.IsCommandOf.{command_known}
+use Rattle.mh_session_branches.proofs.IsCommandOf.{command_known}
 use Rattle.mh_session.proofs.IsLineAnswered.{line_answered, refusal_answered, reads_of, says_of}
 use Rattle.mh_session.proofs.answering.answer_line.Goals as goal
 

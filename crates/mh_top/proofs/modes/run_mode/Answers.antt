@@ -2,7 +2,7 @@ use Rattle.std.proofs.Common.{[], arith, refl, rules, subst, sym, ap, ap₂, ◌
 use Rattle.std.specs.List.{All}
 use Rattle.mh_opts.specs.declared.jobs.Job.{Job}
 use Rattle.mh_opts.specs.declared.jobs.Job.TheVariants.{Interpret, Session, CompileErrors, CompareErrors, EchoErrors, UpdateErrors, RebaseErrors, CheckErrors}
-use Rattle.mh_top_drive.proofs.OpenedModes.{ran_read}
+use Rattle.mh_top_drive.proofs.OpenedModes.{shelf_counts_of_mode}
 use Rattle.mh_top_plans.specs.Plan.{plan_behavior}
 use Rattle.mh_top_plans.specs.Files.{files_of_job}
 use Rattle.mh_top_plans.specs.code.Modes.{WritesFinal}
@@ -33,7 +33,7 @@ pub returns-in-InterpretError-clause-kept : goal.returns-in-InterpretError-claus
 returns-in-InterpretError-clause-kept g c = refl
 
 pub returns-in-InterpretError-clause-read : goal.returns-in-InterpretError-clause-read
-returns-in-InterpretError-clause-read g c = ran_read plan_behavior _ _ _ _ _ _ c.explain.result c.explain.ensures.ran
+returns-in-InterpretError-clause-read g c = shelf_counts_of_mode plan_behavior _ _ _ _ _ _ c.explain.result c.explain.ensures.ran
 
 pub explain-requires : goal.explain-requires
 explain-requires g c = (search rules, record { few = c.requires.fits.few; consistent = c.requires.consistent; may_read = c.requires.may_read; may_write = c.requires.may_write })
@@ -65,7 +65,7 @@ pub returns-in-ShowAutomaton-clause-kept : goal.returns-in-ShowAutomaton-clause-
 returns-in-ShowAutomaton-clause-kept g c = refl
 
 pub returns-in-ShowAutomaton-clause-read : goal.returns-in-ShowAutomaton-clause-read
-returns-in-ShowAutomaton-clause-read g c = ran_read plan_behavior _ _ _ _ _ _ c.write_at_end.result c.write_at_end.ensures.ran
+returns-in-ShowAutomaton-clause-read g c = shelf_counts_of_mode plan_behavior _ _ _ _ _ _ c.write_at_end.result c.write_at_end.ensures.ran
 
 pub returns-in-WriteTables-clause-ran : goal.returns-in-WriteTables-clause-ran
 returns-in-WriteTables-clause-ran g c = of_plan (g.F.Shelf.files c.args.shelf.now) c.args.prepared.now _ c.in-WriteTables.is _ _ _ _ c.write_at_end-in-WriteTables.result _ refl c.write_at_end-in-WriteTables.ensures.ran
@@ -77,7 +77,7 @@ pub returns-in-WriteTables-clause-kept : goal.returns-in-WriteTables-clause-kept
 returns-in-WriteTables-clause-kept g c = refl
 
 pub returns-in-WriteTables-clause-read : goal.returns-in-WriteTables-clause-read
-returns-in-WriteTables-clause-read g c = ran_read plan_behavior _ _ _ _ _ _ c.write_at_end-in-WriteTables.result c.write_at_end-in-WriteTables.ensures.ran
+returns-in-WriteTables-clause-read g c = shelf_counts_of_mode plan_behavior _ _ _ _ _ _ c.write_at_end-in-WriteTables.result c.write_at_end-in-WriteTables.ensures.ran
 
 pub returns-in-ListErrors-clause-ran : goal.returns-in-ListErrors-clause-ran
 returns-in-ListErrors-clause-ran g c = of_plan (g.F.Shelf.files c.args.shelf.now) c.args.prepared.now _ c.in-ListErrors.is _ _ _ _ c.write_at_end-in-ListErrors.result _ refl c.write_at_end-in-ListErrors.ensures.ran
@@ -89,7 +89,7 @@ pub returns-in-ListErrors-clause-kept : goal.returns-in-ListErrors-clause-kept
 returns-in-ListErrors-clause-kept g c = refl
 
 pub returns-in-ListErrors-clause-read : goal.returns-in-ListErrors-clause-read
-returns-in-ListErrors-clause-read g c = ran_read plan_behavior _ _ _ _ _ _ c.write_at_end-in-ListErrors.result c.write_at_end-in-ListErrors.ensures.ran
+returns-in-ListErrors-clause-read g c = shelf_counts_of_mode plan_behavior _ _ _ _ _ _ c.write_at_end-in-ListErrors.result c.write_at_end-in-ListErrors.ensures.ran
 
 pub returns-in-Sample-clause-ran : goal.returns-in-Sample-clause-ran
 returns-in-Sample-clause-ran g c = of_plan (g.F.Shelf.files c.args.shelf.now) c.args.prepared.now _ c.in-Sample.is _ _ _ _ c.write_at_end-in-Sample.result _ refl c.write_at_end-in-Sample.ensures.ran
@@ -101,7 +101,7 @@ pub returns-in-Sample-clause-kept : goal.returns-in-Sample-clause-kept
 returns-in-Sample-clause-kept g c = refl
 
 pub returns-in-Sample-clause-read : goal.returns-in-Sample-clause-read
-returns-in-Sample-clause-read g c = ran_read plan_behavior _ _ _ _ _ _ c.write_at_end-in-Sample.result c.write_at_end-in-Sample.ensures.ran
+returns-in-Sample-clause-read g c = shelf_counts_of_mode plan_behavior _ _ _ _ _ _ c.write_at_end-in-Sample.result c.write_at_end-in-Sample.ensures.ran
 
 pub returns-in-ShortestSentences-clause-ran : goal.returns-in-ShortestSentences-clause-ran
 returns-in-ShortestSentences-clause-ran g c = of_plan (g.F.Shelf.files c.args.shelf.now) c.args.prepared.now _ c.in-ShortestSentences.is _ _ _ _ c.write_at_end-in-ShortestSentences.result _ refl c.write_at_end-in-ShortestSentences.ensures.ran
@@ -113,7 +113,7 @@ pub returns-in-ShortestSentences-clause-kept : goal.returns-in-ShortestSentences
 returns-in-ShortestSentences-clause-kept g c = refl
 
 pub returns-in-ShortestSentences-clause-read : goal.returns-in-ShortestSentences-clause-read
-returns-in-ShortestSentences-clause-read g c = ran_read plan_behavior _ _ _ _ _ _ c.write_at_end-in-ShortestSentences.result c.write_at_end-in-ShortestSentences.ensures.ran
+returns-in-ShortestSentences-clause-read g c = shelf_counts_of_mode plan_behavior _ _ _ _ _ _ c.write_at_end-in-ShortestSentences.result c.write_at_end-in-ShortestSentences.ensures.ran
 
 pub returns-in-RandomSentence-clause-ran : goal.returns-in-RandomSentence-clause-ran
 returns-in-RandomSentence-clause-ran g c = of_plan (g.F.Shelf.files c.args.shelf.now) c.args.prepared.now _ c.in-RandomSentence.is _ _ _ _ c.write_at_end-in-RandomSentence.result _ refl c.write_at_end-in-RandomSentence.ensures.ran
@@ -125,7 +125,7 @@ pub returns-in-RandomSentence-clause-kept : goal.returns-in-RandomSentence-claus
 returns-in-RandomSentence-clause-kept g c = refl
 
 pub returns-in-RandomSentence-clause-read : goal.returns-in-RandomSentence-clause-read
-returns-in-RandomSentence-clause-read g c = ran_read plan_behavior _ _ _ _ _ _ c.write_at_end-in-RandomSentence.result c.write_at_end-in-RandomSentence.ensures.ran
+returns-in-RandomSentence-clause-read g c = shelf_counts_of_mode plan_behavior _ _ _ _ _ _ c.write_at_end-in-RandomSentence.result c.write_at_end-in-RandomSentence.ensures.ran
 
 pub returns-in-Explain-clause-ran : goal.returns-in-Explain-clause-ran
 returns-in-Explain-clause-ran g c = of_plan (g.F.Shelf.files c.args.shelf.now) c.args.prepared.now _ c.in-Explain.is _ _ _ _ c.write_at_end-in-Explain.result _ refl c.write_at_end-in-Explain.ensures.ran
@@ -137,7 +137,7 @@ pub returns-in-Explain-clause-kept : goal.returns-in-Explain-clause-kept
 returns-in-Explain-clause-kept g c = refl
 
 pub returns-in-Explain-clause-read : goal.returns-in-Explain-clause-read
-returns-in-Explain-clause-read g c = ran_read plan_behavior _ _ _ _ _ _ c.write_at_end-in-Explain.result c.write_at_end-in-Explain.ensures.ran
+returns-in-Explain-clause-read g c = shelf_counts_of_mode plan_behavior _ _ _ _ _ _ c.write_at_end-in-Explain.result c.write_at_end-in-Explain.ensures.ran
 
 -- ---- Modes that write a text made from messages files.
 
@@ -269,10 +269,10 @@ pub rebase_errors-requires : goal.rebase_errors-requires
 rebase_errors-requires g c =
     let is = c.in-RebaseErrors.is ∙ ap RebaseErrors (sym c.as_slice-in-RebaseErrors.ensures) in
     let asked = subst (λ (job : Job). All (g.F.Shelf.MayAsk c.args.shelf.now) (files_of_job job c.args.prepared.now.order)) is c.requires.asked in
-    (search rules, (c.requires.fits.few, (c.requires.consistent, (asked 0 [] (omega arith), (c.requires.may_read, c.requires.may_write)))))
+    (search rules, record { few = c.requires.fits.few; consistent = c.requires.consistent; asked = asked 0 [] (omega arith); may_read = c.requires.may_read; may_write = c.requires.may_write })
 
 pub check_errors-requires : goal.check_errors-requires
 check_errors-requires g c =
     let is = c.in-CheckErrors.is ∙ ap CheckErrors (sym c.as_slice-in-CheckErrors.ensures) in
     let asked = subst (λ (job : Job). All (g.F.Shelf.MayAsk c.args.shelf.now) (files_of_job job c.args.prepared.now.order)) is c.requires.asked in
-    (search rules, (c.requires.fits.few, (c.requires.consistent, (asked 0 [] (omega arith), (c.requires.may_read, c.requires.may_write)))))
+    (search rules, record { few = c.requires.fits.few; consistent = c.requires.consistent; asked = asked 0 [] (omega arith); may_read = c.requires.may_read; may_write = c.requires.may_write })

@@ -2,7 +2,7 @@ use Rattle.std.proofs.Common.{List, ℕ, map}
 use Rattle.std.specs.String.{string_bytes}
 use Rattle.std.specs.declared.alloc.Global.{Global}
 use Rattle.mh_top_claims.proofs.CheckedErrors.{checks_exactly}
-use Rattle.mh_top_claims.proofs.Claims.{keeps}
+use Rattle.mh_top_claims.proofs.Claims.{meets_claims}
 use Rattle.mh_top_claims.proofs.ConflictExplanations.{explains_exactly}
 use Rattle.mh_top_claims.proofs.ErrorLists.{lists_exactly}
 use Rattle.mh_top_claims.proofs.Headline.{lists_errors, takes_sound_files, gives_messages}
@@ -16,7 +16,7 @@ returns g c =
     let ran = c.run.ensures.ran in
     record {
       ran = ran;
-      kept = keeps words _ _ _ ran;
+      kept = meets_claims words _ _ _ ran;
       errors = lists_errors words _ _ _ ran;
       takes = takes_sound_files words _ _ _ ran;
       messages = gives_messages words _ _ _ ran;

@@ -2,7 +2,7 @@ use Rattle.std.proofs.Common.{◌≡◌, ℕ, Err, None, Option, Result, inl, re
 use Rattle.mh_grammar.specs.Text.{Text}
 use Rattle.mh_msgfile.specs.declared.blocks.LooseBlocks.{LooseBlocks}
 use Rattle.mh_outside.specs.Shelf.{Files}
-use Rattle.mh_top_drive.proofs.OpenedModes.{ran_read}
+use Rattle.mh_top_drive.proofs.OpenedModes.{shelf_counts_of_mode}
 use Rattle.mh_top_drive.specs.FileContents.{IsFileContent}
 use Rattle.mh_top_drive.specs.StageResults.{Go}
 use Rattle.mh_top_drive.specs.code.ModeCalls.{ModeShelfCounts}
@@ -34,7 +34,7 @@ returns-in-Ok-clause-ran g c = inl (Ends (Checked c.args.name.now c.in-Ok.blocks
 
 pub returns-in-Ok-clause-read : goal.returns-in-Ok-clause-read
 returns-in-Ok-clause-read g c =
-    subst (λ (k : ℕ). ModeShelfCounts (g.F.Shelf.faults c.args.shelf.now) k c.write_at_end.result) (sym c.in-Ok.ensures.counts) (ran_read plan_behavior _ _ _ _ _ _ c.write_at_end.result c.write_at_end.ensures.ran)
+    subst (λ (k : ℕ). ModeShelfCounts (g.F.Shelf.faults c.args.shelf.now) k c.write_at_end.result) (sym c.in-Ok.ensures.counts) (shelf_counts_of_mode plan_behavior _ _ _ _ _ _ c.write_at_end.result c.write_at_end.ensures.ran)
 
 pub returns-in-Err-clause-ran : goal.returns-in-Err-clause-ran
 returns-in-Err-clause-ran g c =

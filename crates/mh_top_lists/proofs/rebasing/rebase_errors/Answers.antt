@@ -2,7 +2,7 @@ use Rattle.std.proofs.Common.{◌≡◌, ℕ, Err, None, Option, Result, inl, re
 use Rattle.mh_grammar.specs.Text.{Text}
 use Rattle.mh_msgfile.specs.declared.loose.LooseFile.{LooseFile}
 use Rattle.mh_outside.specs.Shelf.{Files}
-use Rattle.mh_top_drive.proofs.OpenedModes.{ran_read}
+use Rattle.mh_top_drive.proofs.OpenedModes.{shelf_counts_of_mode}
 use Rattle.mh_top_drive.specs.FileContents.{IsFileContent}
 use Rattle.mh_top_drive.specs.StageResults.{Go}
 use Rattle.mh_top_drive.specs.code.ModeCalls.{ModeShelfCounts}
@@ -33,7 +33,7 @@ returns-in-Ok-clause-ran g c = inl (Ends (Rebased c.in-Ok.file c.args.prepared.n
 
 pub returns-in-Ok-clause-read : goal.returns-in-Ok-clause-read
 returns-in-Ok-clause-read g c =
-    subst (λ (k : ℕ). ModeShelfCounts (g.F.Shelf.faults c.args.shelf.now) k c.write_at_end.result) (sym c.in-Ok.ensures.counts) (ran_read plan_behavior _ _ _ _ _ _ c.write_at_end.result c.write_at_end.ensures.ran)
+    subst (λ (k : ℕ). ModeShelfCounts (g.F.Shelf.faults c.args.shelf.now) k c.write_at_end.result) (sym c.in-Ok.ensures.counts) (shelf_counts_of_mode plan_behavior _ _ _ _ _ _ c.write_at_end.result c.write_at_end.ensures.ran)
 
 pub returns-in-Err-clause-ran : goal.returns-in-Err-clause-ran
 returns-in-Err-clause-ran g c =

@@ -1,17 +1,9 @@
+use Rattle.std.proofs.Common.{rules, tests}
+use Rattle.std.proofs.lemmas.Iterator.{YieldsList-from_slice, YieldsList-from_zip, same_from_all}
+use Rattle.std.proofs.lemmas.List.{length-map}
 use Rattle.mh_tabfile_form.specs.TableContent.{raw_production}
-use Rattle.mh_validate_valid.proofs.ComparedMap.{mapped_all, mapped_next, mapped_differs}
+use Rattle.mh_validate_valid.proofs.YieldsList.{YieldsList-values}
 use Rattle.mh_validate_valid.proofs.header.are_productions.Goals as goal
 
-pub returns-then-not-is_production : goal.returns-then-not-is_production
-returns-then-not-is_production c = mapped_differs (raw_production c.args.grammar.now) c.args.raws.now c.args.productions.now c.loop-at.at c.index-raws-at.result c.index-productions-at.result c.index-productions-at.result c.loop-at-test.true c.loop-at.invariant.same c.index-raws-at.is c.index-productions-at.is c.loop-at.invariant.rest
-    c.is_production.result c.is_production.ensures c.if-not-is_production.true
-
-pub loop-at-preserved : goal.loop-at-preserved
-loop-at-preserved c = record {
-  same = c.loop-at.invariant.same;
-  rest = mapped_next (raw_production c.args.grammar.now) c.args.raws.now c.args.productions.now c.loop-at.at c.index-raws-at.result c.index-productions-at.result c.index-productions-at.result c.loop-at-test.true c.loop-at.invariant.same c.index-raws-at.is c.index-productions-at.is c.loop-at.invariant.rest
-      c.is_production.result c.is_production.ensures c.if-not-is_production.false;
-}
-
-pub returns : goal.returns
-returns c = mapped_all (raw_production c.args.grammar.now) c.args.raws.now c.args.productions.now c.loop-at.at c.loop-at-test.false c.loop-at.invariant.same c.loop-at.invariant.rest
+pub returns-then-raws-productions : goal.returns-then-raws-productions
+returns-then-raws-productions c = same_from_all c.all.new.self _ _ _ _ c.all.ensures.ran (YieldsList-from_zip (YieldsList-from_slice c.args.raws.now cc) (YieldsList-values (raw_production c.args.grammar.now) (YieldsList-from_slice c.args.productions.now cc))) (search (rules, length-map)) (λ x q k. search (rules, tests)) (λ x q k. search (rules, tests))

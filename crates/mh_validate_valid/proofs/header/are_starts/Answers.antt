@@ -1,18 +1,9 @@
-use Rattle.std.proofs.Common.{get_or, refl}
+use Rattle.std.proofs.Common.{rules, tests}
+use Rattle.std.proofs.lemmas.Iterator.{YieldsList-from_slice, YieldsList-from_zip, same_from_all}
+use Rattle.std.proofs.lemmas.List.{length-map}
 use Rattle.mh_grammar.specs.Names.{nonterminal_name}
-use Rattle.mh_validate_valid.proofs.ComparedMap.{mapped_all, mapped_next, mapped_differs}
+use Rattle.mh_validate_valid.proofs.YieldsList.{YieldsList-values}
 use Rattle.mh_validate_valid.proofs.header.are_starts.Goals as goal
 
-pub returns-then-not-is_named : goal.returns-then-not-is_named
-returns-then-not-is_named c = mapped_differs (nonterminal_name c.args.grammar.now) c.args.names.now c.args.starts.now c.loop-at.at c.index-names-at.result (get_or c.args.starts.now c.loop-at.at 0) 0 c.loop-at-test.true c.loop-at.invariant.same c.index-names-at.is refl c.loop-at.invariant.rest
-    c.is_named.result (rw c.nonterminal_name.ensures at c.is_named.ensures) c.if-not-is_named.true
-
-pub loop-at-preserved : goal.loop-at-preserved
-loop-at-preserved c = record {
-  same = c.loop-at.invariant.same;
-  rest = mapped_next (nonterminal_name c.args.grammar.now) c.args.names.now c.args.starts.now c.loop-at.at c.index-names-at.result (get_or c.args.starts.now c.loop-at.at 0) 0 c.loop-at-test.true c.loop-at.invariant.same c.index-names-at.is refl c.loop-at.invariant.rest
-      c.is_named.result (rw c.nonterminal_name.ensures at c.is_named.ensures) c.if-not-is_named.false;
-}
-
-pub returns : goal.returns
-returns c = mapped_all (nonterminal_name c.args.grammar.now) c.args.names.now c.args.starts.now c.loop-at.at c.loop-at-test.false c.loop-at.invariant.same c.loop-at.invariant.rest
+pub returns-then-names-starts : goal.returns-then-names-starts
+returns-then-names-starts c = same_from_all c.all.new.self _ _ _ _ c.all.ensures.ran (YieldsList-from_zip (YieldsList-from_slice c.args.names.now cc) (YieldsList-values (nonterminal_name c.args.grammar.now) (YieldsList-from_slice c.args.starts.now cc))) (search (rules, length-map)) (λ x q k. search (rules, tests)) (λ x q k. search (rules, tests))

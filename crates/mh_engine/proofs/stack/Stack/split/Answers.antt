@@ -7,7 +7,7 @@ use Rattle.mh_engine.proofs.StackSplit.{SplitInvariant-start, SplitInvariant-ste
 use Rattle.mh_engine.proofs.stack.Stack.split.Goals as goal
 
 pub loop-init : goal.loop-init
-loop-init c = SplitInvariant-start c.args.self.now _ c.new-trees.ensures.items
+loop-init c = SplitInvariant-start c.args.self.now _ c.in_ok-trees.ensures.items
 
 pub unreachable-requires : goal.unreachable-requires
 unreachable-requires c =

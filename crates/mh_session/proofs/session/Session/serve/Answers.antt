@@ -1,3 +1,6 @@
+use Rattle.std.proofs.Common.{ℕ, List, subst}
+use Rattle.mh_session_branches.specs.declared.command.Command.TheVariants as commands
+use Rattle.mh_session.specs.Served.{IsServed}
 use Rattle.mh_session.proofs.session.Session.serve.Goals as goal
 
 pub returns-in-Begin : goal.returns-in-Begin
@@ -23,3 +26,9 @@ returns-in-Forget c = rw c.in-Forget.is c.forget.ensures
 
 pub returns-in-Expected : goal.returns-in-Expected
 returns-in-Expected c = rw c.in-Expected.is c.expected.ensures
+
+pub returns-in-Feed : goal.returns-in-Feed
+returns-in-Feed c = rw c.in-Feed.is (subst (λ (l : List ℕ). IsServed c.args.self.now (commands.Feed c.in-Feed.name l) c.feed.new.self c.feed.result) c.as_slice.ensures c.feed.ensures)
+
+pub returns-in-Stack : goal.returns-in-Stack
+returns-in-Stack c = rw c.in-Stack.is c.stack.ensures

@@ -1,6 +1,0 @@
-use Rattle.std.proofs.Common.{take}
-use Rattle.mh_explain.specs.code.ChosenItems.{AreChosen, IsBeforeLook}
-use Rattle.mh_explain.proofs.actions.items_before.Given as goal
-
-abbrev pub invariant-loop-item : goal.invariant-loop-item
-invariant-loop-item g l = AreChosen (IsBeforeLook l.grammar l.look) (take l.item-index l.items) l.places.items

@@ -1,5 +1,0 @@
-use Rattle.mh_lex.proofs.LexesUnique.{LexesFrom-unique}
-use Rattle.mh_lex.proofs.laws.lexed_once.Goals as goal
-
-pub returns : goal.returns
-returns c = λ bytes one two f g a b. LexesFrom-unique a b

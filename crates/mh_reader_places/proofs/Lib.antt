@@ -1,0 +1,4 @@
+pub mod ScanSteps
+pub mod Walks
+pub mod MentionsFrom
+pub mod ReportsPlace

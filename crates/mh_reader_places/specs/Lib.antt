@@ -1,0 +1,3 @@
+pub mod Mentions
+pub mod Places
+pub mod code
