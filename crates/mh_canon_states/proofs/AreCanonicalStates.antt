@@ -73,7 +73,7 @@ AreStateEdges-push g closed symbols old mid new row X k n e m p = record {
   placed = rw (map-append (λ (f : Edge). f.target) row (record { symbol = X; target = n } ∷ [])) (AllPlaced-push old mid new e.moves (targets_of row) k n e.placed p);
 }
 
--- For each state, a path that leads to it.
+-- For each state this list has a path that leads to the state.
 paths_to : (g : PlainGrammar) (kernels : List Kernel) → AllByRecursion (IsCanonicalState g) kernels → List StartPath
 paths_to g [] s = []
 paths_to g (k ∷ kernels) s = record { start = s.0.reach.start; path = s.0.reach.path } ∷ paths_to g kernels s.1

@@ -88,7 +88,7 @@ module _ (g : PlainGrammar) (a : Automaton) (h : IsCanonical g a) where
   abbrev IsLed : StartPath → Kernel → Type 0
   IsLed w k = Contains a.kernels k × AreSameItems (Holds k) (items_of_path g w)
 
-  -- The states that the paths lead to.
+  -- Each of the paths leads to a state.
   led : (paths : List StartPath) → AllByRecursion (ReachesItems g) paths → (ks : List Kernel) × AllZip IsLed paths ks
   led [] w = ([], tt)
   led (v ∷ paths) w =

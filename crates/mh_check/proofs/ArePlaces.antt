@@ -214,6 +214,6 @@ module _ (t : TableData) (x : MsgSentence) (ts : List ℕ) (same : ts ≡ x.toke
   overshot_by v state is verdict earlier =
       NotRefused (ending_for v) (subst (λ (u : Verdict). IsNoRefusal (ending_for u)) (sym is) (Overshoots state)) (verdict_is v v refl verdict)
 
--- The value that is read at an index of the list of places.
+-- The value that is read at an index within the list of places is the element at this index.
 pub at_place : (places : List (Option SentencePlace)) (s : ℕ) (o r : Option SentencePlace) → r ≡ get_or places s r → s < length places → r ≡ o → slice_get places s ≡ Some o
 at_place places s o r is lt same = slice_get-get_or places s r lt ∙ ap Some (sym is ∙ same)

@@ -116,7 +116,7 @@ IsBeforeToken-start t start w c e = subst (IsBeforeToken t start w 0) (sym e) (r
 pub IsBeforeToken-settled : (t : TableData) (start : ℕ) (w : List ℕ) (i : ℕ) (c d : Position) → IsBeforeToken t start w i c → SettlesTo c d → IsBeforeToken t start w i d
 IsBeforeToken-settled t start w i c d r s = record { steps = r.steps + s.steps; leads = StepsLeadTo-append r.steps s.steps (initial_position t start (take i w)) c d r.leads s.leads; empty = s.left ∙ r.empty; not_refused = s.not_refused r.not_refused; within = r.within }
 
--- An offer of the next token of the sentence.
+-- Offering the token with index i, in a position before this token, leads to a position in which the token is offered.
 pub IsTokenOffered-offered : (t : TableData) (start : ℕ) (w : List ℕ) (i z k : ℕ) (c d : Position) → IsBeforeToken t start w i c → i < length w → z ≡ get_or w i k → d ≡ offered c z → IsTokenOffered t start w i z d
 IsTokenOffered-offered t start w i z k c d r lt is e =
     let front : take i w ++ z ∷ [] ≡ take (i + 1) w = ap (λ (x : ℕ). take i w ++ x ∷ []) is ∙ sym (take_more w i k lt) in

@@ -24,7 +24,7 @@ module _ (t : TableData) (states : List ℕ) (place : ℕ) (lt : place < length 
   at : place - 1 + 1 ≡ place
   at = omega arith
 
-  -- The state at the index, as the target of the edge below.
+  -- The state at the index is the target of the edge below the index.
   to_state : (state : ℕ) → state ≡ get_or states place 0 → get_or states (place - 1 + 1) 0 ≡ state
   to_state state here = ap (λ (k : ℕ). get_or states k 0) at ∙ sym here
 

@@ -90,7 +90,7 @@ walks_front zero n c le h = tt
 walks_front (suc m) zero c le h = absurd (omega arith)
 walks_front (suc m) (suc n) c le h = (h.0, walks_front m n (resumed c) (omega arith) h.1)
 
--- The position of a branch.
+-- The position that is computed for a branch is the position that the branch has.
 pub branch_position : (t : TableData) (b : Branch) (c : Position) → c.table ≡ t → HasPosition b c → position_of t b ≡ c
 branch_position t b c e h = ap (λ (u : TableData). position_of u b) (sym e) ∙ sym h.position
 
@@ -112,7 +112,7 @@ module _ (t : TableData) (waiting : List ℕ) where
       let rest = walk_moves n (with_step b) (resumed c) (resumed_table c ∙ e) (HasPosition-step b c h (can_move (phase_of c) w.0)) w.1 in
       (rest.0, ap (after_moves t n) moves ∙ rest.1, rest.2, rest.3)
 
-  -- The position of the branch after m of these steps.
+  -- The branch after m of these steps has the position after m steps.
   pub walk_position : (n m : ℕ) (b : Branch) (c : Position) → c.table ≡ t → HasPosition b c → Walks n c → m ≤ n → position_of t (after_moves t m (feeding_of b waiting)).branch ≡ after_steps m c
   walk_position n m b c e h w le =
       let there = walk_moves m b c e h (walks_front m n c le w) in

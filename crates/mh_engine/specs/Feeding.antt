@@ -21,8 +21,8 @@ abbrev pub with_offer : Branch → List ℕ → Feeding
 with_offer b [] = feeding_of b []
 with_offer b (z ∷ waiting) = feeding_of (with_token b z) waiting
 
--- The feeding after the next move, for a branch in this phase: an offer, if the run asks for a token; a step, if the run
--- shifts or reduces. A refusal and the end of the run leave the feeding as it is.
+-- The feeding after the next move, for a branch in this phase: an offer, if the run asks for a token; a step, if the
+-- run shifts or reduces. A refusal and the end of the run leave the feeding as it is.
 abbrev pub moved_in : Phase → Feeding → Feeding
 moved_in (phases.InputNeeded s) f = with_offer f.branch f.waiting
 moved_in (phases.Shifting s z) f = feeding_of (with_step f.branch) f.waiting

@@ -92,7 +92,8 @@ AreRanks-grows ds ts us rank distinct g w = record {
         omega (arith, one, slice_get_within ts was.0 t was.1))
     new n t l e (Some r) f = absurd (omega (arith, w.below n r f))
 
--- The ranks after one more actual of the last declaration.
+-- If the rank of one more actual of the last declaration is added, the ranks are those of the declarations with this
+-- actual.
 pub AreRanks-add : (ds : List (List Applied)) (part : List Applied) (a : Applied) (ts : List Term) (old new : ℕ → Option ℕ) (number : ℕ) → AreDistinct ts → slice_get ts number ≡ Some (term_of a) → AreRanks (ds ++ part ∷ []) ts old → AddsRank old new number (length ds) → AreRanks (ds ++ (part ++ a ∷ []) ∷ []) ts new
 AreRanks-add ds part a ts old new number distinct here w add = record {
   each = λ n t e. elim (cases_eq n number) [

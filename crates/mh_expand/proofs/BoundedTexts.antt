@@ -45,7 +45,7 @@ separator_at h ts zero args l p = absurd (omega arith)
 separator_at h ts (suc i) [] l p = absurd (omega arith)
 separator_at h ts (suc i) (n ∷ args) l p = applied_separator (Atom h) (term_at ts n) (terms_at ts (take i args))
 
--- The invariant after one more argument.
+-- The invariant still holds after one more argument is written.
 pub IsWriting-arg : (j : Joined) (room : ℕ) (start now mid next : List ℕ) (h : Head) (ts : List Term) (args : List ℕ) (i : ℕ) (sep : List ℕ) → i < length args → ((i ≡ 0) × (sep ≡ 40 ∷ [])) ⊎ ((0 < i) × (sep ≡ 44 ∷ [])) → IsWriting j room start now (apply_all (Atom h) (terms_at ts (take i args))) → mid ≡ take room (now ++ sep) → next ≡ take room (mid ++ text j (term_at ts (get_or args i 0))) → IsWriting j room start next (apply_all (Atom h) (terms_at ts (take (i + 1) args)))
 IsWriting-arg j room start now mid next h ts args i sep l s w e g =
     let arg = get_or args i 0 in
@@ -63,7 +63,7 @@ last_applied : (f x : Term) (xs : List Term) → (g : Term) × (y : Term) × (ap
 last_applied f x [] = (f, x, refl)
 last_applied f x (y ∷ xs) = last_applied (Apply f x) y xs
 
--- The invariant after the closing parenthesis.
+-- After the closing parenthesis the text of the whole term is written.
 pub IsWriting-end : (j : Joined) (room : ℕ) (start now next : List ℕ) (h : Head) (ts : List Term) (args : List ℕ) (i number : ℕ) → (args ≡ [] → ⊥) → length args ≤ i → slice_get ts number ≡ Some (apply_all (Atom h) (terms_at ts args)) → IsWriting j room start now (apply_all (Atom h) (terms_at ts (take i args))) → next ≡ take room (now ++ 41 ∷ []) → next ≡ take room (start ++ text j (term_at ts number))
 IsWriting-end j room start now next h ts [] i number some l at w e = absurd (some refl)
 IsWriting-end j room start now next h ts (n ∷ args) i number some l at w e =

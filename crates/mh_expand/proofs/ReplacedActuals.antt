@@ -49,7 +49,7 @@ IsReplacing-start ts fs n a w = record {
       ap (λ t. apply_all t (map (replaced_term_of fs) (out-Applied a).args)) w.term_is ∙ ap (apply_all (replaced_head fs (out-Applied a).head)) (sym (map_map (replaced fs) term_of (out-Applied a).args)) ∙ sym whole;
 }
 
--- The invariant after one more actual.
+-- The invariant still holds after the formals of one more actual are replaced.
 pub IsReplacing-step : (old mid new fs : List Term) (n : Application) (a : Applied) (rest : List Applied) (t : Term) (number : ℕ) → IsReplacing old mid fs n (a ∷ rest) t → IsExtendedBy mid new → slice_get new number ≡ Some (replaced_term_of fs a) → IsReplacing old new fs (record { head = n.head; args = n.args ++ number ∷ [] }) rest t
 IsReplacing-step old mid new fs n a rest t number w g e = record {
   grows = IsExtendedBy-trans old mid new w.grows g;
@@ -64,6 +64,6 @@ IsReplacing-step old mid new fs n a rest t number w g e = record {
       ap (λ f. apply_all f (map (replaced_term_of fs) rest)) push ∙ w.term_is;
 }
 
--- The invariant at the end, when all actuals are replaced.
+-- When all actuals are replaced and the term is placed, the term list only grew, and the term has the number.
 pub IsReplacing-done : (old mid new fs : List Term) (n : Application) (t : Term) (number : ℕ) → IsReplacing old mid fs n [] t → Placed mid new (node_term mid n) number → IsExtendedBy old new × (slice_get new number ≡ Some t)
 IsReplacing-done old mid new fs n t number w p = (IsExtendedBy-trans old mid new w.grows (IsExtendedBy-placed mid new (node_term mid n) number p), p.at ∙ ap Some w.term_is)

@@ -1,4 +1,5 @@
--- Proves that, if a checkpoint asks for a token, the run on the tokens of its branch asks for a token on the same stack.
+-- Proves that, if a checkpoint asks for a token, the run on the tokens of its branch asks for a token on the same
+-- stack.
 use Rattle.std.proofs.Common.{◌≡◌, ℕ, List, [], ◌∷◌, Bool, true, false, refl, ap, sym, subst, ◌∙◌}
 use Rattle.mh_tables_core.specs.Table.{TableData}
 use Rattle.mh_tables_core.specs.Run.{Config, RunMove, Accepts, Asks, Refuses, Shifts, Reduces, initial, run_move_of, top_of, after}

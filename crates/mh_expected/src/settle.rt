@@ -23,8 +23,8 @@ fn reduce(table: &Table, stack: &mut Overlay<'_>, production: u32) -> Result<(),
     }
 }
 
-/// Makes the reductions before the next token, and returns the choice after them. `look` is the next token; at the end of
-/// the sentence there is none.
+/// Makes the reductions before the next token, and returns the choice after them. `look` is the next token; at the end
+/// of the sentence there is none.
 pub(crate) fn settle(
     table: &Halting,
     stack: &mut Overlay<'_>,

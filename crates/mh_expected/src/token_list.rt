@@ -28,7 +28,8 @@ impl TokenList {
         }
     }
 
-    /// The token at an index, counted from 0, or `None` exactly if the index is past the end of the list. Takes no memory.
+    /// The token at an index, counted from 0, or `None` exactly if the index is past the end of the list. Takes no
+    /// memory.
     pub fn get(&self, place: u32) -> Option<Token>
         ensures { result ≡ slice_get self.now place }
     {

@@ -22,7 +22,8 @@ module _ {K V : Type 0} {same : K → K → Bool} (keys : AreKeys same) where
   pub put_other : (f : K → V) (k : K) (v : V) (other : K) → (other ≡ k → ⊥) → cond (same other k) v (f other) ≡ f other
   put_other f k v other apart = elim (put_cases f k v other) [ inl here ↦ absurd (apart here.0) | inr is ↦ is ]
 
-  -- The value of a key after an entry is appended, if the list had no value for the key.
+  -- If the list had no value for a key, then, after an entry is appended, the key has the value of the entry if the
+  -- keys are the same, and else none.
   pub at_push : (a : List (K × V)) (k q : K) (v : V) → lookup (same q) a ≡ None → lookup (same q) (a ++ (k, v) ∷ []) ≡ cond (same q k) (Some v) None
   at_push [] k q v e = refl
   at_push (x ∷ a) k q v e = by (same q x.0) e (at_push a k q v)
@@ -39,7 +40,7 @@ module _ {K V : Type 0} {same : K → K → Bool} (keys : AreKeys same) where
       by true e go = e
       by false e go = go e
 
-  -- The value of the appended key.
+  -- A key that is appended has the appended value, if the list had no value for the key.
   pub at_last : (a : List (K × V)) (k : K) (v : V) → lookup (same k) a ≡ None → lookup (same k) (a ++ (k, v) ∷ []) ≡ Some v
   at_last a k v fresh = at_push a k k v fresh ∙ rw (keys.agree k) refl
 

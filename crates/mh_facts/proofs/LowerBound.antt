@@ -108,8 +108,8 @@ module _ (t : TableData) (f : Facts t) (rep : ℕ → ℕ → ℕ) (cong : Congr
       let front = leading_token-append u v n in
       (rw (front, same) (rules.DerivesFact.Reduced q before.0 symbol inner.0 c.0 edge refl), rw front before.1)
 
-  -- A sound fact of a complete path gives a sound goto fact for each token after the nonterminal that is its own
-  -- representative.
+  -- A sound fact of a complete path gives a sound goto fact for each token x on which the end of the path reduces the
+  -- production, if x is its own representative in the state after the nonterminal.
   pub goto_fact_sound : (s q y n e g x : ℕ) (v : List ℕ) → SoundFact t rep (key s q (length (rhs_of t.grammar q)) y n) v → IsPathEnd t s q (length (rhs_of t.grammar q)) e → edge_of t s (N (lhs_of t.grammar q)) ≡ Some g
       → x < t.grammar.tokens → rep g x ≡ x → run_move_of t e (x ∷ []) ≡ Reduces q → rep e x ≡ n → SoundGoto t rep s (lhs_of t.grammar q) y x g v
   goto_fact_sound s q y n e g x v h end edge x_lt itself move after z lt same =

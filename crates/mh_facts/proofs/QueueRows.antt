@@ -21,7 +21,7 @@ module _ {X : Type 0} where
   row_past (r ∷ rs) zero le = absurd (omega arith)
   row_past (r ∷ rs) (suc n) le = row_past rs n (omega arith)
 
-  -- The loop that appends empty rows.
+  -- The loop that appends empty rows makes a queue in which each row is empty.
   pub empty_begin : (rs : List (Vec X)) → rs ≡ [] → (length rs ≡ 0) × ((n : ℕ) → row_of rs n ≡ [])
   empty_begin rs e = (ap length e, λ n. ap (λ (l : List (Vec X)). row_of l n) e)
 
@@ -109,7 +109,7 @@ module _ {X : Type 0} where
     only = λ n q h. elim (f.only n q h) [ inl was ↦ inl (rw (same n) at was) | inr is ↦ inr is ];
   }
 
-  -- A queue from whose empty row nothing is taken.
+  -- Nothing is taken from a queue if the row from which the loop takes is empty.
   pub takes_nothing : (rs : List (Vec X)) (k : ℕ) (d v : Vec X) → k < length rs → (get_or rs k d).items ≡ v.items ++ [] → length v.items ≡ 0 → TakesNothing rs (slice_set rs k v) k
   takes_nothing rs k d v lt items long =
       let none : v.items ≡ [] = nil_from_length v.items long in

@@ -132,7 +132,7 @@ split t f r stack s v z q (suc d) ordinary (Went {stack = old} {u = u0} {v = v0}
       word = word ∙ append_more u0 h.before h.after v0 h.word;
     }
 
--- The first token of two words in sequence.
+-- The first token of two words in sequence is that of the first word, or that of the second if the first word is empty.
 pub leading_token-append : (u v : List ℕ) (z : ℕ) → leading_token (u ++ v) z ≡ leading_token u (leading_token v z)
 leading_token-append [] v z = refl
 leading_token-append (x ∷ u) v z = refl

@@ -83,7 +83,8 @@ pub word_of_cost_zero : (t : TableData) (w : List ℕ) → cost_by (weigh t) w �
 word_of_cost_zero t [] e = refl
 word_of_cost_zero t (x ∷ w) e = absurd (let s = weigh_positive t x in omega arith)
 
--- The cost, up to the highest cost, of a word that is continued by a token or by a word.
+-- The cost, up to the highest cost, of a word that is continued by a token or by a word is the sum of the costs of the
+-- parts, up to the highest cost.
 pub capped_one : (t : TableData) (f : Tabled t) (u : List ℕ) (x c : ℕ) → x < t.grammar.tokens → c ≡ cost_up_to_cap t u → min (c + cost_of_token t x) cap ≡ cost_up_to_cap t (u ++ x ∷ [])
 capped_one t f u x c lt e = rw (cost_append (weigh t) u (x ∷ []), ← (weigh_known t f x lt)) (grind (arith, common_steps, e))
 

@@ -23,7 +23,8 @@ use Rattle.mh_join.proofs.PreludeResolved.{number_known, prelude_resolved}
 use Rattle.mh_front.proofs.DefinitionsAre.{numbered, file_resolves, on_error_resolves, starts_are_defined, flat_map-insert_all_nil, flat_starts}
 use Rattle.mh_front.proofs.NamesResolve.{HaveValues, HasValue-some, HaveValues-append, HaveValues-map, HaveValues-flat_map, rules_have_values, files_have_values, on_error_has_values}
 
--- The rules of outlines from index i up, if their alternatives are resolved.
+-- The joined rules that are made from outlines (an outline is a rule without its alternatives), with the resolved
+-- alternatives from the definitions. The first outline has index n.
 record Ruled (w : Meanings) (elsewhere : ℕ → Text → Bool) (ds : List Definition) (n : ℕ) (outlines : List Outline) : Type 0 where
   made : List JoinedRule
   same : map without_alternatives made ≡ map (rule_of_outline elsewhere) outlines

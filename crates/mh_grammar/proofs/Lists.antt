@@ -81,7 +81,7 @@ module _ {X : Type 0} where
   pub at_contains : (xs : List X) (x : X) → Contains xs x → (i : ℕ) × (slice_get xs i ≡ Some x)
   at_contains xs x c = (c.0, slice_get-get_or xs c.0 x c.1 ∙ ap Some c.2)
 
-  -- The elements that a list contains, by its first element.
+  -- A list contains its first element and the elements of its rest, and no others.
   pub contains_here : (x : X) (xs : List X) → Contains (x ∷ xs) x
   contains_here x xs = (0, omega arith, refl)
 
@@ -101,7 +101,7 @@ module _ {X : Type 0} where
   pub contains_one : (x y : X) → Contains (x ∷ []) y → x ≡ y
   contains_one x y c = elim (contains_cases x [] y c) [ inl e ↦ e | inr d ↦ absurd (contains_none y d) ]
 
-  -- The elements that a list contains, by its last element.
+  -- A list contains its last element and the elements before the last, and no others.
   pub contains_last : (xs : List X) (y : X) → Contains (xs ++ y ∷ []) y
   contains_last xs y = Contains-append_right xs (y ∷ []) y (contains_here y [])
 
@@ -131,7 +131,7 @@ module _ {X : Type 0} where
   nil_parts [] ys e = (refl, e)
   nil_parts (x ∷ xs) ys e = cc
 
-  -- The two ways to split a list at an element, if the list ends with y.
+  -- A list that ends with y is split at an element in one of two ways: at y, or at an element before y.
   pub split_push : (xs : List X) (y : X) (before : List X) (x : X) (after : List X) → xs ++ y ∷ [] ≡ before ++ x ∷ after → ((xs ≡ before) × (y ≡ x)) ⊎ ((rest : List X) × (xs ≡ before ++ x ∷ rest))
   split_push [] y [] x after e = let same : y ≡ x = cc in inl (refl, same)
   split_push [] y (z ∷ []) x after e = cc
@@ -145,11 +145,11 @@ module _ {X : Type 0} where
         | inr r ↦ inr (r.0, (λ i. same i ∷ r.1 i))
       ]
 
-  -- A prefix that grows by one element.
+  -- A prefix of length i + 1 is the prefix of length i with the element of index i after it.
   pub take_step : (xs : List X) (i : ℕ) (x : X) → i < length xs → x ≡ get_or xs i x → take (i + 1) xs ≡ take i xs ++ x ∷ []
   take_step xs i x l e = take_more xs i x l ∙ ap (λ z. take i xs ++ z ∷ []) (sym e)
 
-  -- The invariant of a loop that copies a list, after one more element.
+  -- The invariant of a loop that copies a list still holds after one more element is copied.
   pub copy_step : (xs : List X) (i : ℕ) (x y : X) (old new : List X) → i < length xs → x ≡ get_or xs i x → old ≡ take i xs → y ≡ x → new ≡ old ++ y ∷ [] → new ≡ take (i + 1) xs
   copy_step xs i x y old new l at before is e = e ∙ (λ j. before j ++ is j ∷ []) ∙ sym (take_step xs i x l at)
 
@@ -168,7 +168,7 @@ module _ {X : Type 0} where
   split_at (y ∷ xs) zero x l e = λ i. sym e i ∷ xs
   split_at (y ∷ xs) (suc n) x l e = ap (λ zs. y ∷ zs) (split_at xs n x (omega arith) e)
 
-  -- The elements of a list after one of them was set.
+  -- Setting the element of index n changes this element and no other.
   pub set_here : (xs : List X) (n : ℕ) (y : X) → n < length xs → slice_get (set xs n y) n ≡ Some y
   set_here [] n y l = absurd (omega arith)
   set_here (z ∷ xs) zero y l = refl
@@ -206,7 +206,8 @@ module _ {X : Type 0} where
   pub recursion_at : (P : X → Type 0) (xs : List X) → AllByRecursion P xs → (k : ℕ) (x : X) → slice_get xs k ≡ Some x → P x
   recursion_at P xs a k x e = recursion_contains P xs a x (contains_at xs k x e)
 
-  -- `AllByRecursion` for a list, for a list with one more element, for two appended lists, and for a weaker property.
+  -- `AllByRecursion` holds for a list if each element has the property, for two lists appended if it holds for both,
+  -- and for a weaker property.
   pub recursion-from : (P : X → Type 0) (xs : List X) → ((x : X) → Contains xs x → P x) → AllByRecursion P xs
   recursion-from P [] h = tt
   recursion-from P (x ∷ xs) h = (h x (contains_here x xs), recursion-from P xs (λ z c. h z (contains_there x xs z c)))
@@ -297,7 +298,8 @@ module _ {X : Type 0} where
           ]),
         )
 
--- The elements of a mapped list, and of a concatenation of lists.
+-- The elements of a mapped list are the values of the function at the elements of the list. The elements of a
+-- concatenation of lists are those of the lists.
 pub option_map_some : {X Y : Type 0} (f : X → Y) (o : Option X) (y : Y) → option_map f o ≡ Some y → (x : X) × (o ≡ Some x) × (f x ≡ y)
 option_map_some f None y h = cc
 option_map_some f (Some x) y h = (x, refl, cc)
@@ -378,6 +380,6 @@ module _ {A B : Type 0} (R : A → B → Type 0) where
   zip_unique one (x ∷ xs) (y ∷ ys) [] p q = absurd q
   zip_unique one (x ∷ xs) (y ∷ ys) (z ∷ zs) p q = let here = one x y z p.0 q.0 in let more = zip_unique one xs ys zs p.1 q.1 in λ i. here i ∷ more i
 
--- The invariant of a loop that maps a list, after one more element.
+-- The invariant of a loop that maps a list still holds after one more element is mapped.
 pub map_step : {A B : Type 0} (f : A → B) (xs : List A) (i : ℕ) (d x : A) (old new : List B) (y : B) → i < length xs → x ≡ get_or xs i d → old ≡ map f (take i xs) → y ≡ f x → new ≡ old ++ y ∷ [] → new ≡ map f (take (i + 1) xs)
 map_step f xs i d x old new y l at before is e = e ∙ (λ j. before j ++ is j ∷ []) ∙ ap (λ z. map f (take i xs) ++ f z ∷ []) at ∙ sym (map_more f xs i d l)

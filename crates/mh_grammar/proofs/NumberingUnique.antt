@@ -82,7 +82,7 @@ take_get (suc n) [] i x e = cc
 take_get (suc n) (y ∷ xs) zero x e = e
 take_get (suc n) (y ∷ xs) (suc i) x e = take_get n xs i x e
 
--- The number that a row has for one of its items.
+-- A row has a number for each of its items, and the state with this number is the item.
 number_at : {X : Type 0} (states : List X) (row : List ℕ) (xs : List X) (j : ℕ) (y : X) → AreNumbersOf states row xs → slice_get xs j ≡ Some y → (t : ℕ) × (slice_get row j ≡ Some t) × (slice_get states t ≡ Some y)
 number_at states [] [] j y n e = cc
 number_at states [] (x ∷ xs) j y n e = absurd n

@@ -26,7 +26,7 @@ found [] q e = cc
 found (x ∷ xs) q e = find_next x q xs (eqb q x) refl e (found xs q)
 
 module _ {X : Type 0} (states : List X) where
-  -- The indices of the elements in the list.
+  -- If each element of a list is in the list of states, each has an index there.
   places : (xs : List X) → ((x : X) → Contains xs x → Contains states x) → (ps : List ℕ) × AreNumbersOf states ps xs
   places [] h = ([], tt)
   places (x ∷ xs) h =

@@ -6,7 +6,7 @@ pub lex_refl : (u : List ℕ) → LexLe u u
 lex_refl [] = tt
 lex_refl (x ∷ u) = inr (refl, lex_refl u)
 
--- One step of the order's transitivity, by the first tokens of the three words.
+-- The order is transitive on three words if it is transitive on the words without their first tokens.
 pub lower_or_same : {P Q R : Type 0} (x y z : ℕ) → (P → Q → R) → (x < y) ⊎ ((x ≡ y) × P) → (y < z) ⊎ ((y ≡ z) × Q) → (x < z) ⊎ ((x ≡ z) × R)
 lower_or_same x y z on (inl a) (inl b) = inl (omega arith)
 lower_or_same x y z on (inl a) (inr b) = inl (let e = b.0 in omega arith)

@@ -43,7 +43,8 @@ AddsFound-same P R a b h back over = record {
   added = λ m r. h.added m (back m r);
 }
 
--- The addition of an instance that is new.
+-- If the flag of a new instance is set and the instance is appended to the queue, the instance is added to the found
+-- ones.
 pub AddsFound-new : (old new : FoundInstances) (n : ℕ) → FlagsMatchQueue old → n < length old.flags.items → get_or old.flags.items n false ≡ false → new.flags.items ≡ set old.flags.items n true → new.queue.items ≡ old.queue.items ++ n ∷ [] → AddsFound (IsEqualTo n) old new
 AddsFound-new old new n q l unset flags queue = record {
   len = ap length flags ∙ length-set old.flags.items n true;
@@ -63,7 +64,7 @@ AddsFound-new old new n q l unset flags queue = record {
   added = λ m e. rw (queue, e) (Contains-push old.queue.items n);
 }
 
--- The addition of an instance that has been found already.
+-- An instance that has been found already is added without any change.
 pub AddsFound-there : (f : FoundInstances) (n : ℕ) → FlagsMatchQueue f → get_or f.flags.items n false ≡ true → AddsFound (IsEqualTo n) f f
 AddsFound-there f n q e = record { len = refl; sets = q; measure = refl; kept = λ i m at. at; origin = λ m c. inl c; added = λ m s. rw s (q.queued n e) }
 

@@ -40,7 +40,7 @@ module _ (is : List Instance) (known : List (List Unfolding)) where
 pub extends_kept : (is : List Instance) (X : Part) (old new : List Unfolding) → inline_number is X ≡ None → new ≡ choices old (unfolding_of_part X ∷ []) → ExtendsByProducer is X old new
 extends_kept is X old new e same = record { unfoldings = unfolding_of_part X ∷ []; unfolds = unfoldings.UnfoldsPart.kept (inline_none is X e); same = same }
 
--- The invariants after one more producer and after one more alternative.
+-- The invariants still hold after one more producer and after one more alternative.
 pub Unfolds-more : (is : List Instance) (Xs : List Part) (i : ℕ) (d : Part) (us vs : List Unfolding) → i < length Xs → Unfolds is (take i Xs) us → ExtendsByProducer is (get_or Xs i d) us vs → Unfolds is (take (i + 1) Xs) vs
 Unfolds-more is Xs i d us vs l f e = rw (take_more Xs i d l, e.same) (Unfolds-push is (take i Xs) (get_or Xs i d) us e.unfoldings f e.unfolds)
 

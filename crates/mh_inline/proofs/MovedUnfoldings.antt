@@ -58,18 +58,19 @@ module _ (is : List Instance) where
   pub one_alternative : (p : InstanceProduction) (us : List Unfolding) → Unfolds is p.rhs us → UnfoldsEach is (p ∷ []) (map (with_own_prec p.prec) us)
   one_alternative p us f = unfoldings.UnfoldsEach.alternative {p = p} {us = us} (sym (append-nil (map (with_own_prec p.prec) us))) f unfoldings.UnfoldsEach.no_alternative
 
-  -- The unfoldings of a list of producers from those of the producers up to index j and those of the rest.
+  -- The unfoldings of a list of producers are made from those of the producers up to index j and those of the rest.
   pub side_done : (Xs : List Part) (j n : ℕ) (us vs : List Unfolding) → slice_get Xs j ≡ Some (Applied n) → Unfolds is (take j Xs ++ Applied n ∷ []) us → Unfolds is (drop (suc j) Xs) vs → Unfolds is Xs (choices us vs)
   side_done Xs j n us vs at f g = subst (λ l. Unfolds is l (choices us vs)) (append_assoc (take j Xs) (Applied n ∷ []) (drop (suc j) Xs) ∙ sym (at_split Xs j (Applied n) at)) (Unfolds-append (take j Xs ++ Applied n ∷ []) (drop (suc j) Xs) us vs f g)
 
   pub side_ends : (Xs : List Part) (j n : ℕ) (us : List Unfolding) → slice_get Xs j ≡ Some (Applied n) → drop (suc j) Xs ≡ [] → Unfolds is (take j Xs ++ Applied n ∷ []) us → Unfolds is Xs us
   side_ends Xs j n us at none f = subst (λ l. Unfolds is l us) (sym (at_split Xs j (Applied n) at ∙ ap (λ l. take j Xs ++ Applied n ∷ l) none)) f
 
-  -- The unfoldings of a list of alternatives from those of the alternatives up to index k and those of the rest.
+  -- The unfoldings of a list of alternatives are those of the alternatives up to index k, and those of the rest.
   pub each_done : (ps : List InstanceProduction) (k : ℕ) (p : InstanceProduction) (us vs : List Unfolding) → slice_get ps k ≡ Some p → UnfoldsEach is (take (k + 1) ps) us → UnfoldsEach is (drop (suc k) ps) vs → UnfoldsEach is ps (us ++ map (with_own_prec Absent) vs)
   each_done ps k p us vs at r s = subst (λ l. UnfoldsEach is ps (us ++ l)) (own-absent vs) (subst (λ l. UnfoldsEach is l (us ++ vs)) (ap (λ l. l ++ drop (suc k) ps) (at_taken ps k p at) ∙ append_assoc (take k ps) (p ∷ []) (drop (suc k) ps) ∙ sym (at_split ps k p at)) (UnfoldsEach-append (take (k + 1) ps) (drop (suc k) ps) us vs r s))
 
-  -- The unfoldings of the alternatives up to index k from those before it and its own.
+  -- The unfoldings of the alternatives up to index k are those of the alternatives before k, and those of the
+  -- alternative k.
   pub each_then : (ps : List InstanceProduction) (k : ℕ) (p : InstanceProduction) (us vs : List Unfolding) → slice_get ps k ≡ Some p → UnfoldsEach is (take k ps) us → Unfolds is p.rhs vs → UnfoldsEach is (take (k + 1) ps) (us ++ map (with_own_prec p.prec) vs)
   each_then ps k p us vs at r f = subst (λ l. UnfoldsEach is l (us ++ map (with_own_prec p.prec) vs)) (sym (at_taken ps k p at)) (UnfoldsEach-append (take k ps) (p ∷ []) us (map (with_own_prec p.prec) vs) r (one_alternative p vs f))
 

@@ -79,7 +79,7 @@ rising_keys s o = lists.rising_keys order.cmp-value.it IsOriginBefore origin_les
 pub AreOriginsBelow-none : (is : List Instance) → AreOriginsBelow is 0 0 []
 AreOriginsBelow-none is = record { rising = tt; exact = λ s. ((λ c. absurd (contains_none s c)), (λ b. elim b.1 [ inl l ↦ absurd (omega arith) | inr r ↦ absurd (let l = r.1 in omega arith) ])) }
 
--- The origins after one more alternative of an instance.
+-- If the origin of the next alternative is inserted, the list has the origins up to this alternative, in order.
 pub AreOriginsBelow-more : (is : List Instance) (n k : ℕ) (i : Instance) (p : InstanceProduction) (old new : List Origin) (x : Origin) → slice_get is n ≡ Some i → is_inlined is n ≡ false → slice_get i.productions k ≡ Some p → x ≡ record { rank = rank_of p.file; place = p.place; instance = n; alternative = k } → IsRising IsOriginBefore new → new ≡ insert_key order.cmp-value.it old x → AreOriginsBelow is n k old → AreOriginsBelow is n (k + 1) new
 AreOriginsBelow-more is n k i p old new x at kept here is_x rising e h = record {
   rising = rising;
@@ -105,7 +105,8 @@ AreOriginsBelow-more is n k i p old new x at kept here is_x rising e h = record 
         let same_production : p ≡ q.production = same_Some _ _ (sym here ∙ there) in
         origin_same _ s (ap (λ (r : InstanceProduction). rank_of r.file) same_production ∙ sym q.rank) (ap (λ (r : InstanceProduction). r.place) same_production ∙ sym q.place) (sym e) (sym f)
 
--- The origins after all alternatives of an instance.
+-- If the list has the origins up to the last alternative of instance n, the list has those of all instances below n +
+-- 1.
 pub AreOriginsBelow-instance : (is : List Instance) (n k : ℕ) (i : Instance) (xs : List Origin) → slice_get is n ≡ Some i → length i.productions ≤ k → AreOriginsBelow is n k xs → AreOriginsBelow is (n + 1) 0 xs
 AreOriginsBelow-instance is n k i xs at all h = record {
   rising = h.rising;

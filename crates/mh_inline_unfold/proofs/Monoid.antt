@@ -76,7 +76,8 @@ pub choices_assoc : (us vs ws : List Unfolding) → choices (choices us vs) ws �
 choices_assoc [] vs ws = refl
 choices_assoc (u ∷ us) vs ws = choices-append (map (joined u) vs) (choices us vs) ws ∙ append_same _ _ _ _ (choices-map u vs ws) (choices_assoc us vs ws)
 
--- The unfoldings after one more producer, and after one more alternative.
+-- The unfoldings of a list with one more producer, or with one more alternative, are made from those of the list and
+-- those of the new element.
 pub Unfolds-push : (is : List Instance) (Xs : List Part) (X : Part) (us vs : List Unfolding) → Unfolds is Xs us → UnfoldsPart is X vs → Unfolds is (Xs ++ X ∷ []) (choices us vs)
 Unfolds-push is [] X us vs unfoldings.Unfolds.none p = unfoldings.Unfolds.more (choices-nothing_left vs ∙ sym (choices-nothing_right vs)) p unfoldings.Unfolds.none
 Unfolds-push is (Y ∷ Xs) X us vs (unfoldings.Unfolds.more {us = firsts} {vs = rests} e q f) p = unfoldings.Unfolds.more (ap (λ l. choices l vs) e ∙ choices_assoc firsts rests vs) q (Unfolds-push is Xs X rests vs f p)

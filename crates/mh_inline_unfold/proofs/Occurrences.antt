@@ -13,7 +13,7 @@ use Rattle.mh_inline_unfold.specs.code.UsedInstances.{OccursInProducers, OccursI
 use Rattle.mh_inline_unfold.proofs.InlineProducers.{inline_some, inline_none}
 
 module _ (is : List Instance) where
-  -- The inline instances of one producer.
+  -- If a producer is an inline instance, no other inline instance occurs in the producer.
   pub number_if_occurs : (X : Part) (n m : ℕ) → inline_number is X ≡ Some n → OccursInProducers is (X ∷ []) m → m ≡ n
   number_if_occurs X n m e x = first x.producer x.at
     where
@@ -31,7 +31,8 @@ module _ (is : List Instance) where
       first zero at = let kept = subst (IsKept is) (same_Some X (Applied m) at) (inline_none is X e) in false≢true (sym kept ∙ x.used)
       first (suc j) at = none-some (Applied m) at
 
-  -- The inline instances of a list of producers, extended by one producer.
+  -- The inline instances that occur in a list of producers with one more producer are those in the list and those in
+  -- the new producer.
   pub no_occurrence_in_empty_producers : (m : ℕ) → OccursInProducers is [] m → ⊥
   no_occurrence_in_empty_producers m x = none-some (Applied m) x.at
 
@@ -51,7 +52,8 @@ module _ (is : List Instance) where
       at_end zero at = get_last Xs X (length Xs) refl ∙ at
       at_end (suc j) at = absurd (none-some (Applied m) at)
 
-  -- The inline instances of a list of alternatives, extended by one alternative.
+  -- The inline instances that occur in a list of alternatives with one more alternative are those in the list and those
+  -- in the new alternative.
   pub no_occurrence_in_empty_alternatives : (m : ℕ) → OccursInAlternatives is [] m → ⊥
   no_occurrence_in_empty_alternatives m x = none-some x.production x.at
 

@@ -180,7 +180,7 @@ module _ {W : ℕ} (g : PlainGrammar) (f : Firsts W) (old s mid new : PendingLoo
         let less = a.less in
         omega arith
 
--- The invariant at the end of the loop: no nonterminal waits.
+-- At the end of the loop no nonterminal waits.
 pub none_waiting : {W : ℕ} (g : PlainGrammar) (f : Firsts W) (old s : PendingLooks W) (done : ℕ) → SpreadSoFar g f old s done → length s.queue.items ≤ done → (n : ℕ) → IsWaiting s n → ⊥
 none_waiting g f old s done h all n w = let q = h.queued n w in let l = slice_get_within s.queue.items q.0 n q.2 in let m = q.1 in omega arith
 

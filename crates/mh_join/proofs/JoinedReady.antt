@@ -197,7 +197,7 @@ applied_parts None args k e = let bad : None ≡ Some k = e in cc
 applied_parts (Some h) None k e = let bad : None ≡ Some k = e in cc
 applied_parts (Some h) (Some ks) k e = (h, ks, refl, refl, same_Some _ _ e)
 
--- The elements of a list, each with a proof of its property.
+-- This list has the elements of the given list, each with a proof of its property.
 with_facts : {X : Type 0} (Q : X → Type 0) (xs : List X) → AllByRecursion Q xs → List ((x : X) × Q x)
 with_facts Q [] all = []
 with_facts Q (x ∷ xs) all = (x, all.0) ∷ with_facts Q xs all.1
@@ -665,7 +665,7 @@ module _ (p : Bool) (ms : List Module) (j : Joined) (none : join_faults p ms ≡
 
   -- START SYMBOLS
 
-  -- The name of a start symbol.
+  -- Each start symbol has a name, and its number is the number of the rule with this name.
   start_at : (i s : ℕ) → slice_get j.starts i ≡ Some s → (x : Text) × (slice_get (start_names ms) i ≡ Some x) × (rule_number p ms None x ≡ Some s)
   start_at i s at = go (slice_get (start_names ms) i) refl
       (sym (slice_get-map (rule_number p ms None) (start_names ms) i) ∙ ap (λ k. slice_get k i) (sym joined.starts_are) ∙ slice_get-map Some j.starts i ∙ ap (option_map Some) at)

@@ -312,8 +312,8 @@ fn add_rule(
         (record { file = definition.now.file; owner = definition.now.owner; place = definition.now.place; rule = definition.now.rule.now } ∷ []) joined.old
         joined.new) }
 {
-    // In joined files each definition has a number, and its rule has this number in the list. `AddsAlternatives` holds even without
-    // this fact, because it only speaks of the rules in the list.
+    // In joined files each definition has a number, and its rule has this number in the list. `AddsAlternatives` holds
+    // even without this fact, because it only speaks of the rules in the list.
     if let Some(number) = names
         .numbering
         .number_of(definition.owner, &definition.rule.name)

@@ -29,7 +29,7 @@ use Rattle.mh_lex_bytes.proofs.ByteTests.{first_byte_is, first_two_are}
 abbrev pub AreBytes : List ℕ → Type 0
 AreBytes s = AllByRecursion (λ b. b < 256) s
 
--- Cases of a boolean.
+-- What follows both if a boolean is true and if the boolean is false holds.
 by_bool : {P : Type 0} (b : Bool) → (b ≡ true → P) → (b ≡ false → P) → P
 by_bool true f g = f refl
 by_bool false f g = g refl
@@ -55,7 +55,7 @@ content_of false (b ∷ bs) h =
 
 -- Lemmas on character literals.
 
--- The bytes before a quote at a fixed position.
+-- A text with a quote at index n begins with n bytes and the quote.
 four : (s : List ℕ) → has s 3 39 ≡ true → (a : ℕ) × (b : ℕ) × (c : ℕ) × (r : List ℕ) × (s ≡ a ∷ b ∷ c ∷ 39 ∷ r)
 four [] h = absurd (cc)
 four (a ∷ []) h = absurd (cc)
@@ -274,7 +274,7 @@ opening_is id s h =
 opening_some : (id s : List ℕ) → IsId id → nat_lt 0 (quoted_opening (123 ∷ id ++ 124 ∷ s)) ≡ true
 opening_some id s h = let size : length id + 2 ≡ suc (length id + 1) = omega arith in positive_test (opening_is id s h ∙ size)
 
--- The closing delimiter of a quoted string.
+-- A text that closes a quoted string begins with the name of its delimiter and a closing brace.
 pub closes_split : (id s : List ℕ) → closes_quoted id s ≡ true → (r : List ℕ) × (s ≡ id ++ 125 ∷ r)
 unfolding closes_quoted
 closes_split id s h =

@@ -27,7 +27,7 @@ use Rattle.mh_lex.specs.LexemeTexts.LexemeText.{word, mark, percents, keyword, q
 use Rattle.mh_lex_bytes.proofs.KeywordRows.{keyword_is_word, start_is_byte}
 use Rattle.mh_lex_bytes.proofs.ByteTests.{third_branch, fourth_branch}
 
--- Cases of a true disjunction.
+-- What follows from each side of a true disjunction holds.
 either : {P : Type 0} (a b : Bool) → (a || b) ≡ true → (a ≡ true → P) → (b ≡ true → P) → P
 either true b h f g = f refl
 either false b h f g = g h

@@ -26,7 +26,7 @@ use Rattle.mh_lex.specs.LexemeTexts.LexemeText.{word, mark, percents, keyword, q
 use Rattle.mh_lex.proofs.LaidOutTexts.{drop_prefix, take_prefix}
 use Rattle.mh_lex_bytes.proofs.ByteTests.{first_byte_is, first_two_are, first_three_are}
 
--- Cases of a conditional.
+-- What follows from each branch of a conditional holds.
 by_cond : {P : Type 0} {X : Type 0} (b : Bool) (x y z : X) → cond b x y ≡ z → (b ≡ true → x ≡ z → P) → (b ≡ false → y ≡ z → P) → P
 by_cond true x y z e f g = f refl e
 by_cond false x y z e f g = g refl e
@@ -254,7 +254,7 @@ Scanned-text {bytes} {rest} {what} (long {e = d} {n = n} s b) =
     let x = Body-drop b in
     (take (n + x.0) bytes, front_of (n + x.0) bytes rest (x.1 ∙ drop-drop x.0 n bytes), long_text bytes what d n s (take (n + x.0) bytes))
 
--- The bytes between two positions, given by the bytes that follow each.
+-- If the bytes from one position on are t and then a rest, the bytes between this position and that of the rest are t.
 between : (pre t rest file : List ℕ) → file ≡ pre ++ (t ++ rest) →
     take ((length file - length rest) - (length file - length (t ++ rest))) (drop (length file - length (t ++ rest)) file) ≡ t
 between pre t rest file e =

@@ -82,7 +82,7 @@ pub LexedSoFar-trailer : (bytes : List ℕ) (at left : ℕ) (lexemes : List Lexe
 LexedSoFar-trailer bytes at left lexemes s z =
     subst (λ k. LexesFrom (length bytes) 2 bytes k None) (append-nil lexemes) (s.goes_on [] None (subst (λ k. LexesFrom (length bytes) k (drop at bytes) [] None) (sym z) trailer))
 
--- A lexeme by its positions in the file.
+-- The lexeme between two rests of the file is the lexeme between the positions at which the rests begin.
 pub lexeme_between_rests-at : (bytes : List ℕ) (at end : ℕ) (what : Option Kind) → at ≤ length bytes → end ≤ length bytes → lexeme_between_rests (length bytes) (drop at bytes) what (drop end bytes) ≡ lexeme_between what at end
 lexeme_between_rests-at bytes at end what h k =
     let a : length bytes - length (drop at bytes) ≡ at = omega (arith, length-drop at bytes) in

@@ -26,7 +26,7 @@ abbrev pub missing_row_texts : Grammar → List (Option ℕ) → List Row → Te
 missing_row_texts g kept rows = missing_texts g (filter (has_no_kept_line kept) (rows_of rows))
 
 module _ (g : Grammar) (kept : List (Option ℕ)) where
-  -- A row that is written, and one that is not.
+  -- A row without a kept line is written, and a row with a kept line adds no text.
   pub row_written : (row : Row) → kept_line_in kept row.state ≡ None → missing_text g (row_of row) ≡ missing_row_texts g kept (row ∷ [])
   row_written row none = sym (append-nil (missing_text g (row_of row))) ∙ ap (missing_texts g) (sym (filter_on (has_no_kept_line kept) (row_of row) [] true (ap is_none none)))
 

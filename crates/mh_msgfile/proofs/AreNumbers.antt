@@ -89,7 +89,8 @@ pub copied_none : (r : Option (Bor ℕ)) → is_some r ≡ false → option_copi
 copied_none None h = refl
 copied_none (Some x) h = absurd (true≢false h)
 
--- The step of the loop that inserts the names of the starts.
+-- If the map has the names of the first n starts with their numbers, then, after the name of start n is inserted, it
+-- has those of the first n + 1.
 pub start_put : (g : Grammar) (n number start : ℕ) (nonterminal : NontermInfo) (name : Text) (es fs : Entries) → n < length g.starts → start ≡ get_or g.starts n 0 → All (λ s. s < length g.nonterminals) g.starts → nonterminal ≡ get_or g.nonterminals start nonterminal → name ≡ nonterminal.name →
     number ≡ n → AreNumbers (map (start_symbol_name g) (take n g.starts)) es → InsertsName name number es fs → AreNumbers (map (start_symbol_name g) (take (n + 1) g.starts)) fs
 start_put g n number start nonterminal name es fs lt is known at named numbered are puts =

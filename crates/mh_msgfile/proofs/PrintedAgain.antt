@@ -144,13 +144,15 @@ module _ (g : Grammar) where
   IsGood LacksStart = ⊥
   IsGood (NamesUnknown name) = ⊥
 
+  -- All lines of the block are sentences.
   abbrev pub AreGood : List Text → Type 0
   AreGood block = AllByRecursion (λ line. IsGood (found_in line)) block
 
-  abbrev pub Right : List (List Text) → Type 0
-  Right [] = Unit {0}
-  Right (block ∷ []) = ⊥
-  Right (block ∷ message ∷ rest) = AreGood block × Right rest
+  -- The blocks have no fault: each block of sentence lines has only sentences, and a message follows it.
+  abbrev pub AreFaultless : List (List Text) → Type 0
+  AreFaultless [] = Unit {0}
+  AreFaultless (block ∷ []) = ⊥
+  AreFaultless (block ∷ message ∷ rest) = AreGood block × AreFaultless rest
 
   -- The entries and faults of blocks depend only on the texts of the lines.
   module _ (lines : List Text) where
@@ -202,13 +204,13 @@ module _ (g : Grammar) where
     good_block [] all = refl
     good_block (n ∷ block) all = rw (good_to n (found_in (line_at lines n)) all.0) (good_block block all.1)
 
-    pub right_from : (bs : List (List ℕ)) → faults_in (vocabulary_of g) lines bs ≡ [] → Right (map (texts_of lines) bs)
+    pub right_from : (bs : List (List ℕ)) → faults_in (vocabulary_of g) lines bs ≡ [] → AreFaultless (map (texts_of lines) bs)
     right_from [] is = tt
     right_from (block ∷ []) is = absurd (let both = nil_parts (faults_of (vocabulary_of g) lines block) (BadShape (first_number block) ∷ []) is in let no = both.1 in cc)
     right_from (block ∷ message ∷ rest) is =
         let both = nil_parts (faults_of (vocabulary_of g) lines block) (faults_in (vocabulary_of g) lines rest) is in (block_good block both.0, right_from rest both.1)
 
-    pub right_to : (bs : List (List ℕ)) → Right (map (texts_of lines) bs) → faults_in (vocabulary_of g) lines bs ≡ []
+    pub right_to : (bs : List (List ℕ)) → AreFaultless (map (texts_of lines) bs) → faults_in (vocabulary_of g) lines bs ≡ []
     right_to [] right = refl
     right_to (block ∷ []) right = absurd right
     right_to (block ∷ message ∷ rest) right = rw (good_block block right.0) (right_to rest right.1)
@@ -321,7 +323,7 @@ module _ (g : Grammar) where
     contents_back (block ∷ message ∷ rest) =
         let a = read_back (contents_of block) (known_block block) in let b = contents_back rest in λ i. (a i, with_ends message) ∷ b i
 
-    right_back : (bs : List (List Text)) → Right bs → Right (blocks_printed bs)
+    right_back : (bs : List (List Text)) → AreFaultless bs → AreFaultless (blocks_printed bs)
     right_back [] right = tt
     right_back (block ∷ []) right = tt
     right_back (block ∷ message ∷ rest) right = (good_back (contents_of block) (known_block block), right_back rest right.1)
@@ -347,7 +349,7 @@ module _ (g : Grammar) where
         ∙ ap (λ (l : List (List Text)). (x ∷ xs) ∷ l)
         (run_none blank_text [] ((y ∷ ys) ++ [] ∷ rest) refl ∙ run_plain blank_text y ys ([] ∷ rest) plain' refl ∙ ap (λ (l : List (List Text)). (y ∷ ys) ∷ l) (run_none blank_text [] rest refl))
 
-    runs_printed : (bs : List (List Text)) → Right bs → Fit bs → runs blank_text (printed bs) ≡ blocks_printed bs
+    runs_printed : (bs : List (List Text)) → AreFaultless bs → Fit bs → runs blank_text (printed bs) ≡ blocks_printed bs
     runs_printed [] right fit = refl
     runs_printed (block ∷ []) right fit = refl
     runs_printed (block ∷ message ∷ rest) right fit =
@@ -375,9 +377,11 @@ module _ (g : Grammar) where
 
     -- ---- The blocks of a file can be printed and read again.
 
-    abbrev pub IsFree : Text → Type 0
-    IsFree message = (front rest : Text) → message ≡ front ++ 13 ∷ 10 ∷ rest → ⊥
+    -- The text has no CR LF.
+    abbrev pub HasNoCrLf : Text → Type 0
+    HasNoCrLf message = (front rest : Text) → message ≡ front ++ 13 ∷ 10 ∷ rest → ⊥
 
+    -- A block of a file: at least one line; no line has an LF, is ignored or is blank.
     abbrev pub IsBlock : List Text → Type 0
     IsBlock run = AllByRecursion (λ line. (HasNoLineFeed line × (is_kept_text line ≡ true)) × (blank_text line ≡ false)) run × (has_items run ≡ true)
 
@@ -395,14 +399,14 @@ module _ (g : Grammar) where
     plain_lines [] all = tt
     plain_lines (line ∷ lines) all = (all.0.1, plain_lines lines all.1)
 
-    fit_from : (es : List Entry) (bs : List (List Text)) → map entry_content es ≡ contents bs → ((e : Entry) → Contains es e → IsFree e.message) → AllByRecursion IsBlock bs → Fit bs
+    fit_from : (es : List Entry) (bs : List (List Text)) → map entry_content es ≡ contents bs → ((e : Entry) → Contains es e → HasNoCrLf e.message) → AllByRecursion IsBlock bs → Fit bs
     fit_from es [] is free all = tt
     fit_from es (block ∷ []) is free all = tt
     fit_from [] (block ∷ message ∷ rest) is free all = absurd (cc)
     fit_from (e ∷ es) (block ∷ message ∷ rest) is free all =
         let text : e.message ≡ with_ends message = ap (λ (l : List Content). first_message l) is in
         let later : map entry_content es ≡ contents rest = ap (λ (l : List Content). drop 1 l) is in
-        let here : IsFree (with_ends message) = subst IsFree text (free e (contains_here e es)) in (
+        let here : HasNoCrLf (with_ends message) = subst HasNoCrLf text (free e (contains_here e es)) in (
           record {
             some = all.0.1;
             some_message = all.1.0.1;
@@ -422,7 +426,7 @@ module _ (g : Grammar) where
     printed_again bytes file spells free =
         let bs = map (texts_of file.lines) (blocks file.lines) in
         let same : map entry_content file.entries ≡ contents bs = ap (map entry_content) spells.entries ∙ content_entries file.lines (blocks file.lines) in
-        let right : Right bs = right_from file.lines (blocks file.lines) spells.no_faults in
+        let right : AreFaultless bs = right_from file.lines (blocks file.lines) spells.no_faults in
         let runs_are : bs ≡ runs blank_text (filter is_kept_text file.lines) = texts_of_blocks file.lines in
         let kept = all_filter HasNoLineFeed is_kept_text file.lines (lines_end bytes file.lines spells.lines) in
         let are = all_runs blank_text (λ line. HasNoLineFeed line × (is_kept_text line ≡ true)) (filter is_kept_text file.lines) kept in
@@ -435,7 +439,7 @@ module _ (g : Grammar) where
           record { lines = lines; entries = entries_in (vocabulary_of g) lines (blocks lines) },
           record {
             lines = subst (λ (b : Text). AreLines b lines) (sym text) (lines_of_with_ends lines (all_unchanged lines of_lines));
-            no_faults = right_to lines (blocks lines) (subst Right (sym blocks_are) (right_back bs right));
+            no_faults = right_to lines (blocks lines) (subst AreFaultless (sym blocks_are) (right_back bs right));
             entries = refl;
           },
           same ∙ sym (content_entries lines (blocks lines) ∙ ap contents blocks_are ∙ contents_back bs),

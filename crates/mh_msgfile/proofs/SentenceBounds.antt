@@ -150,7 +150,7 @@ tokens_by v line rest tokens (Some name) none names so_far = (names ∙ ap (list
 from_names : (v : Vocabulary) (start : Option Text) (line : Text) (starts : StartResult) (found : TokensResult) → list_all is_word (pieces line) ≡ true → start_by v start ≡ starts → tokens_of v (pieces line) ≡ found → sentence_from v start line ≡ with_start starts found
 from_names v start line starts found names at are = ap (λ (b : Bool). if b then with_start (start_by v start) (tokens_of v (pieces line)) else IsUnreadable) names ∙ ap₂ with_start at are
 
--- The case in which the start is found and all names are tokens.
+-- If the start is found and all names are tokens, the line is the sentence with this start and these tokens.
 pub sentence_found : (v : Vocabulary) (start : Option Text) (line : Text) (tokens : List ℕ) (unknown : Option (Bor Text)) (number : ℕ) → AreTokens v line tokens (Ok unknown) → unknown ≡ None → FindsStart (start_by v start) (Ok number)
     → AppendsSentence (sentence_from v start line) tokens (Ok number)
 sentence_found v start line tokens None number are is finds = from_names v start line (StartIs number) (Tokens tokens) are.0 finds are.1
@@ -163,7 +163,7 @@ put_lacks v start line tokens faults.Memory names finds = tt
 put_lacks v start line tokens faults.Unreadable names finds = absurd finds
 put_lacks v start line tokens (faults.UnknownToken name) names finds = absurd finds
 
--- The case in which the start is not found.
+-- If the start is not found, the sentence is refused with the fault of the start.
 pub start_refused : (v : Vocabulary) (start : Option Text) (line : Text) (tokens : List ℕ) (unknown : Option (Bor Text)) (fault : SentenceFault) → AreTokens v line tokens (Ok unknown) → FindsStart (start_by v start) (Err fault)
     → AppendsSentence (sentence_from v start line) tokens (Err fault)
 start_refused v start line tokens None fault are finds = put_lacks v start line tokens fault are.0 finds

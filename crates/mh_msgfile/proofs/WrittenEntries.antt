@@ -16,7 +16,7 @@ use Rattle.mh_msgfile.specs.declared.loose.LooseEntry.{LooseEntry}
 use Rattle.mh_msgfile.specs.declared.loose.LooseFile.{LooseFile}
 use Rattle.mh_msgfile.proofs.CanonicalLine.{HasNoSeparator}
 use Rattle.mh_msgfile.proofs.LineEnds.{with_ends, IsReadUnchanged, lines_end, lines_of_with_ends}
-use Rattle.mh_msgfile.proofs.PrintedAgain.{texts_of, blank_text, is_kept_text, texts_of_blocks, all_filter, all_runs, Right, right_to, contents, content_entries, message_block, canonical, IsKnown, some_mapped, IsLine, read_back, good_back, plain_back, two_runs, IsBlock, IsFree, message_lines, plain_lines}
+use Rattle.mh_msgfile.proofs.PrintedAgain.{texts_of, blank_text, is_kept_text, texts_of_blocks, all_filter, all_runs, AreFaultless, right_to, contents, content_entries, message_block, canonical, IsKnown, some_mapped, IsLine, read_back, good_back, plain_back, two_runs, IsBlock, HasNoCrLf, message_lines, plain_lines}
 
 -- An entry that is to be written: its sentences, each a start with tokens, and the lines of its message.
 pub record WrittenEntry : Type 0 where
@@ -58,7 +58,7 @@ module _ (g : Grammar) (has : HasReadableNames g) where
       two_runs g has (map (canonical g) w.sentences) w.message (entry_lines ws) (some_mapped g w.sentences all.0.some) (plain_back g has w.sentences all.0.known) all.0.some_message all.0.plain
       ∙ ap (λ (l : List (List Text)). map (canonical g) w.sentences ∷ w.message ∷ l) (runs_are ws all.1)
 
-  right_are : (ws : List WrittenEntry) → AllByRecursion IsGoodEntry ws → Right g (entry_blocks ws)
+  right_are : (ws : List WrittenEntry) → AllByRecursion IsGoodEntry ws → AreFaultless g (entry_blocks ws)
   right_are [] all = tt
   right_are (w ∷ ws) all = (good_back g has w.sentences all.0.known, right_are ws all.1)
 
@@ -106,7 +106,7 @@ module _ (g : Grammar) (has : HasReadableNames g) where
       record { lines = lines; entries = entries_in (vocabulary_of g) lines (blocks lines) },
       record {
         lines = lines_of_with_ends lines whole;
-        no_faults = right_to g lines (blocks lines) (subst (Right g) (sym blocks_are) (right_are ws good));
+        no_faults = right_to g lines (blocks lines) (subst (AreFaultless g) (sym blocks_are) (right_are ws good));
         entries = refl;
       },
       content_entries g lines (blocks lines) ∙ ap (contents g) blocks_are ∙ contents_are ws good,
@@ -161,5 +161,5 @@ module _ (g : Grammar) (has : HasReadableNames g) where
       subst (AllByRecursion IsLooseBlock) (sym spells.entries) (from_blocks lines (blocks lines) all)
 
   -- If no line of the message ends in a CR, the lines are read unchanged.
-  pub message_reads : (message : Text) (text : IsMessageText message) → IsFree g has message → AllByRecursion (IsLine g) text.lines × HasNoSeparator blank_text text.lines
-  message_reads message text free = (message_lines g has text.lines [] (subst (IsFree g has) text.is free) text.each, plain_lines g has text.lines text.each)
+  pub message_reads : (message : Text) (text : IsMessageText message) → HasNoCrLf g has message → AllByRecursion (IsLine g) text.lines × HasNoSeparator blank_text text.lines
+  message_reads message text free = (message_lines g has text.lines [] (subst (HasNoCrLf g has) text.is free) text.each, plain_lines g has text.lines text.each)

@@ -283,7 +283,7 @@ walk_plain_word os rows p idle word awaited a = rw a (walk_file os rows p idle w
 walk_plain_word os rows p positional word awaited a = rw a (walk_file os rows p positional word)
 walk_plain_word os rows p (option id) word awaited a = let yes : awaited ≡ true = a.is_awaited in rw yes (walk_value os rows p id word awaited a)
 
--- The state of the walk after a word that is not an option.
+-- The walk treats a word that is not an option as a plain word.
 other_is : (os : List (Opt Text)) (rows : List Row) (p : Option (Text × List Text)) (x : Waiting) (word : Text) → is_end word ≡ false → long_of word ≡ None
     → turn_fault (command_of os) [] (walk_at rows p x false) word ≡ [] → walked (rules_with_help_and_files os) [] (walk_at rows p x false) word ≡ onward (rules_with_help_and_files os) rows p x word (plain_word (rules_with_help_and_files os) x word (matches_so_far rows p))
 other_is os rows p x word more is none =
@@ -298,7 +298,8 @@ pub walk_other_word : (os : List (Opt Text)) (rows : List Row) (p : Option (Text
 walk_other_word os rows p x word awaited a more is none =
     subst (λ (w : Walk). IsWalkState os w false (if awaited then files_held os rows p else files_held os rows p ++ word ∷ []) (is_used os rows p)) (sym (other_is os rows p x word more is none)) (walk_plain_word os rows p x word awaited a)
 
--- The state of the walk after the value of an option, and after an option whose value is the next word.
+-- After the value of an option the walk waits for nothing. After an option whose value is the next word, the walk waits
+-- for this value.
 pub value_walked : (os : List (Opt Text)) (rows : List Row) (p : Option (Text × List Text)) (id word : Text) (awaited : Bool) → AwaitsValue os p id awaited → is_end word ≡ false → long_of word ≡ None
     → turn_fault (command_of os) [] (walk_at rows p (option id) false) word ≡ [] → walked (rules_with_help_and_files os) [] (walk_at rows p (option id) false) word ≡ walk_at rows (Some (id, word ∷ [])) idle false
 value_walked os rows p id word awaited a more is none = other_is os rows p (option id) word more is none ∙ value_is os rows p id word awaited a

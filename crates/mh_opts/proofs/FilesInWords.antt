@@ -115,7 +115,7 @@ no_default : (rows : List Row) (b : Bool) → (if b then rows else rows) ≡ row
 no_default rows true = refl
 no_default rows false = refl
 
--- The files at the end of parsing.
+-- The files that clap holds at the end of parsing are those that the walk found.
 pub end_files : (os : List (Opt Text)) → list_all is_fit os ≡ true → (w : Walk) → grammars_of (finished (rules_with_help_and_files os) w.held) ≡ files_of os w
 end_files os fit w =
     let rows = settled_rows (rules_with_help_and_files os) w.held.pending w.held.rows in

@@ -196,7 +196,7 @@ use_renamed word words e more =
     ap (λ (b : Bool). (if b then again word else word) ∷ renamed_from (seen_after One word) words) e
     ∙ ap (λ (s : SeenUses). again word ∷ renamed_from s words) seen ∙ ap (λ (ws : List Text). again word ∷ ws) (all_same words)
 
--- A word that is not renamed.
+-- A word that is not renamed keeps the files equal, if the files of the words after it are equal.
 kept_word : (awaited : Bool) (word : Text) (words others : List Text) → (is_end word ≡ true → others ≡ words) → ((a : Bool) → files_from options a others ≡ files_from options a words)
     → files_from options awaited (word ∷ others) ≡ files_from options awaited (word ∷ words)
 kept_word awaited word words others ends later = by_end (is_end word) refl

@@ -46,7 +46,8 @@ EqualsUnlessMemory-equal wanted (Err (Misplaced option)) is = is
 EqualsUnlessMemory-equal wanted (Err NoGrammar) is = is
 EqualsUnlessMemory-equal wanted (Ok mode) is = is
 
--- One more option.
+-- If the modes of the options from index i on are still to be added, then those from index i + 1 on are still to be
+-- added after the mode of option i was added.
 pub one_more : {N : Type 0} (rows : List Row) (options : List (Opt N)) (text : N → Text) (i : ℕ) (d : Opt N) (found next whole : FoundModes JobKind) (mode : Option JobKind) → i < length options
     → mode ≡ mode_at rows (plain (get_or options i d) text) → next ≡ with_next found mode → with_all found (map (mode_at rows) (plain_rows (drop i options) text)) ≡ whole
     → with_all next (map (mode_at rows) (plain_rows (drop (i + 1) options) text)) ≡ whole

@@ -96,6 +96,6 @@ defaults_kept : (name : Text) (rules : List Rule) (rows : List Row) → is_given
 defaults_kept name [] rows = refl
 defaults_kept name (rule ∷ rules) rows = defaults_kept name rules (with_default rows rule) ∙ defaults_give_nothing name rows rule
 
--- The options that the words give at the end of parsing.
+-- At the end of parsing, clap holds an option exactly if the words use the option.
 pub end_given : (os : List (Opt Text)) (name : Text) (w : Walk) → is_given name (finished (rules_with_help_and_files os) w.held) ≡ used_at os name w
 end_given os name w = defaults_kept name (rules_with_help_and_files os) (settled_rows (rules_with_help_and_files os) w.held.pending w.held.rows)

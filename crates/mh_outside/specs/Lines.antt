@@ -56,8 +56,8 @@ abbrev pub first_line_within : ℕ → List ℕ → NextLine
 first_line_within limit [] = NoLine
 first_line_within limit (b ∷ bytes) = line_within limit (first_line (b ∷ bytes))
 
--- If the bytes left are known, each result but `Failed` and `Memory` agrees with `first_line_within`, and the bytes left
--- afterwards are known too.
+-- If the bytes left are known, each result but `Failed` and `Memory` agrees with `first_line_within`, and the bytes
+-- left afterwards are known too.
 abbrev pub FindsLine : ℕ → Option (List ℕ) → Option (List ℕ) → Result (Option (Vec ℕ Global)) LineFault → Type 0
 FindsLine limit None new result = ⊤
 FindsLine limit (Some bytes) new (Ok None) = (first_line_within limit bytes ≡ NoLine) × (new ≡ Some [])

@@ -35,8 +35,8 @@ file_within limit (Some bytes) = if nat_le (length bytes) limit then Bytes bytes
 abbrev pub found_file : Files → List ℕ → ℕ → FileFound
 found_file fs name limit = file_within limit (file_at fs name)
 
--- If the files of a shelf are known, each result but `Failed` and `Memory` agrees with `found_file`. If they are not known,
--- the shelf gives `Failed`, never `Absent`, for a file that does not exist.
+-- If the files of a shelf are known, each result but `Failed` and `Memory` agrees with `found_file`. If they are not
+-- known, the shelf gives `Failed`, never `Absent`, for a file that does not exist.
 abbrev pub ReadsFile : Option Files → List ℕ → ℕ → Result (Vec ℕ Global) ShelfFault → Type 0
 ReadsFile None name limit (Ok v) = length v.items ≤ limit
 ReadsFile None name limit (Err Absent) = ⊥

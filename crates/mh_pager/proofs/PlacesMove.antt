@@ -27,7 +27,8 @@ placed_by_joining g move old new n unkept k first t =
 pub placed_by_appending : (g : PlainGrammar) (move : Kernel) (old new : MergeState) (n : ℕ) → HasNoneWith (ContainsMove move) old.kernels → HasNoneWith (IsCompatibleWithMove move) old.kernels → AppendsMove move old new n → PlacesMove g move old new n
 placed_by_appending g move old new n unkept untaken a = inr (inr (record { none_contains = unkept; none_compatible = untaken; last = a.last; kernels = a.kernels; rows = a.rows; queue = a.queue }))
 
--- The new state exceeds the limit.
+-- If no state contains the move or is compatible with it and the list is as long as the limit, placing the move exceeds
+-- the limit.
 pub placing_exceeds : (g : PlainGrammar) (move : Kernel) (old : MergeState) (limit : ℕ) → HasNoneWith (ContainsMove move) old.kernels → HasNoneWith (IsCompatibleWithMove move) old.kernels → length old.kernels ≡ limit → (n : ℕ) × (new : MergeState) × PlacesMove g move old new n × (limit < length new.kernels)
 placing_exceeds g move old limit unkept untaken e = (
   length old.kernels,

@@ -25,7 +25,7 @@ sum_same (suc n) f h le s i l =
       | inr e ↦ sum_same n f h (λ j k. le j (omega arith)) rest i (omega arith)
     ]
 
--- A decision as 1 or 0.
+-- The number 1 if the property is true, and 0 if it is false.
 pub bit : {A : Type 0} → A ⊎ (A → ⊥) → ℕ
 bit (inl a) = 1
 bit (inr n) = 0

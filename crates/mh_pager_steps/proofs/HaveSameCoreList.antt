@@ -119,7 +119,7 @@ module _ (k m : Kernel) (paired : HaveSameCoreList k.items m.items) where
         let same : mine.0 ≡ x = (let two : Some mine.0 ≡ Some x = sym mine.1.at ∙ to in cc) in
         rw (one.1 ∙ same) at z.3
 
-    -- The looks that two items have in common.
+    -- Two items that share a look have a common look in their kernels.
     common_meet : (p d q e i j : ℕ) (j1 j2 : Kernel) (x y : KernelItem) → IsItem j1 p d i x → IsItem j2 q e j y → ShareLook x.looks y.looks → HaveCommonLook (Holds j1) p d (Holds j2) q e
     common_meet p d q e i j j1 j2 x y a b c = (c.0, holds_by_item j1 p d i x c.0 a c.1, holds_by_item j2 q e j y c.0 b c.2)
 

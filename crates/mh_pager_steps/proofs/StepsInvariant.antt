@@ -97,24 +97,26 @@ module _ (g : PlainGrammar) where
     moves m k l (joins j e takes valid join q) = λ r d h. before.moved m j e l r d (((join_extends (Holds j) (Holds move) (Holds k) takes.0 join).0.0 r d).1 h)
     moves m k l (fresh e same q) = rw same dots
 
-    pub put_sound : AreSound g new.kernels
-    put_sound = record {
+    -- After a move is placed, the kernels are still sound.
+    pub placed_sound : AreSound g new.kernels
+    placed_sound = record {
       each = λ m k at. each m k (kernel_origin g move old new n p m k at);
       starts = λ i l. let j = put_grows g move old new n p i (start_kernel i) (before.starts i l) in start i j.0 l j.1 (kernel_origin g move old new n p i j.0 j.1);
       moved = λ m k at l. moves m k l (kernel_origin g move old new n p m k at);
     }
 
-  all_put_sound : (k : Kernel) → IsSound g k → (symbols : List Symbol) (targets : List ℕ) (old new : MergeState) → PlacesMoves g k symbols targets old new → AreSound g old.kernels → AreSound g new.kernels
-  all_put_sound k s [] [] old new p before = rw p before
-  all_put_sound k s [] (n ∷ targets) old new p before = absurd p
-  all_put_sound k s (X ∷ symbols) [] old new p before = absurd p
-  all_put_sound k s (X ∷ symbols) (n ∷ targets) old new p before =
+  -- After all moves of a kernel are placed, the kernels are still sound.
+  all_placed_sound : (k : Kernel) → IsSound g k → (symbols : List Symbol) (targets : List ℕ) (old new : MergeState) → PlacesMoves g k symbols targets old new → AreSound g old.kernels → AreSound g new.kernels
+  all_placed_sound k s [] [] old new p before = rw p before
+  all_placed_sound k s [] (n ∷ targets) old new p before = absurd p
+  all_placed_sound k s (X ∷ symbols) [] old new p before = absurd p
+  all_placed_sound k s (X ∷ symbols) (n ∷ targets) old new p before =
       let m = move_sound g k p.0 X p.2 s in
-      all_put_sound k s symbols targets p.1 new p.4 (put_sound p.0 old p.1 n p.3 m.0 m.1 before)
+      all_placed_sound k s symbols targets p.1 new p.4 (placed_sound p.0 old p.1 n p.3 m.0 m.1 before)
 
   step_sound : (old new : MergeState) → IsMergeStep g old new → AreSound g old.kernels → AreSound g new.kernels
   step_sound old new s before =
-      let after : AreSound g s.placed.kernels = all_put_sound s.kernel (before.each s.state s.kernel s.at) (edge_symbols s.row) (targets_of s.row) (record { kernels = old.kernels; rows = old.rows; queue = s.waiting }) s.placed s.moves_placed before in
+      let after : AreSound g s.placed.kernels = all_placed_sound s.kernel (before.each s.state s.kernel s.at) (edge_symbols s.row) (targets_of s.row) (record { kernels = old.kernels; rows = old.rows; queue = s.waiting }) s.placed s.moves_placed before in
       rw s.after after
 
 -- The invariant of the steps.

@@ -14,8 +14,8 @@ IsInCore I p d = (a : Look) × I p d a
 abbrev pub HaveSameCore : ItemSet → ItemSet → Type 0
 HaveSameCore I J = (p d : ℕ) → IsInCore I p d ↔ IsInCore J p d
 
--- The two kernels have one core: they have the same number of items, the items at one index have the same production and
--- dot, and the items rise.
+-- The two kernels have one core: they have the same number of items, the items at one index have the same production
+-- and dot, and the items rise.
 pub record HaveOneCore (left right : Kernel) : Type 0 where
   pub count : length left.items ≡ length right.items
   pub places : (i : ℕ) (x y : KernelItem) → slice_get left.items i ≡ Some x → slice_get right.items i ≡ Some y → (x.production ≡ y.production) × (x.dot ≡ y.dot)

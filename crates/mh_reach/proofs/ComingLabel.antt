@@ -1,31 +1,28 @@
 -- Proves for each pair of a state and a next token: the label is the first of the sentences that come to the state with
 -- this token next, if some such sentence is within the greatest cost.
-use Rattle.std.proofs.Common.{◌≡◌, ℕ, ◌<◌, ◌≤◌, inl, inr, List, [], Some, None, Option, refl, sym, ap, subst, arith, ◌∙◌}
+use Rattle.std.proofs.Common.{◌≡◌, ℕ, ◌<◌, ◌≤◌, inl, inr, List, Some, None, Option, refl, sym, ap, subst, arith, ◌∙◌}
 use Rattle.std.specs.Prelude.{min}
 use Rattle.std.specs.List.{AllByRecursion}
 use Rattle.std.proofs.lemmas.Grind.{common_steps}
 use Rattle.mh_tables_core.specs.Table.{TableData}
 use Rattle.mh_tables_core.specs.Facts.{Facts}
 use Rattle.mh_tables_core.specs.Failing.{cost_of_word, max_sentence_cost, SentenceAtMost}
-use Rattle.mh_facts.specs.declared.store.FactKey.{FactKey}
 use Rattle.mh_facts.specs.declared.classes.TokenClasses.{TokenClasses}
 use Rattle.mh_reach.specs.Coming.{Comes, FirstComing, ComesWithinMaxCost}
 use Rattle.mh_facts.specs.Costs.{cap}
-use Rattle.mh_facts.specs.code.BestFirst.{Label, HasNoLater, HasNoLaterLabel, LabelsClosedBy}
+use Rattle.mh_facts.specs.code.BestFirst.{Label, HasNoLaterLabel}
 use Rattle.mh_facts.specs.code.Orders as orders
 use Rattle.mh_facts.specs.code.TokenClasses.{rep_of}
-use Rattle.mh_facts.specs.code.WordAssignment.{WordNoLater}
 use Rattle.mh_reach.proofs.Coming.{comes_if_reached, reaches_if_comes}
-use Rattle.mh_facts.proofs.LeastSentences.{closed_reached}
-use Rattle.mh_facts.proofs.SearchInvariant.{labels_closed_if_closed_by_gotos}
 use Rattle.mh_facts.proofs.Sound.{reaches_known}
-use Rattle.mh_facts.proofs.WordAssignment.{order_laws, option_unique, weigh_word}
-use Rattle.mh_reach_found.specs.declared.search_result.SearchResult.{SearchResult}
+use Rattle.mh_facts.proofs.WordAssignment.{option_unique, weigh_word}
 use Rattle.mh_reach_found.specs.declared.arrivals.StateAndNext.{StateAndNext}
-use Rattle.mh_reach_found.specs.declared.arrivals.Arrival.{Arrival}
-use Rattle.mh_reach_found.specs.code.SearchResult.{GotoFactsIn}
-use Rattle.mh_reach_found.specs.code.Arrivals.{LabelNoLater, ArrivalList, LabelAssignment, arrival_at, labels_at, AreLeastArrivalsFor}
-use Rattle.mh_reach_found.proofs.LabelOrder.{label_laws}
+use Rattle.mh_reach_found.specs.code.Arrivals.{LabelNoLater, labels_at}
+use Rattle.mh_reach_found.specs.code.SentenceComparison.{numbers_of}
+use Rattle.mh_reach_words.specs.code.Words.{Words}
+use Rattle.mh_reach_spots.specs.declared.spots.SpotArrival.{SpotArrival}
+use Rattle.mh_reach_spots.specs.declared.spots.Spots.{Spots}
+use Rattle.mh_reach_spots.specs.code.Spots.{AreLeastArrivals, IsWordAt, LabelAssignment, SpotList, arrival_at}
 use Rattle.mh_reach.specs.Reaching.{LeastCostTo}
 use Rattle.mh_reach.specs.code.Candidates.{InOrderOr, IsComingAt, IsComingLabel, spot_of}
 
@@ -36,27 +33,20 @@ in_order t f k l a b (orders.SentenceLe.Over x y) = let e = weigh_word t f k.wor
 in_order t f k l a b (orders.SentenceLe.Sooner same lt) = inl (inr (sym (weigh_word t f k.word a) ∙ same ∙ weigh_word t f l.word b, inl lt))
 in_order t f k l a b (orders.SentenceLe.Lower same start le) = inl (inr (sym (weigh_word t f k.word a) ∙ same ∙ weigh_word t f l.word b, inr (start, le)))
 
-module _ (t : TableData) (f : Facts t) (c : TokenClasses) (found : SearchResult) (spots : ArrivalList) (h : AreLeastArrivalsFor t c found spots) where
+module _ (t : TableData) (f : Facts t) (c : TokenClasses) (spots : Spots) (h : AreLeastArrivals t c spots) where
   abbrev rep : ℕ → ℕ → ℕ
   rep = rep_of c
 
   abbrev labels : StateAndNext → Option Label
-  labels = h.arrived.label_assignment.labels
-
-  abbrev words : FactKey → Option (List ℕ)
-  words = h.found_is.word_assignment.words
-
-  pub labels_closed : LabelsClosedBy t rep words (labels_at labels) (HasNoLaterLabel (LabelNoLater t) (labels_at labels))
-  labels_closed = labels_closed_if_closed_by_gotos t rep (WordNoLater t) (LabelNoLater t) (order_laws t) (label_laws t) words (GotoFactsIn c words found.work) (labels_at labels) (HasNoLater (WordNoLater t) words) h.found_is.closed h.arrived.closed
+  labels = h.label_assignment.labels
 
   -- Some label comes no later than a sentence that comes to the state.
   no_later : (s z i : ℕ) (w : List ℕ) → Comes t i w s z → z < t.grammar.tokens → HasNoLaterLabel (LabelNoLater t) (labels_at labels) s (rep s z) (record { start = i; word = w })
-  no_later s z i w comes known =
-      closed_reached t f rep (WordNoLater t) (LabelNoLater t) (order_laws t) (label_laws t) words h.found_is.complete (labels_at labels) labels_closed i s z w comes.sentence.known known (reaches_if_comes t f i w s z comes)
+  no_later s z i w comes known = h.complete i s z w comes.sentence.known known (reaches_if_comes t f i w s z comes)
 
   coming_label : (s z : ℕ) (l : Label) → z < t.grammar.tokens → labels (spot_of c s z) ≡ Some l → IsComingLabel t s z l
   coming_label s z l known e =
-      let there = h.arrived.sound s (rep s z) l e z known refl in
+      let there = h.sound s (rep s z) l e z known refl in
       let tokens = (reaches_known t f l.start s z l.word there.0 there.1).tokens in
       record {
         comes = comes_if_reached t f l.start l.word s z there.0 known there.1;
@@ -74,6 +64,18 @@ module _ (t : TableData) (f : Facts t) (c : TokenClasses) (found : SearchResult)
 
   pub coming_at : (s z : ℕ) → z < t.grammar.tokens → IsComingAt t s z (labels (spot_of c s z))
   coming_at s z known = coming_by s z (labels (spot_of c s z)) known refl
+
+-- If some sentence within the greatest cost comes to the state, the label is within the greatest cost.
+pub coming_low : (t : TableData) (s z : ℕ) (l : Label) → IsComingLabel t s z l → ComesWithinMaxCost t s z → cost_of_word t l.word < cap
+coming_low t s z l h cheap = below (h.first cheap.0 cheap.1 cheap.2)
+  where
+    low : cost_of_word t cheap.1 ≤ max_sentence_cost
+    low = cheap.3
+
+    below : InOrderOr t l.start l.word cheap.0 cheap.1 → cost_of_word t l.word < cap
+    below (inl (inl lt)) = let m = low in omega (arith, m, lt)
+    below (inl (inr (e, rest))) = let m = low in omega (arith, m, e)
+    below (inr (a, b)) = let m = low in omega (arith, m, b)
 
 -- If some sentence within the greatest cost comes to the state, the label comes before all other sentences.
 first_to : (t : TableData) (s z : ℕ) (l : Label) → IsComingLabel t s z l → ComesWithinMaxCost t s z → (i : ℕ) (w : List ℕ) → Comes t i w s z → SentenceAtMost t l.start l.word i w
@@ -101,19 +103,30 @@ least_cost_to t s z cost l h e = (
   (l.start, l.word, h.comes, e),
 )
 
--- If some sentence within the greatest cost comes to the state s with the token z next, the pair of s and z has a
--- label.
-pub label_there : (t : TableData) (s z : ℕ) (o : Option Label) → IsComingAt t s z o → ComesWithinMaxCost t s z → (l : Label) × (o ≡ Some l) × IsComingLabel t s z l
-label_there t s z None h cheap = absurd (h cheap.0 cheap.1 cheap.2)
-label_there t s z (Some l) h cheap = (l, refl, h)
-
 -- The cost of the arrival at a spot is the least cost of a sentence that comes there. Without an arrival none comes.
-module _ (t : TableData) (words : FactKey → Option (List ℕ)) (spots : ArrivalList) (j : LabelAssignment t words spots) (k : StateAndNext) (s z : ℕ) (h : IsComingAt t s z (j.labels k)) where
+module _ (t : TableData) (book : Words) (spots : SpotList) (j : LabelAssignment t book spots) (k : StateAndNext) (s z : ℕ) (h : IsComingAt t s z (j.labels k)) where
   pub none_comes : arrival_at spots k ≡ None → LeastCostTo t s z None
   none_comes e = subst (λ (o : Option Label). IsComingAt t s z o) (j.none k e) h
 
-  pub arrival_cost : (r : Arrival) → arrival_at spots k ≡ Some r → LeastCostTo t s z (Some r.cost)
+  pub arrival_cost : (r : SpotArrival) → arrival_at spots k ≡ Some r → LeastCostTo t s z (Some r.cost)
   arrival_cost r e =
       let labelled = j.some k r e in
       let comes : IsComingLabel t s z labelled.label = subst (λ (o : Option Label). IsComingAt t s z o) labelled.is h in
       least_cost_to t s z r.cost labelled.label comes (labelled.cost_is ∙ comes.weighed)
+
+  -- If some sentence within the greatest cost comes there, there is an arrival, and its number is the first sentence.
+  pub arrival_there : ComesWithinMaxCost t s z → (r : SpotArrival) × (arrival_at spots k ≡ Some r)
+  arrival_there cheap = by (arrival_at spots k) refl
+    where
+      by : (o : Option SpotArrival) → arrival_at spots k ≡ o → (r : SpotArrival) × (arrival_at spots k ≡ Some r)
+      by None e = absurd (none_comes e cheap.0 cheap.1 cheap.2)
+      by (Some r) e = (r, e)
+
+  pub arrival_sentence : ComesWithinMaxCost t s z → (r : SpotArrival) → arrival_at spots k ≡ Some r → (l : Label) × IsComingLabel t s z l × IsWordAt book r.sentence (numbers_of l)
+  arrival_sentence cheap r e =
+      let labelled = j.some k r e in
+      let comes : IsComingLabel t s z labelled.label = subst (λ (o : Option Label). IsComingAt t s z o) labelled.is h in
+      let cost_is : r.cost ≡ min (cost_of_word t labelled.label.word) cap = labelled.cost_is ∙ comes.weighed in
+      let low = coming_low t s z labelled.label comes cheap in
+      let cheaper : r.cost < cap = grind (arith, common_steps, cost_is, low) in
+      (labelled.label, comes, labelled.numbered cheaper)

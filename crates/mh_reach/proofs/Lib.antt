@@ -3,4 +3,4 @@ mod BestCandidate
 mod Coming
 mod ComingLabel
 mod FailsFirst
-mod WritesWord
+mod SentenceOf

@@ -1,24 +1,28 @@
-//! The best candidate for the sentence of each state, by the results of both searches.
+//! The best candidate for the sentence of each state, by the result of the second search.
 ghost use Rattle.std.specs.Prelude.{◌≡◌, ◌<◌, IfOk, IfSome, length};
 ghost use Rattle.mh_facts.specs.code.TokenClasses.{AreTokenClasses};
-ghost use Rattle.mh_reach_found.specs.code.Arrivals.{AreLeastArrivalsFor, HasArrival};
-ghost use Rattle.mh_reach_found.specs.code.SentenceComparison.{HasAssignments};
-ghost use Rattle.mh_reach.specs.code.Candidates.{CostsAreCapped, IsCandidateOn, IsBestBelow, AreBest, IsBetterOf, IsBetterOfOptions, step_of};
+ghost use Rattle.mh_reach_words.specs.code.Sorting.{IsLater, LexNoLater};
+ghost use Rattle.mh_reach_words.specs.code.Words.{HasParts};
+ghost use Rattle.mh_reach_spots.specs.code.Spots.{AreLeastArrivals};
+ghost use Rattle.mh_reach.specs.code.Candidates.{AreBest, AreKnownSentences, CostsAreCapped, IsBestBelow, IsBetterOf, IsBetterOfOptions, IsCandidateOn, IsKnownCandidate, made_of};
 
 use crate::sentences::{FailureCandidate, Reach};
-use mh_facts::{FactStore, TokenClasses, add_token, class_of};
+use mh_facts::{CAP, TokenClasses, add_token, class_of};
 use mh_grammar::{Memory, Token};
-use mh_reach_found::{ArrivalStep, Arrivals, SearchResult, StateAndNext, arrival_of, comes_later};
+use mh_reach_found::StateAndNext;
+use mh_reach_spots::{Spots, arrival_at};
+use mh_reach_words::{LastPart, Rests, WordParts, no_rests};
 use mh_tables_core::{Halting, NextAction, Table, choose};
 use std::alloc::Global;
+use std::cmp::Ordering;
 
-/// The step that would shift the refused token.
-fn step_of(best: FailureCandidate) -> ArrivalStep
-    ensures { result ≡ step_of best }
+/// The parts of the sentence of a candidate: the sentence that reaches the state, and the refused token.
+fn made_of(best: FailureCandidate) -> WordParts
+    ensures { result ≡ made_of best }
 {
-    ArrivalStep::Shift {
-        from: best.spot,
-        token: best.token,
+    WordParts {
+        front: best.sentence,
+        last: LastPart::Token(best.token),
     }
 }
 
@@ -26,15 +30,15 @@ fn step_of(best: FailureCandidate) -> ArrivalStep
 fn best_on(
     table: &Table,
     classes: &TokenClasses,
-    arrivals: &Arrivals,
+    spots: &Spots,
     state: u32,
     token: Token,
 ) -> Option<FailureCandidate>
     requires classes { AreTokenClasses table.now classes.now }
-    requires arrivals { CostsAreCapped arrivals.now.spots }
+    requires arrivals { CostsAreCapped spots.now.spots }
     requires state { state < length table.now.states }
     requires token { token < table.now.grammar.tokens }
-    ensures { IsCandidateOn table.now classes.now arrivals.now.spots state token result }
+    ensures { IsCandidateOn table.now classes.now spots.now.spots state token result }
 {
     table.facts();
     match choose(table, state, Some(token)) {
@@ -43,11 +47,11 @@ fn best_on(
                 state,
                 next: class_of(table, classes, state, token).representative,
             };
-            match arrival_of(arrivals, spot) {
+            match arrival_at(spots, spot) {
                 None => None,
                 Some(arrival) => Some(FailureCandidate {
                     cost: add_token(table, arrival.cost, token),
-                    spot,
+                    sentence: arrival.sentence,
                     token,
                 }),
             }
@@ -56,19 +60,33 @@ fn best_on(
     }
 }
 
-/// The better of two candidates: by cost, then by sentence.
+/// Whether the sentence of the left candidate comes later, by start and then lexicographically.
+fn comes_later(
+    spots: &Spots,
+    rests: &mut Rests,
+    left: FailureCandidate,
+    right: FailureCandidate,
+) -> Result<bool, Memory>
+    requires left { HasParts spots.now.book (made_of left) }
+    requires right { HasParts spots.now.book (made_of right) }
+    ensures { IfOk result (IsLater (LexNoLater spots.now.book) (made_of left) (made_of right)) }
+{
+    match spots.book.compare(rests, made_of(left), made_of(right))? {
+        Ordering::Greater => Ok(true),
+        Ordering::Less | Ordering::Equal => Ok(false),
+    }
+}
+
+/// The better of two candidates: by cost, then by sentence. Sentences of the highest cost are not compared.
 fn sooner_of(
-    alloc: Global,
-    table: &Table,
-    found: &SearchResult,
-    arrivals: &Arrivals,
+    spots: &Spots,
+    rests: &mut Rests,
     left: FailureCandidate,
     right: FailureCandidate,
 ) -> Result<FailureCandidate, Memory>
-    requires assignments { HasAssignments table.now found.now arrivals.now.spots }
-    requires left { HasArrival arrivals.now.spots left.spot }
-    requires right { HasArrival arrivals.now.spots right.spot }
-    ensures { IfOk result (IsBetterOf table.now found.now.store arrivals.now.spots left right) }
+    requires left { IsKnownCandidate spots.now.book left }
+    requires right { IsKnownCandidate spots.now.book right }
+    ensures { IfOk result (IsBetterOf spots.now.book left right) }
 {
     if left.cost < right.cost {
         return Ok(left);
@@ -76,9 +94,10 @@ fn sooner_of(
     if right.cost < left.cost {
         return Ok(right);
     }
-    let one = step_of(left);
-    let two = step_of(right);
-    if comes_later(alloc, table, found, arrivals, one, two)? {
+    if left.cost >= CAP {
+        return Ok(left);
+    }
+    if comes_later(spots, rests, left, right)? {
         Ok(right)
     } else {
         Ok(left)
@@ -87,23 +106,20 @@ fn sooner_of(
 
 /// Compares the best so far with a new candidate, if both exist, and returns the better one.
 fn first_of(
-    alloc: Global,
-    table: &Table,
-    found: &SearchResult,
-    arrivals: &Arrivals,
+    spots: &Spots,
+    rests: &mut Rests,
     best: Option<FailureCandidate>,
     more: Option<FailureCandidate>,
 ) -> Result<Option<FailureCandidate>, Memory>
-    requires assignments { HasAssignments table.now found.now arrivals.now.spots }
-    requires best { IfSome best (λ b. HasArrival arrivals.now.spots b.spot) }
-    requires more { IfSome more (λ b. HasArrival arrivals.now.spots b.spot) }
-    ensures { IfOk result (IsBetterOfOptions table.now found.now.store arrivals.now.spots best more) }
+    requires best { IfSome best (IsKnownCandidate spots.now.book) }
+    requires more { IfSome more (IsKnownCandidate spots.now.book) }
+    ensures { IfOk result (IsBetterOfOptions spots.now.book best more) }
 {
     match (best, more) {
         (None, more) => Ok(more),
         (Some(best), None) => Ok(Some(best)),
         (Some(left), Some(right)) => {
-            let first = sooner_of(alloc, table, found, arrivals, left, right)?;
+            let first = sooner_of(spots, rests, left, right)?;
             Ok(Some(first))
         }
     }
@@ -111,23 +127,22 @@ fn first_of(
 
 /// The best candidate of a state, none if no sentence fails there.
 fn best_of(
-    alloc: Global,
     table: &Table,
     classes: &TokenClasses,
-    found: &SearchResult,
-    arrivals: &Arrivals,
+    spots: &Spots,
+    rests: &mut Rests,
     state: u32,
 ) -> Result<Option<FailureCandidate>, Memory>
     requires classes { AreTokenClasses table.now classes.now }
-    requires assignments { HasAssignments table.now found.now arrivals.now.spots }
-    requires arrivals { CostsAreCapped arrivals.now.spots }
+    requires arrivals { CostsAreCapped spots.now.spots }
+    requires sentences { AreKnownSentences spots.now.book spots.now.spots }
     requires state { state < length table.now.states }
-    ensures { IfOk result (IsBestBelow table.now classes.now found.now.store arrivals.now.spots state table.now.grammar.tokens) }
+    ensures { IfOk result (IsBestBelow table.now classes.now spots.now.book spots.now.spots state table.now.grammar.tokens) }
 {
     let mut best = None;
     for token in 0..table.tokens() {
-        let more = best_on(table, classes, arrivals, state, token);
-        best = first_of(alloc, table, found, arrivals, best, more)?;
+        let more = best_on(table, classes, spots, state, token);
+        best = first_of(spots, rests, best, more)?;
     }
     Ok(best)
 }
@@ -137,58 +152,48 @@ fn all_best(
     alloc: Global,
     table: &Table,
     classes: &TokenClasses,
-    found: &SearchResult,
-    arrivals: &Arrivals,
+    spots: &Spots,
 ) -> Result<Vec<Option<FailureCandidate>>, Memory>
     requires classes { AreTokenClasses table.now classes.now }
-    requires assignments { HasAssignments table.now found.now arrivals.now.spots }
-    requires arrivals { CostsAreCapped arrivals.now.spots }
-    ensures { IfOk result (λ best. AreBest table.now classes.now found.now.store arrivals.now.spots (length table.now.states) best.items) }
+    requires arrivals { CostsAreCapped spots.now.spots }
+    requires sentences { AreKnownSentences spots.now.book spots.now.spots }
+    ensures { IfOk result (λ best. AreBest table.now classes.now spots.now.book spots.now.spots (length table.now.states) best.items) }
 {
+    let mut rests = no_rests(alloc);
     let mut all = Vec::new(alloc);
     for state in 0..table.states() {
-        let best = best_of(alloc, table, classes, found, arrivals, state)?;
+        let best = best_of(table, classes, spots, &mut rests, state)?;
         all.push(best)?;
     }
     Ok(all)
 }
 
-/// Returns the store of the first search and drops the rest of its result.
-fn store_of(found: SearchResult) -> FactStore
-    ensures { result ≡ found.store }
-{
-    found.store
-}
-
-/// Chooses the best candidates, and keeps the classes and the parts of both results that spell sentences. Fails for
-/// want of memory alone.
+/// Chooses the best candidates, and keeps the classes and the arrivals, which spell sentences. Fails for want of memory
+/// alone.
 pub(crate) fn reach_by<'t>(
     alloc: Global,
     table: &'t Halting,
     classes: TokenClasses,
-    found: SearchResult,
-    arrivals: Arrivals,
+    spots: Spots,
 ) -> Result<Reach<'t>, Memory>
     requires classes { AreTokenClasses table.now classes }
-    requires arrivals { AreLeastArrivalsFor table.now classes found arrivals.spots }
+    requires arrivals { AreLeastArrivals table.now classes spots }
     ensures { IfOk result (λ reach. reach ≡ table.now) }
 {
     let inner = table.table();
     inner.facts();
-    match all_best(alloc, inner, &classes, &found, &arrivals) {
+    match all_best(alloc, inner, &classes, &spots) {
         Ok(best) => Ok(Reach {
             table,
             classes,
-            store: store_of(found),
-            arrivals,
+            spots,
             best,
         }),
         Err(memory) => {
             // Each value is dropped by one call: at the end of a scope its fields would be dropped one by one, which
             // takes long to prove.
             drop(classes);
-            drop(found);
-            drop(arrivals);
+            drop(spots);
             Err(memory)
         }
     }

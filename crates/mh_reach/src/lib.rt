@@ -12,20 +12,20 @@
 //!
 //! 1. `mh_reach_classes`: in each state, the tokens that all reductions leading to the state treat alike form a class.
 //!    Both searches use one token of each class, its representative.
-//! 2. `mh_reach_paths`: the first search settles (finds for good), for each path with its first and next tokens, a word
-//!    of least cost, and of these the lexicographically first. It begins with the empty paths. A path becomes longer by
-//!    a shift of the symbol after it, or by a goto fact for that symbol. The queue is ordered by cost, and the facts of
-//!    one cost are sorted by their words, which have numbers (`mh_reach_words`); so the first fact that is taken for a
-//!    key is kept. All costs above 1,000,000 count as 1,000,001, and words of this cost are not compared.
-//! 3. `mh_reach_arrivals`: the second search settles, for each state with a next token, the least sentence with which a
+//! 2. `mh_reach_rests`: the first search settles (finds for good), for each goto fact with its first and next tokens, a
+//!    word of least cost, and of these the lexicographically first. It goes from the ends of right sides to their
+//!    beginnings: a rest of a path becomes longer by a shift of the symbol before it, or by a goto fact for that
+//!    symbol. The queue is ordered by cost, and the words of one cost are sorted and numbered (`mh_reach_words`); so
+//!    the first word that is taken is kept. All costs above 1,000,000 count as 1,000,001, and words of this cost are
+//!    not compared.
+//! 3. `mh_reach_spots`: the second search settles, for each state with a next token, the least sentence with which a
 //!    run reaches the state. A state with a next token and this sentence is an *arrival*. The search begins in the
 //!    states of the starts and continues by shifts and by the goto facts of the first search, again by cost and then by
-//!    sentence.
+//!    sentence. Sentences are numbered as the words are.
 //! 4. `candidates`: a state that refuses a token and is reached with this token next has a candidate, which is the
 //!    sentence of the arrival and the token. The least candidate of all tokens is kept.
-//! 5. `sentences`: the sentence of an arrival is also the first that comes to its state with its token next.
-//! 6. `sentences`, `spell`: the sentence is spelled backwards, from each arrival and fact to those that it was derived
-//!    from.
+//! 5. `sentences`: the sentence of an arrival is also the first that comes to its state with its token next. A sentence
+//!    is spelled by its number.
 //!
 //! The result is complete because both searches are closed under the rules: for each sentence that the rules refuse in
 //! a state there is a candidate that comes no later, or both cost more than 1,000,000. The law
@@ -38,7 +38,6 @@ mod candidates;
 mod laws;
 mod searches;
 mod sentences;
-mod spell;
 
 pub use laws::comings_are_reached;
 pub use searches::reach;

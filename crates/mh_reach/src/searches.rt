@@ -1,31 +1,25 @@
 //! Both searches of a table, one after the other.
 ghost use Rattle.std.specs.Prelude.{◌≡◌, IfOk};
 ghost use Rattle.mh_facts.specs.code.TokenClasses.{AreTokenClasses};
-ghost use Rattle.mh_reach_found.specs.code.Arrivals.{AreLeastArrivalsFor};
+ghost use Rattle.mh_reach_spots.specs.code.Spots.{AreLeastArrivals};
 
 use crate::candidates::reach_by;
 use crate::sentences::Reach;
 use mh_facts::TokenClasses;
 use mh_grammar::Memory;
-use mh_reach_arrivals::arrive::arrive;
 use mh_reach_classes::classes_of;
-use mh_reach_found::{Arrivals, SearchResult};
-use mh_reach_paths::search;
+use mh_reach_rests::search;
+use mh_reach_spots::{Spots, arrive};
 use mh_tables_core::{Halting, Table};
 use std::alloc::Global;
 
 /// Runs both searches of a table with the given token classes.
-fn searched(
-    alloc: Global,
-    table: &Table,
-    classes: &TokenClasses,
-) -> Result<(SearchResult, Arrivals), Memory>
+fn searched(alloc: Global, table: &Table, classes: &TokenClasses) -> Result<Spots, Memory>
     requires { AreTokenClasses table.now classes.now }
-    ensures { IfOk result (λ r. AreLeastArrivalsFor table.now classes.now r.0 r.1.spots) }
+    ensures { IfOk result (AreLeastArrivals table.now classes.now) }
 {
     let found = search(alloc, table, classes)?;
-    let arrivals = arrive(alloc, table, classes, &found)?;
-    Ok((found, arrivals))
+    arrive(alloc, table, classes, found)
 }
 
 /// Finds, for each state of a table, whether a sentence fails there, and the first sentence that does; and for each
@@ -38,7 +32,7 @@ pub fn reach<'t>(alloc: Global, table: &'t Halting) -> Result<Reach<'t>, Memory>
     let inner = table.table();
     let classes = classes_of(alloc, inner)?;
     match searched(alloc, inner, &classes) {
-        Ok((found, arrivals)) => reach_by(alloc, table, classes, found, arrivals),
+        Ok(spots) => reach_by(alloc, table, classes, spots),
         Err(memory) => {
             drop(classes);
             Err(memory)

@@ -1,27 +1,29 @@
 //! The least cost of a sentence that fails in a state, and the first sentence of that cost; the same for the sentences
 //! that come to a state with a given token next. A spot is a state with a next token.
-ghost use Rattle.std.specs.Prelude.{◌≡◌, ◌<◌, IfOk, length};
+ghost use Rattle.std.specs.Prelude.{◌≡◌, ◌<◌, ◌++◌, IfOk, OnOk, length};
 ghost use Rattle.mh_tables_core.specs.Failing.{FailsFirst, FailsWithinMaxCost};
 ghost use Rattle.mh_reach.specs.Coming.{FirstComing, ComesWithinMaxCost};
 ghost use Rattle.mh_facts.specs.code.TokenClasses.{IsSized};
-ghost use Rattle.mh_reach.specs.code.Candidates.{spot_of};
-ghost use Rattle.mh_reach.specs.code.Spelling.{HasLabel, WritesSentence};
+ghost use Rattle.mh_facts.specs.code.WordAssignment.{listed};
+ghost use Rattle.mh_reach.specs.code.Candidates.{HasSentence, IsSentence, spot_of};
 ghost use Rattle.mh_reach.specs.Reaching.{LeastCost, LeastCostTo};
 
-use crate::spell::spell;
-use mh_facts::{FactStore, TokenClasses, class_of};
+use mh_facts::{TokenClasses, class_of};
 use mh_grammar::{Memory, Sentence, Sequence, Token};
-use mh_reach_found::{ArrivalStep, Arrivals, StateAndNext, arrival_of};
+use mh_reach_found::StateAndNext;
+use mh_reach_spots::{Spots, arrival_at};
+use mh_reach_words::Book;
 use mh_tables_core::{Halting, Table};
 use std::alloc::Global;
 use std::marker::Model;
 
-/// A candidate for the sentence of a state: a spot that is reached, the token that is refused there, and the cost of
-/// the sentence with this token, up to the highest cost.
+/// A candidate for the sentence of a state: the number of the sentence that reaches the state, the token that is
+/// refused there, and the cost of the sentence with this token, up to the highest cost. The number of a sentence of the
+/// highest cost has no meaning.
 #[derive(Clone, Copy, Drop)]
 pub struct FailureCandidate {
     pub cost: u32,
-    pub spot: StateAndNext,
+    pub sentence: usize,
     pub token: Token,
 }
 
@@ -31,8 +33,7 @@ pub struct FailureCandidate {
 pub struct Reach<'t> {
     pub(crate) table: &'t Halting,
     pub(crate) classes: TokenClasses,
-    pub(crate) store: FactStore,
-    pub(crate) arrivals: Arrivals,
+    pub(crate) spots: Spots,
     pub(crate) best: Vec<Option<FailureCandidate>>,
 }
 
@@ -44,38 +45,37 @@ impl<'t> Model for Reach<'t> {
 
     ghost view = { λ r. r.table.now };
 
-    ghost invariant = { λ r. IsReachResult r.table.now r.classes r.store r.arrivals.spots r.best.items };
+    ghost invariant = { λ r. IsReachResult r.table.now r.classes r.spots r.best.items };
 }
 
-/// Appends the tokens of a spot's sentence to `backwards`, from the last to the first. Returns the number of its start.
-fn walk(
-    alloc: Global,
-    table: &Table,
-    store: &FactStore,
-    arrivals: &Arrivals,
-    spot: StateAndNext,
-    backwards: &mut Vec<Token>,
-) -> Result<u16, Memory>
-    requires { HasLabel table.now store.now arrivals.now.spots spot }
-    ensures { IfOk result (λ start. WritesSentence table.now store.now arrivals.now.spots spot start backwards.old.items backwards.new.items) }
+/// Appends a token, if there is one.
+fn push_last(tokens: &mut Vec<Token>, last: Option<Token>) -> Result<(), Memory>
+    ensures { OnOk result (tokens.new.items ≡ tokens.old.items ++ listed last) }
 {
-    let mut spot = spot;
-    'spots: loop {
-        match arrival_of(arrivals, spot) {
-            None => unreachable!(),
-            Some(arrival) => match arrival.step {
-                ArrivalStep::Begin(start) => return Ok(start),
-                ArrivalStep::Shift { from, token } => {
-                    backwards.push(token)?;
-                    spot = from;
-                }
-                ArrivalStep::Goto { from, inner } => {
-                    spell(alloc, table, store, inner, backwards)?;
-                    spot = from;
-                }
-            },
-        }
+    if let Some(token) = last {
+        tokens.push(token)?;
     }
+    Ok(())
+}
+
+/// The sentence of a number of the book, with one more token if one is given. The first number of the sentence's word
+/// is the start.
+fn sentence_at(
+    alloc: Global,
+    book: &Book,
+    number: usize,
+    last: Option<Token>,
+) -> Result<Sentence, Memory>
+    requires { HasSentence book.now number }
+    ensures { IfOk result (IsSentence book.now number last) }
+{
+    let mut tokens = book.spell(alloc, number)?;
+    let start = tokens.remove(0);
+    push_last(&mut tokens, last)?;
+    Ok(Sentence {
+        start,
+        tokens: Sequence::from_vec(tokens),
+    })
 }
 
 /// The spot of a state with a token next, by the representative of the token.
@@ -120,24 +120,7 @@ impl<'t> Reach<'t> {
     {
         match self.best[state as usize] {
             None => unreachable!(),
-            Some(best) => {
-                let mut backwards = Vec::new(alloc);
-                backwards.push(best.token)?;
-                let table = self.table.table();
-                let start = walk(
-                    alloc,
-                    table,
-                    &self.store,
-                    &self.arrivals,
-                    best.spot,
-                    &mut backwards,
-                )?;
-                backwards.reverse();
-                Ok(Sentence {
-                    start,
-                    tokens: Sequence::from_vec(backwards),
-                })
-            }
+            Some(best) => { sentence_at(alloc, &self.spots.book, best.sentence, Some(best.token)) }
         }
     }
 
@@ -150,7 +133,7 @@ impl<'t> Reach<'t> {
     {
         let table = self.table.table();
         let spot = spot_of(table, &self.classes, state, token);
-        match arrival_of(&self.arrivals, spot) {
+        match arrival_at(&self.spots, spot) {
             None => None,
             Some(arrival) => Some(arrival.cost),
         }
@@ -167,19 +150,9 @@ impl<'t> Reach<'t> {
     {
         let table = self.table.table();
         let spot = spot_of(table, &self.classes, state, token);
-        let mut backwards = Vec::new(alloc);
-        let start = walk(
-            alloc,
-            table,
-            &self.store,
-            &self.arrivals,
-            spot,
-            &mut backwards,
-        )?;
-        backwards.reverse();
-        Ok(Sentence {
-            start,
-            tokens: Sequence::from_vec(backwards),
-        })
+        match arrival_at(&self.spots, spot) {
+            None => unreachable!(),
+            Some(arrival) => sentence_at(alloc, &self.spots.book, arrival.sentence, None),
+        }
     }
 }

@@ -50,7 +50,8 @@ module _ (z : ℕ) (given : List ℕ) (row : List TokenClass) (list : List ℕ) 
     | inr is ↦ rw is.1 (one.nothing none ∙ sym h.len ∙ sym is.0)
   ]
 
-  -- The row with one more token, which represents its own class.
+  -- The row stays right with one more token that represents its own class, if this token is appended to the list of
+  -- representatives.
   pub row_lists : k.representative ≡ z → IsClassRow (z + 1) given (row ++ k ∷ []) (list ++ z ∷ []) new
   row_lists own = record {
     len = long_more;

@@ -1,6 +1,4 @@
-pub mod QueueDraws
-pub mod SearchResult
-pub mod WordNumbers
-pub mod WordComparison
-pub mod SentenceComparison
 pub mod Arrivals
+pub mod QueueDraws
+pub mod SentenceComparison
+pub mod WordNumbers

@@ -1,18 +1,9 @@
-//! The result of the first search, and the comparison of the words of settled facts.
-//!
-//! Also the arrivals of the second search: how each state is reached with each next token, and the comparison of the
-//! sentences of arrivals.
+//! What the two searches of `mh_reach` share: spots, which are states with a next token; items that are taken from a
+//! queue; the order of sentences; and the numbers of words.
 #![tactic(auto)]
 
 mod arrivals;
-mod comparing;
 mod numbers;
-mod search_result;
-mod word_comparison;
 
-pub use arrivals::{
-    Arrival, ArrivalStep, Arrivals, StateAndNext, arrival_of, arrive_at, no_arrivals,
-};
-pub use comparing::comes_later;
-pub use numbers::{EMPTY, WordNumbering, number_of, token_before};
-pub use search_result::SearchResult;
+pub use arrivals::StateAndNext;
+pub use numbers::{EMPTY, token_before};

@@ -1,8 +1,9 @@
 mod NumberAll
 mod IsNumberedUpTo
-mod LongerBook
+pub mod LongerBook
 pub mod MergeSort
 mod PartStacks
 mod PutsRun
 mod IsComparisonStep
 pub mod ComparisonOrder
+mod WritesPart

@@ -1,12 +1,16 @@
 //! The book of the words that a search has found, by their numbers.
-ghost use Rattle.std.specs.Prelude.{◌≡◌, [], ◌∷◌, IfOk, OnErr};
+ghost use Rattle.std.specs.Prelude.{◌≡◌, ◌<◌, [], ◌∷◌, IfOk, OnErr, length};
+ghost use Rattle.mh_reach_words.specs.code.Comparison.{IsComparison};
 ghost use Rattle.mh_reach_words.specs.code.Numbering.{AreBelowGroup, ArePrefixFree, AreKnown, IsNumberingOf};
-ghost use Rattle.mh_reach_words.specs.code.Words.{IsBook, empty_word};
+ghost use Rattle.mh_reach_words.specs.code.Words.{HasParts, IsBook, empty_word, letters_of, spelled};
 
+use crate::comparing::{Rests, compare};
 use crate::numbering::number_words;
 use crate::word_parts::{WordEntry, WordParts};
-use mh_grammar::Memory;
+use crate::writing::spell;
+use mh_grammar::{Memory, Token};
 use std::alloc::Global;
+use std::cmp::Ordering;
 use std::marker::Model;
 
 /// Distinct words in groups, by their numbers. The empty word has the number 0 and the group 0. Groups rise with the
@@ -61,5 +65,28 @@ impl Book {
         let numbered = number_words(alloc, self.entries.as_slice(), group, made)?;
         self.entries.extend_from_slice(numbered.entries.as_slice())?;
         Ok(numbered.numbers)
+    }
+
+    /// Compares two words by their parts lexicographically. The stacks are scratch space. Fails for want of memory
+    /// alone.
+    pub fn compare(
+        &self,
+        rests: &mut Rests,
+        left: WordParts,
+        right: WordParts,
+    ) -> Result<Ordering, Memory>
+        requires left { HasParts self.now left }
+        requires right { HasParts self.now right }
+        ensures { IfOk result (IsComparison (spelled self.now left) (spelled self.now right)) }
+    {
+        compare(self.entries.as_slice(), rests, left, right)
+    }
+
+    /// The tokens of the word of a number. Fails for want of memory alone.
+    pub fn spell(&self, alloc: Global, number: usize) -> Result<Vec<Token>, Memory>
+        requires { number < length self.now }
+        ensures { IfOk result (λ letters. letters.items ≡ letters_of self.now number) }
+    {
+        spell(alloc, self.entries.as_slice(), number)
     }
 }

@@ -63,7 +63,11 @@ fn group_at(entries: &[WordEntry], number: usize) -> u32
 }
 
 /// Pushes the parts of the word of a number; the empty word has none.
-fn open(entries: &[WordEntry], parts: &mut Vec<LastPart>, number: usize) -> Result<(), Memory>
+pub(crate) fn open(
+    entries: &[WordEntry],
+    parts: &mut Vec<LastPart>,
+    number: usize,
+) -> Result<(), Memory>
     requires sound { AreSoundEntries entries.now }
     requires known { number < length (words_of entries.now) }
     ensures { OnOk result (ReplacesByParts (words_of entries.now) number parts.old.items parts.new.items) }
@@ -242,7 +246,7 @@ fn turn(
 }
 
 /// Takes the top part off a stack, if there is one.
-fn take_top(parts: &mut Vec<LastPart>) -> Option<LastPart>
+pub(crate) fn take_top(parts: &mut Vec<LastPart>) -> Option<LastPart>
     ensures { TakesTop parts.old.items parts.new.items result }
 {
     parts.pop()

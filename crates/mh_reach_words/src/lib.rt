@@ -8,7 +8,9 @@ mod numbering;
 mod sorting;
 mod spelling;
 mod word_parts;
+mod writing;
 
 pub use book::Book;
+pub use comparing::{Rests, no_rests};
 pub use sorting::{Order, sorted};
 pub use word_parts::{LastPart, WordParts};

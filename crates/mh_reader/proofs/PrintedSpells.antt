@@ -257,7 +257,7 @@ printable_mixed (t ∷ ts) us n h k =
     let later = printable_mixed ts us n h.1 k in
     record { texts = (h.0.0, later.texts); count = ap (λ m. m + count_of_percents (ts ++ us)) (percents_in_plain t.0 h.0.1) ∙ (omega (arith, later.count)) }
 
--- The lexemes of a token with its cost.
+-- The pieces of a token, of its alias and of its cost are lexemes.
 alias_texts : (o : Option (List ℕ)) → FitsContent o → (us : List Piece) (n : ℕ) → Mixed n us → Mixed n (alias_pieces o ++ us)
 alias_texts o h us n k = printable_mixed (alias_pieces o) us n (alias_printable o h) k
 

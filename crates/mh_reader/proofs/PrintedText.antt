@@ -15,7 +15,7 @@ laid_out_append (t ∷ ts) us = ap (λ k. t.1 ++ 32 ∷ k) (laid_out_append ts u
 pub Writes-append : (ts us : List Piece) (old mid new : List ℕ) → Writes old mid ts → Writes mid new us → Writes old new (ts ++ us)
 Writes-append ts us old mid new e f = f ∙ ap (λ k. k ++ laid_out us) e ∙ append_assoc old (laid_out ts) (laid_out us) ∙ ap (λ k. old ++ k) (sym (laid_out_append ts us))
 
--- The invariant of a loop that writes a list, after one more item.
+-- The invariant of a loop that writes a list still holds after one more item is written.
 pub Writes-one_more : {X : Type 0} (whole : List X → List Piece) (pieces : X → List Piece) (step : (x : X) (xs : List X) → whole (x ∷ xs) ≡ pieces x ++ whole xs) →
     (xs : List X) (i : ℕ) (x : X) (all now next : List ℕ) → i < length xs → x ≡ get_or xs i x →
     now ++ laid_out (whole (drop i xs)) ≡ all → Writes now next (pieces x) → next ++ laid_out (whole (drop (i + 1) xs)) ≡ all

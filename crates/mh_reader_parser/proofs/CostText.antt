@@ -37,7 +37,7 @@ front_all p (b ∷ bs) = by (p b) refl (front_all p bs)
     by true e h = subst (λ k. AllOf p (take k (b ∷ bs))) (sym (one-add (prefix_len p bs))) (e, h)
     by false e h = tt
 
--- The longest prefix of bytes that the predicate accepts, and the bytes after it.
+-- If the predicate accepts the bytes and not the first byte after them, the bytes are the longest accepted prefix.
 drop_prefix_len : (p : ℕ → Bool) (bs rest : List ℕ) → AllOf p bs → prefix_len p rest ≡ 0 → drop (prefix_len p (bs ++ rest)) (bs ++ rest) ≡ rest
 drop_prefix_len p bs rest h e = ap (λ n. drop n (bs ++ rest)) (front-append p bs rest h e) ∙ drop-append_seam bs rest
 
@@ -126,7 +126,7 @@ pub cost_of_text : (t : List ℕ) (n : ℕ) → IsCostText t n → cost_of t ≡
 unfolding cost_of
 cost_of_text t n h = subst (λ l. cost_of l ≡ Some n) (sym h.text_is) (spaced_again n h.before h.after h.some h.least h.most h.blanks_before h.blanks_after)
 
--- The cost of a printed cost attribute.
+-- The cost that is read in a printed cost attribute is the printed number.
 pub cost_printed : (n : ℕ) → IsCost n → cost_of (codes "[@cost " ++ (decimal n ++ 93 ∷ [])) ≡ Some n
 cost_printed n h = cost_of_text (codes "[@cost " ++ (decimal n ++ 93 ∷ [])) n (record {
   before = 32 ∷ [];

@@ -362,7 +362,7 @@ parameter_step : (m : Module) (x : FileToken) → x.sign ≡ signs.TypeText → 
 unfolding next_at
 parameter_step m x e = rw e refl
 
--- A list of actuals, and the lexeme after it.
+-- The parser reads a list of actuals and closes the list at the next lexeme.
 again-actuals : {xs rest : List FileToken} {ks : List Actual} → ListOf Actual LimitedActual [] xs rest ks → IsHead may_follow_list rest → (m : Module) (b : Bool) →
     run (at m (places.Items (lists.Actuals b []))) xs ≡ run (at (close m (lists.Actuals b ks)) places.Declarations) rest
 again-actuals {rest = rest} {ks = ks} t h m b =

@@ -279,7 +279,8 @@ pub step_shallow : (o : Option TokenKind) (text : List ℕ) (c : Option ℕ) (s 
 step_shallow None text c s t h e = let same : parser_with_cost c s ≡ t = cc in subst (λ u. IsStateShallow u.place) same (costed_shallow c s.place h)
 step_shallow (Some g) text c s t h e = safe_some (next_at s.made s.place g text) t e (next_at_shallow s.place s.made g text h)
 
--- The parser continues by one lexeme.
+-- If the parser has read the lexemes before, and a step by the next lexeme leads to the state t, the parser has read
+-- this lexeme too.
 pub HasReadTokens-step : (bytes : List ℕ) (before : List Lexeme) (l : Lexeme) (s t : Parser) → HasReadTokens (file_tokens bytes before) s →
     step_by_lexeme s (token_kind_by l.kind (bytes_of bytes l)) (text_by l.kind (bytes_of bytes l)) (cost_of (bytes_of bytes l)) ≡ Some t → HasReadTokens (file_tokens bytes (before ++ l ∷ [])) t
 HasReadTokens-step bytes before l s t h e =
@@ -360,7 +361,8 @@ pub spelled_if_file : (bytes : List ℕ) (ls : List Lexeme) (r : Result Module S
 spelled_if_file bytes ls (Ok m) lx f = (ls, lx, f)
 spelled_if_file bytes ls (Err e) lx f = f
 
--- The fault of the lexemes, with the line of its position.
+-- A fault that reports the place of an unexpected lexeme reports, with the line of this place, the line of the syntax
+-- fault.
 pub syntax_line_of_fault : LexedOnce → (bytes : List ℕ) (ls : List Lexeme) (fault : PlacedFault) → Lexes bytes ls None → ReportsUnexpectedPlace bytes ls (Err fault) → ReportsSyntaxLine bytes (Err (line_fault bytes fault))
 syntax_line_of_fault once bytes ls placed.Memory lx h = tt
 syntax_line_of_fault once bytes ls (placed.Syntax place) lx (halt, never) =

@@ -108,8 +108,8 @@ fn take_lexeme(
     }
 }
 
-/// The module that the lexemes spell, or the position of the first lexeme with which no file can continue; the end of the
-/// file if the file ends too early.
+/// The module that the lexemes spell, or the position of the first lexeme with which no file can continue; the end of
+/// the file if the file ends too early.
 pub fn read_lexemes(alloc: Global, bytes: &[u8], lexemes: &[Lexeme]) -> Result<Module, PlacedFault>
     requires short { length bytes.now < 2 ^ 31 }
     requires within { All (IsLexemeWithin (length bytes.now)) lexemes.now }

@@ -29,7 +29,7 @@ use Rattle.mh_reader_places.proofs.ScanSteps.{one_less_is}
 abbrev at : Section → Scan → ℕ → ℕ → Scan
 at section c actuals brackets = record c { section = section; actuals = actuals; brackets = brackets }
 
--- A step of the walk.
+-- The walk over a lexeme and a rest is the walk over the rest, after the step for the token kind of the lexeme.
 walk-sign : (s : Scan) (found : List Named) (x : FileToken) (xs : List FileToken) (g : TokenKind) → x.sign ≡ g →
     walk s found (x ∷ xs) ≡ walk (taken s g) (names_after (named (x ∷ xs)) s g x.text found) xs
 walk-sign s found x xs g e = ap (λ k. walk (taken s k) (names_after (named (x ∷ xs)) s k x.text found) xs) e
@@ -118,7 +118,8 @@ mutual
       ∙ walk-args args listed c n br (found ++ one ∷ [])
       ∙ walk-names (now listed c n br) ((found ++ one ∷ []) ++ in_args (role listed c n) args) (found ++ (one ∷ in_args (role listed c n) args)) rest (append_assoc found (one ∷ []) (in_args (role listed c n) args))
 
-  -- The arguments after an opening bracket, with the bracket that closes them.
+  -- The walk over the arguments after an opening bracket, up to the bracket that closes them, finds the names in the
+  -- arguments.
   walk-args : {done ks : List Actual} {m d : ℕ} {xs rest : List FileToken} (t : Args done m xs rest ks d) (listed : Bool) (c : Scan) (ac br : ℕ) (found : List Named) →
       walk (now listed c ac (suc br)) found xs ≡ walk (now listed c ac br) (found ++ in_args (role listed c ac) t) rest
   walk-args (spelling.Args.last {y = y} {rest = rest} one close) listed c ac br found =
@@ -307,7 +308,7 @@ without_name-keyword : (g : TokenKind) (found : List Named) → may_follow_list 
 without_name-keyword signs.Equals found e = cc
 without_name-keyword _ found e = refl
 
--- A keyword of a declaration, or the `%%` after the declarations.
+-- The walk over a keyword of a declaration, or over the `%%` after the declarations, finds no name.
 walk-keyword : (section : Section) (c : Scan) (ac : ℕ) (found : List Named) (x : FileToken) (xs : List FileToken) (g : TokenKind) → is_declaring section ≡ true → may_follow_list g ≡ true → x.sign ≡ g →
     walk (at section c ac 0) found (x ∷ xs) ≡ walk (declared (at section c ac 0) g) found xs
 walk-keyword section c ac found x xs g d f e =
@@ -524,7 +525,7 @@ with_group c group n = record c { alternatives = n; group = group }
 length_group : (done ks : List Alternative) (p : Option Ref) (b n : ℕ) → n ≡ b + length done → n + length ks ≡ b + length (done ++ map (with_prec p) ks)
 length_group done ks p b n e = omega (arith, length-append done (map (with_prec p) ks), length-map ks (with_prec p))
 
--- The groups of a rule, of which the first begins with alternative n.
+-- The walk over the groups of a rule, of which the first begins with alternative n, finds the names in the groups.
 walk-groups : {done all : List Alternative} {xs rest : List FileToken} (t : Groups done xs rest all) (c : Scan) (b n : ℕ) (found : List Named) → n ≡ b + length done →
     (group : ℕ) × (walk (at sections.Body (with_group c n n) 0 0) found xs ≡ walk (at sections.Group (with_group c group (b + length all)) 0 0) (found ++ in_groups n t) rest)
 walk-groups (spelling.Groups.last {done = done} {ks = ks} {rest = rest} {g = g} productions prec) c b n found e =
@@ -671,6 +672,6 @@ walk-file (spelling.File.declared declaration more) section ac found d =
 walk-file (spelling.File.ruled {m = m} {x = x} {xs = xs} is rules) section ac found d =
     walk-keyword section (counts_of m) ac found x xs signs.Percents d refl is ∙ walk-rules rules false (counts_of m) ac found
 
--- The walk from the beginning of a file.
+-- The walk from the beginning of a file finds the names of the file.
 pub walk-in_file : {out : Module} {xs : List FileToken} (t : File no_module xs out) → walk start [] xs ≡ in_file t
 walk-in_file t = walk-file t sections.Unread 0 [] refl

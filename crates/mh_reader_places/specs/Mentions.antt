@@ -1,6 +1,6 @@
--- The names and strings of a grammar file in the order of the text, with their roles. Each is read off the derivation of
--- the file in the grammar of grammar files (Menhir manual, syntax of grammars; the choice is a rule of this project). A
--- lexeme is given by the number of lexemes from it to the end of the file, its own included.
+-- The names and strings of a grammar file in the order of the text, with their roles. Each is read off the derivation
+-- of the file in the grammar of grammar files (Menhir manual, syntax of grammars; the choice is a rule of this
+-- project). A lexeme is given by the number of lexemes from it to the end of the file, its own included.
 use Rattle.std.specs.Prelude.{◌+◌, ◌-◌, ℕ, suc, List, [], ◌∷◌, ◌++◌, length, Option}
 use Rattle.mh_rules.specs.declared.modules.Actual.{Actual}
 use Rattle.mh_rules.specs.declared.modules.Alternative.{Alternative}

@@ -1,8 +1,8 @@
 //! The types of mentions.
 use mh_rules::Ref;
 
-/// What a name or string of a file is there for. Declarations, items of lists, alternatives and producers are counted from
-/// 0; alternatives among all of the file, declarations among those of their kind in the file.
+/// What a name or string of a file is there for. Declarations, items of lists, alternatives and producers are counted
+/// from 0; alternatives among all of the file, declarations among those of their kind in the file.
 #[derive(Clone, Copy, Drop, PartialEq, Eq)]
 pub enum Role {
     /// The name of a declared token.
@@ -24,8 +24,8 @@ pub enum Role {
     Head { alternative: u64, producer: u64 },
     /// The name or string after the `%prec` of an alternative.
     Prec { alternative: u64 },
-    /// The name or string after the `%prec` of a group, which is that of each alternative of the group, from the first to
-    /// the last, that has none of its own.
+    /// The name or string after the `%prec` of a group, which is that of each alternative of the group, from the first
+    /// to the last, that has none of its own.
     GroupPrec { first: u64, last: u64 },
 }
 

@@ -91,8 +91,8 @@ fn drop_last(mentions: &mut Vec<Mention>)
     drop(mentions.pop());
 }
 
-/// Removes the last mention if this lexeme is an equals sign: the name before the sign is that of a producer, which is no
-/// part of the module.
+/// Removes the last mention if this lexeme is an equals sign: the name before the sign is that of a producer, which is
+/// no part of the module.
 fn remove_name(mentions: &mut Vec<Mention>, sign: TokenKind)
     ensures { mentions.new.items ≡ steps.without_name sign mentions.old.items }
 {
@@ -235,8 +235,8 @@ fn read_lexed(alloc: Global, bytes: &[u8], lexemes: &[Lexeme]) -> Result<PlacedM
 ///
 /// # Errors
 ///
-/// `Syntax` exactly if the bytes spell no module, with the position of the fault; `read_module` reports its line. `Memory`
-/// if memory ran out.
+/// `Syntax` exactly if the bytes spell no module, with the position of the fault; `read_module` reports its line.
+/// `Memory` if memory ran out.
 pub fn read_placed(alloc: Global, bytes: &[u8]) -> Result<PlacedModule, PlacedFault>
     requires { length bytes.now < 2 ^ 31 }
     ensures spelled { IfOk result (λ placed. Spells bytes.now placed.module) }

@@ -1,5 +1,5 @@
-//! The walk over the lexemes of a file that spells a module. Because the file is well formed, the section of the file that
-//! a lexeme continues, and few counts, give its role.
+//! The walk over the lexemes of a file that spells a module. Because the file is well formed, the section of the file
+//! that a lexeme continues, and few counts, give its role.
 ghost use Rattle.std.specs.Prelude.{◌≡◌, ◌<◌, ◌-◌, ◌^◌};
 ghost use Rattle.mh_reader_places.specs.code.ScanSteps as steps;
 ghost use Rattle.mh_reader_places.specs.code.ScanSteps.{HasRoom};

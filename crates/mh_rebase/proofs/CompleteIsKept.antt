@@ -17,7 +17,7 @@ use Rattle.mh_msgfile.specs.FileTexts.{HasReadableNames, content_of, entry_conte
 use Rattle.mh_msgfile.specs.declared.loose.LooseFile.{LooseFile}
 use Rattle.mh_msgfile.specs.declared.messages.MsgSentence.{MsgSentence}
 use Rattle.mh_msgfile.specs.declared.messages.MsgFile.{MsgFile}
-use Rattle.mh_msgfile.proofs.PrintedAgain.{texts_of, blank_text, is_kept_text, texts_of_blocks, all_filter, all_runs, Right, right_from, contents, contents_of, content_entries, AreGood}
+use Rattle.mh_msgfile.proofs.PrintedAgain.{texts_of, blank_text, is_kept_text, texts_of_blocks, all_filter, all_runs, AreFaultless, right_from, contents, contents_of, content_entries, AreGood}
 use Rattle.mh_msgfile.proofs.WrittenEntries.{loose_content, pairs, loose_pairs}
 use Rattle.mh_msgfile.proofs.LineEnds.{with_ends, lines_end}
 use Rattle.mh_msgfile.proofs.AreLines.{lines_once}
@@ -82,7 +82,7 @@ module _ (t : TableData) where
 -- ---- The entries of a file.
 
 module _ (expected : Bool) (g : Grammar) (a : Automaton) (t : TableData) (has : HasReadableNames g) where
-  blocks_read : (es : List DecidedEntry) (bs : List (List Text)) → map loose_content (map without_decisions es) ≡ pairs g has bs → Right g bs → AllByRecursion (λ (run : List Text). has_items run ≡ true) bs → AllZip (ReadsAs expected g a t) es (contents g bs)
+  blocks_read : (es : List DecidedEntry) (bs : List (List Text)) → map loose_content (map without_decisions es) ≡ pairs g has bs → AreFaultless g bs → AllByRecursion (λ (run : List Text). has_items run ≡ true) bs → AllZip (ReadsAs expected g a t) es (contents g bs)
   blocks_read [] [] is right some = tt
   blocks_read [] (block ∷ []) is right some = absurd right
   blocks_read [] (block ∷ message ∷ rest) is right some = absurd (cc)

@@ -35,7 +35,8 @@ use Rattle.mh_rebase.specs.code.Parts.{AreKeptLines, IsExpectedPart, WritesKeptS
 use Rattle.mh_rebase.specs.declared.entries.Parts.{Parts}
 use Rattle.mh_rebase.proofs.AreKeptLines.{places_drop, places_keep}
 
--- Comment lines, with the line of the expected tokens if it is asked for.
+-- The comment lines, and the line of the expected tokens if this line is asked for, are the comment block of the
+-- sentence.
 with_more : (expected : Bool) (g : Grammar) (a : Automaton) (t : TableData) (x : Sentence) (lines more : Text) → IsCommentText g a t x.start x.tokens lines → IsExpectedPart expected g t x more → IsCommentBlock expected g a t x.start x.tokens (lines ++ more)
 with_more false g a t x lines more is none = subst (IsCommentText g a t x.start x.tokens) (sym (append-nil lines) ∙ ap (λ (l : Text). lines ++ l) (sym none)) is
 with_more true g a t x lines more is (tokens, are, same) = (lines, is, tokens, are, ap (λ (l : Text). lines ++ l) same)
@@ -96,7 +97,8 @@ module _ (expected : Bool) (g : Grammar) (a : Automaton) (t : TableData) (facts 
       let failing = fails keep.0 s keep.1 keep.2 in
       appends_comments t facts x.start x.tokens (s, failing) verdict reduced run.traced g a keep.0 s keep.1 (kernel_at a s).items refl [] (comments g (kernel_at a s).items s written.item reduced) refl (written.item, written.farthest, refl)
 
-  -- The comment lines, with the line of the expected tokens if it is asked for.
+  -- The comment lines that are written for a kept sentence, and the line of the expected tokens if this line is asked
+  -- for, are its comment block.
   comment_block : (s : ℕ) (kept : List (Option ℕ)) (keep : IsStateToKeep verdict (length x.tokens) kept s) (old new : Text) (written : WritesKeptSentence expected g a t x s reduced old new) → IsCommentBlock expected g a t x.start x.tokens (comments g (kernel_at a s).items s written.item reduced ++ written.more)
   comment_block s kept keep old new written = with_more expected g a t x (comments g (kernel_at a s).items s written.item reduced) written.more (comment_text s kept keep old new written) written.is_more
 
@@ -144,7 +146,8 @@ adds_fault expected g a t line found fault old new reads drops stays kept_lines 
   drops = drops.drops;
 }
 
--- A line that was read with the numbers of a lexicon is read with the names of the grammar.
+-- If the vocabulary v is that of the grammar, reading a line with v has the same result as reading the line with the
+-- names of the grammar.
 pub read_as : (v : Vocabulary) (g : Grammar) → v ≡ vocabulary_of g → (slice text : Text) → slice ≡ text → (found : LineResult) → sentence_in v slice ≡ found → sentence_in (vocabulary_of g) text ≡ found
 read_as v g same slice text is found read = sym (ap (λ (u : Vocabulary). sentence_in u slice) same ∙ ap (sentence_in (vocabulary_of g)) is) ∙ read
 

@@ -20,7 +20,7 @@ use Rattle.mh_msgfile.specs.declared.loose.LooseEntry.{LooseEntry}
 use Rattle.mh_msgfile.specs.declared.loose.LooseFile.{LooseFile}
 use Rattle.mh_msgfile.specs.declared.messages.Entry.{Entry}
 use Rattle.mh_msgfile.specs.declared.messages.MsgFile.{MsgFile}
-use Rattle.mh_msgfile.proofs.PrintedAgain.{IsFree}
+use Rattle.mh_msgfile.proofs.PrintedAgain.{HasNoCrLf}
 use Rattle.mh_msgfile.proofs.WrittenEntries.{IsMessageText, IsLooseBlock, loose_blocks, entries_spelled}
 use Rattle.mh_check.specs.Checks.{sentences_of}
 use Rattle.mh_update.specs.NoLineEnds.{HasNamesWithoutLineEnds}
@@ -89,7 +89,7 @@ kept_in es e j x s lines of_file of_entry is =
     subst (λ (b : Bool). Contains (entry_content_if b e.sentences e.message) (kept_contents e.sentences, e.message)) (sym some.0) (contains_here (kept_contents e.sentences, e.message) []) in
     ((kept_contents e.sentences, e.message), contains_flat_map entry_kept es e (kept_contents e.sentences, e.message) of_file one, some.1, refl)
 
--- The entry that has the sentence and the message.
+-- If some content has the sentence and the message, an entry of the file has them.
 message_in : (again : MsgFile) (cs : List Content) (x : Sentence) (message : Text) → map entry_content again.entries ≡ cs → HasContent cs x message → HasMessage again x message
 message_in again cs x message same (c, among, has, is) =
     let of_entry = map_contains entry_content again.entries c (subst (λ (l : List Content). Contains l c) (sym same) among) in
@@ -104,13 +104,13 @@ message_in again cs x message same (c, among, has, is) =
 
 module _ (expected : Bool) (g : Grammar) (a : Automaton) (t : TableData) (facts : Facts t) (same : t.grammar ≡ plain_of g) (has : HasReadableNames g) (names : HasNamesWithoutLineEnds g) where
   -- The messages of the old file can be read again.
-  texts_free : (es : List DecidedEntry) (fs : List LooseEntry) → map without_decisions es ≡ fs → AllByRecursion (IsLooseBlock g has) fs → ((e : LooseEntry) → Contains fs e → IsFree g has e.message) → AllByRecursion (HasFreeText expected g a t facts same has names) es
+  texts_free : (es : List DecidedEntry) (fs : List LooseEntry) → map without_decisions es ≡ fs → AllByRecursion (IsLooseBlock g has) fs → ((e : LooseEntry) → Contains fs e → HasNoCrLf g has e.message) → AllByRecursion (HasFreeText expected g a t facts same has names) es
   texts_free [] fs is all free = tt
   texts_free (e ∷ es) [] is all free = absurd (cc)
   texts_free (e ∷ es) (f ∷ fs) is all free =
       let one : without_decisions e ≡ f = cc in
       let text : e.message ≡ f.message = ap (λ (k : LooseEntry). k.message) one in (
-        subst (λ (m : Text). IsMessageText g has m × IsFree g has m) (sym text) (all.0.message, free f (contains_here f fs)),
+        subst (λ (m : Text). IsMessageText g has m × HasNoCrLf g has m) (sym text) (all.0.message, free f (contains_here f fs)),
         texts_free es fs (cc) all.1 (λ k c. free k (contains_there f fs k c)),
       )
 

@@ -16,7 +16,7 @@ use Rattle.mh_run.specs.declared.outcome.Verdict.{Verdict}
 use Rattle.mh_run.specs.declared.outcome.Verdict.TheVariants as verdicts
 use Rattle.mh_msgfile.specs.Sentences.{Vocabulary, vocabulary_of, has_items}
 use Rattle.mh_msgfile.specs.FileTexts.{HasReadableNames, sentence_text}
-use Rattle.mh_msgfile.proofs.PrintedAgain.{canonical, IsKnown, IsLine, IsFree, blank_text}
+use Rattle.mh_msgfile.proofs.PrintedAgain.{canonical, IsKnown, IsLine, HasNoCrLf, blank_text}
 use Rattle.mh_msgfile.proofs.SentenceBounds.{sentence_start, sentence_tokens}
 use Rattle.mh_msgfile.proofs.WrittenEntries.{WrittenEntry, written_content, IsGoodEntry, entry_lines, IsMessageText, message_reads}
 use Rattle.mh_msgfile.proofs.CanonicalLine.{HasNoSeparator, line_begins}
@@ -203,7 +203,7 @@ module _ (expected : Bool) (g : Grammar) (a : Automaton) (t : TableData) (facts 
   }
 
   abbrev pub IsFreeText : Text → Type 0
-  IsFreeText message = IsMessageText g has message × IsFree g has message
+  IsFreeText message = IsMessageText g has message × HasNoCrLf g has message
 
   entry_on : (before js : List DecidedLine) (message : Text) → AreDecided expected g a t before js → IsFreeText message → (b : Bool) → has_kept js ≡ b → IsWritten (kept_sentence_texts g js ++ message_if_kept b message) (entry_content_if b js message)
   entry_on before js message all text false none =

@@ -51,7 +51,7 @@ piece_both x y p q a b = record {
 kept_one : (line : Text) (c : Bool) → is_kept_text line ≡ c → filter is_kept_text (line ∷ []) ≡ (if c then line ∷ [] else [])
 kept_one line c is = filter_on is_kept_text line [] c is
 
--- A line that is not ignored, and an ignored one.
+-- A line that is not ignored is a piece with this line; an ignored line is a piece with no lines.
 pub piece_line : (line : Text) → IsReadUnchanged line → is_ignored_line line ≡ false → Piece (line ++ 10 ∷ []) (line ∷ [])
 piece_line line whole stays = record { lines = line ∷ []; is = sym (append-nil (line ++ 10 ∷ [])); whole = (whole, tt); kept = kept_one line true (ap not stays) }
 

@@ -53,7 +53,7 @@ module _ (expected : Bool) (g : Grammar) (a : Automaton) (t : TableData) where
         next ∙ ap (λ (l : Text). l ++ y) first ∙ append_assoc old x y,
       )
 
-  -- A row that is written, and one that is not.
+  -- A row without a kept line is written as an entry, and a row with a kept line adds no text.
   pub row_written : (kept : List (Option ℕ)) (row : Row) (none : Bool) → none ≡ is_none (kept_line_in kept row.state) → none ≡ true → (old entry new : Text) → IsEntryText expected g a t row.start row.sentence entry → new ≡ old ++ entry → WritesRows expected g a t kept (row ∷ []) old new
   row_written kept row none is out old entry new of_row written =
       let here : is_none (kept_line_in kept row.state) ≡ true = sym is ∙ out in (

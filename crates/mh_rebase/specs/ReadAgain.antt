@@ -1,6 +1,6 @@
--- The definition of a rebased messages file that is read again: it is sound, since each sentence fails and no two fail in
--- one state; it is complete, since it has a sentence for each state in which some sentence fails (Pottier 2016); and the
--- kept sentences have their old messages.
+-- The definition of a rebased messages file that is read again: it is sound, since each sentence fails and no two fail
+-- in one state; it is complete, since it has a sentence for each state in which some sentence fails (Pottier 2016); and
+-- the kept sentences have their old messages.
 use Rattle.std.specs.Prelude.{◌≡◌, ℕ, Bool, ◌∷◌, ◌++◌}
 use Rattle.std.specs.List.{Contains}
 use Rattle.mh_grammar.specs.declared.types.Grammar.{Grammar}
@@ -33,8 +33,8 @@ pub record HasMessage (file : MsgFile) (x : Sentence) (message : Text) : Type 0 
   pub same : content_of sentence ≡ (x.start, x.tokens)
   pub message_is : entry.message ≡ message
 
--- The text is the rebased file. It spells a messages file that is sound and complete, and in which each kept sentence has
--- its old message.
+-- The text is the rebased file. It spells a messages file that is sound and complete, and in which each kept sentence
+-- has its old message.
 pub record IsReadAgain (expected : Bool) (g : Grammar) (a : Automaton) (t : TableData) (file : LooseFile) (text : Text) : Type 0 where
   pub rebased : IsRebased expected g a t file text
   pub again : MsgFile

@@ -1,5 +1,5 @@
-//! The decisions on the lines of a file, in order. The text of what is kept and the report of what is dropped are written
-//! at the same time.
+//! The decisions on the lines of a file, in order. The text of what is kept and the report of what is dropped are
+//! written at the same time.
 ghost use Rattle.std.specs.Prelude.{◌≡◌, ◌<◌, ◌^◌, ◌++◌, ◌∷◌, [], true, length, IfOk, OnOk};
 ghost use Rattle.std.specs.List.{All, AllByRecursion};
 ghost use Rattle.mh_grammar.specs.Plain.{plain_of};
@@ -19,8 +19,8 @@ use mh_run::trace;
 use mh_tables_core::Halting;
 use std::alloc::Global;
 
-/// The grammar onto which a file is rebased, with its automaton, its table, and the numbers of its names; and the form of
-/// the comment lines.
+/// The grammar onto which a file is rebased, with its automaton, its table, and the numbers of its names; and the form
+/// of the comment lines.
 #[derive(Drop)]
 pub(crate) struct Target<'a, const W: usize> {
     pub(crate) grammar: &'a Grammar,
@@ -44,8 +44,8 @@ pub(crate) struct Parts {
     pub(crate) kept_lines: Vec<Option<u32>>,
 }
 
-/// Appends the canonical line of a sentence that fails in this state, and its comment lines, with the expected tokens if
-/// they are asked for.
+/// Appends the canonical line of a sentence that fails in this state, and its comment lines, with the expected tokens
+/// if they are asked for.
 fn write_kept<const W: usize>(
     alloc: Global,
     text: &mut Vec<u8>,
@@ -177,8 +177,8 @@ fn write_message(text: &mut Vec<u8>, message: &[u8]) -> Result<(), Memory>
     Ok(())
 }
 
-/// Keeps or drops the lines of an entry, and writes its message: as the message of the kept sentences, or in the report if
-/// no sentence is kept.
+/// Keeps or drops the lines of an entry, and writes its message: as the message of the kept sentences, or in the report
+/// if no sentence is kept.
 fn add_entry<const W: usize>(
     alloc: Global,
     to: &Target<'_, W>,

@@ -30,8 +30,9 @@ pub fn line_kept_in(kept: &[Option<u32>], state: u32) -> Option<u32>
     }
 }
 
-/// The state in which a sentence with this verdict and this number of tokens fails, if the sentence is to be kept; or the
-/// reason why its line is dropped. For each state, `kept` has the number of the kept line whose sentence fails there.
+/// The state in which a sentence with this verdict and this number of tokens fails, if the sentence is to be kept; or
+/// the reason why its line is dropped. For each state, `kept` has the number of the kept line whose sentence fails
+/// there.
 pub fn state_to_keep(
     verdict: Verdict,
     tokens: usize,

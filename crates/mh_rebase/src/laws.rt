@@ -38,8 +38,8 @@ pub fn empty_is_list<const W: usize>(grammar: &Grammar, automaton: &Automaton<W>
     let _table = table;
 }
 
-/// Law: the rebased text can be read, and rebasing it onto the same grammar gives the same entries, byte for byte, and drops
-/// nothing.
+/// Law: the rebased text can be read, and rebasing it onto the same grammar gives the same entries, byte for byte, and
+/// drops nothing.
 pub fn rebased_again<const W: usize>(grammar: &Grammar, automaton: &Automaton<W>, table: &Halting)
     requires { table.now.grammar ≡ plain_of grammar.now }
     ensures { (expected : Bool) → HasReadableNames grammar.now → HasNamesWithoutLineEnds grammar.now → (bytes : List ℕ) (file : LooseFile) (text : List ℕ) → LooseSpells bytes file → HasNoCr file → (is : IsRebased expected grammar.now automaton.now table.now file text) → (loose : LooseFile) × LooseSpells text loose × ((next : List ℕ) → IsRebased expected grammar.now automaton.now table.now loose next → next ≡ kept_entries_text grammar.now is.entries ++ is.new) }
@@ -49,8 +49,8 @@ pub fn rebased_again<const W: usize>(grammar: &Grammar, automaton: &Automaton<W>
     table.table().facts();
 }
 
-/// Law: if a messages file is sound, and has a sentence for each state in which some sentence fails, then its rebased text
-/// has all of its sentences, each with new comment lines, and all of its messages, and nothing else.
+/// Law: if a messages file is sound, and has a sentence for each state in which some sentence fails, then its rebased
+/// text has all of its sentences, each with new comment lines, and all of its messages, and nothing else.
 pub fn complete_is_kept<const W: usize>(
     grammar: &Grammar,
     automaton: &Automaton<W>,

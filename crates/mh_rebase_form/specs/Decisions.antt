@@ -1,6 +1,6 @@
 -- The definition of the decision on each line of a messages file that is rebased onto another grammar: its sentence is
--- kept, or the line is dropped for a reason. The rule is this project's own; that each sentence fails at its last token,
--- and that no two fail in one state, is the soundness of Pottier 2016.
+-- kept, or the line is dropped for a reason. The rule is this project's own; that each sentence fails at its last
+-- token, and that no two fail in one state, is the soundness of Pottier 2016.
 use Rattle.std.specs.Prelude.{◌≡◌, ℕ, ◌+◌, ◌<◌, ◌==◌, Bool, true, false, List, [], ◌∷◌, ◌++◌, length, Option, None, Some, if◌then◌else◌, ⊤}
 use Rattle.mh_grammar.specs.declared.types.Grammar.{Grammar}
 use Rattle.mh_grammar.specs.declared.types.Sentence.{Sentence}
@@ -18,8 +18,8 @@ use Rattle.mh_report_comments.specs.Comments.{IsCommentBlock}
 use Rattle.mh_rebase_form.specs.declared.reason.DropReason.{DropReason}
 use Rattle.mh_rebase_form.specs.declared.reason.DropReason.TheVariants as reasons
 
--- The decision on a line. Its sentence is kept, with the state in which the sentence fails and its comment lines; or the
--- line is dropped.
+-- The decision on a line. Its sentence is kept, with the state in which the sentence fails and its comment lines; or
+-- the line is dropped.
 pub data Decision : Type 0 where
   Keep : (sentence : Sentence) (state : ℕ) (comments : Text) → Decision
   Drop : DropReason → Decision
@@ -43,8 +43,8 @@ abbrev pub kept_line : List DecidedLine → ℕ → Option ℕ
 kept_line [] s = None
 kept_line (j ∷ js) s = if keeps_in s j.decision then Some j.line.line else kept_line js s
 
--- The line is dropped for this reason; `before` are the lines before it with their decisions. At most one reason applies
--- to a line, since each of them implies that none of the earlier ones applies.
+-- The line is dropped for this reason; `before` are the lines before it with their decisions. At most one reason
+-- applies to a line, since each of them implies that none of the earlier ones applies.
 pub data IsReason (v : Vocabulary) (t : TableData) (before : List DecidedLine) (text : Text) : DropReason → Type 0 where
   LineIsUnreadable : sentence_in v text ≡ IsUnreadable → IsReason v t before text reasons.Unreadable
   StartIsUnknown : (name : Text) → sentence_in v text ≡ NamesNoStart name → IsReason v t before text (reasons.UnknownStart name)

@@ -102,8 +102,8 @@ is_new_row js row = is_none (kept_line js row.state)
 
 -- The text is the file rebased onto the grammar of the table. It has three parts: each entry with a kept sentence, in
 -- order; an entry for each row of the catalogue in whose state no kept sentence fails; and the report of what was
--- dropped. The comment lines of the old file are not copied; the new ones end with the expected tokens, if `expected` is
--- true.
+-- dropped. The comment lines of the old file are not copied; the new ones end with the expected tokens, if `expected`
+-- is true.
 pub record IsRebased (expected : Bool) (g : Grammar) (a : Automaton) (t : TableData) (file : LooseFile) (text : Text) : Type 0 where
   pub entries : List DecidedEntry
   pub of_file : map without_decisions entries ≡ file.entries

@@ -162,7 +162,7 @@ none_there g a h s lt = record { no_conflict = one; no_stream_conflict = λ x. l
     one : (look : Look) → IsConflict (Raw (state_of g a s) look) → ⊥
     one look x = listed (record { state = s; look = look; kind = Solved }) (lt, (x, λ u. listed (record { state = s; look = look; kind = Unsolved }) (lt, u)))
 
--- Lemmas on the table of an automaton, state by state.
+-- A production that a state reduces on a token is not a start production.
 start_at_end : (g : Grammar) (a : Automaton) → IsAutomaton (plain_of g) a → (s z p : ℕ) → Raw (state_of g a s) (Token z) (Reduce p) → length g.starts ≤ p
 start_at_end g a h s z p r =
     elim (cases_lt p (length g.starts)) [

@@ -89,11 +89,13 @@ tokens_rising s z (cell ∷ cells) =
     let i = tokens_to s (z + 1) cells d k in
     below s z (z + 1 + i.place) c d f.state i.found.state f.look i.found.look (omega arith))
 
--- The kind of a cell is the kind of its conflict.
+-- A conflict that levels do not solve is a conflict.
 pub unsolved_conflict : (by : ℕ → Comparison) (R : Action → Type 0) → IsUnsolved by R → IsConflict R
 unsolved_conflict by R (inl u) = record { one = Shift u.target; other = Reduce u.production; raw_one = u.shift; raw_other = u.reduce; differ = λ e. cc }
 unsolved_conflict by R (inr t) = record { one = Reduce t.one; other = Reduce t.other; raw_one = t.one_remains.0; raw_other = t.other_remains.0; differ = λ e. let same : t.one ≡ t.other = cc in let b = t.below in omega arith }
 
+-- If a kind of conflict is found on a look, the look has a conflict of this kind. If the look has a conflict of a kind
+-- other than `Stream`, this kind is found.
 kind_to : (s : State) (look : Look) (found : Option ConflictKind) (kind : ConflictKind) → IsKind (comparison_on s.grammar look) (Raw s look) found → found ≡ Some kind → HasConflictOn s look kind
 kind_to s look None kind h e = cc
 kind_to s look (Some Solved) kind h e = let same : Solved ≡ kind = cc in rw (← same) h

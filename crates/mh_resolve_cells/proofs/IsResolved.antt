@@ -112,7 +112,7 @@ stream_from s cells last k a d c =
       };
     }
 
--- The action that is kept at the end of the stream.
+-- The action that the code keeps at the end of the stream is kept by the definition, and no other.
 kept_to : (s : State) (last : Cell) (stream : Bool) (a : Action) → IsDecidedOn s End last → (IsStreamConflict s → stream ≡ true) → kept_of stream last.action ≡ a → (a ≡ Refuse → ⊥) → IsKeptOn s End a
 kept_to s last true a d c e ne = absurd (ne (sym e))
 kept_to s last false a d c e ne = (taken_held s End last a d e ne, λ x. let no : false ≡ true = c x in cc)

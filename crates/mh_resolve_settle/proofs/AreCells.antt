@@ -71,7 +71,7 @@ cells_are g items edges shifts t cells s a c = record {
 pub last_is : (g : Grammar) (items : List KernelItem) (edges : List Edge) (shifts : List (Option ℕ)) (t : Tallies) (cell : Cell) → AreTallied g (Holds (record { items = items })) shifts t → cell ≡ cell_from t.last None → IsDecidedOn (state_of_items g items edges) End cell
 last_is g items edges shifts t cell a e = rw e (decided (comparison_on g End) g (Holds (record { items = items })) End None t.last (a.each End tt))
 
--- The case of merged mode without an action at the end of the stream.
+-- In merged mode, if there is no action at the end of the stream, the default choice is the reduction that was found.
 pub choice_of : (kept : Action) (mode : Mode) (cells : List Cell) (found : Option ℕ) → kept ≡ Refuse → mode ≡ Merged → MatchOption found ((p : ℕ) → HasReduction cells p → ⊥) (HasReduction cells) → MatchOption found ((p : ℕ) → IsDefaultChoice kept mode cells p → ⊥) (IsDefaultChoice kept mode cells)
 choice_of kept mode cells None e f m = λ p c. elim c [ inl r ↦ (let no : Refuse ≡ Reduce p = sym e ∙ r in cc) | inr x ↦ m p x.2 ]
 choice_of kept mode cells (Some p) e f m = inr (e, f, m)

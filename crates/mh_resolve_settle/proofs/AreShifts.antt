@@ -61,7 +61,7 @@ shifted tokens edges i b edge shifts rising here at is known a = record {
     apart : (z : ℕ) → (z ≡ b → ⊥) → eqb b z ≡ false
     apart z ne = grind (arith, nat_tests)
 
--- The invariant at the end of the loop.
+-- At the end of the loop the list has the shifts of all edges.
 pub all_shifts : (tokens : ℕ) (edges : List Edge) (i : ℕ) (shifts : List (Option ℕ)) → drop i edges ≡ [] → AreShiftsSoFar tokens edges i shifts → AreShifts tokens edges shifts
 all_shifts tokens edges i shifts done a = record {
   len = a.len;

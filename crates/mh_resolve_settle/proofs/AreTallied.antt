@@ -122,7 +122,7 @@ looks_end g xs i item shifts t lt is = tallied_same g (WithItem (Front xs i) ite
     from look p (inl h) = (h.0, take_step_keeps xs i h.0 lt h.1, h.2, h.3, h.4)
     from look p (inr h) = (item, take_step_last xs i item lt is, h.0, h.1, h.2)
 
--- The case of an item that is not complete.
+-- An item that is not complete changes no tally.
 pub item_passed : (g : Grammar) (xs : List KernelItem) (i : ℕ) (item : KernelItem) (shifts : List (Option ℕ)) (t : Tallies) → i < length xs → item ≡ get_or xs i item → (item.dot ≡ length (rhs_of (plain_of g) item.production) → ⊥) → AreTallied g (Front xs i) shifts t → AreTallied g (Front xs (i + 1)) shifts t
 item_passed g xs i item shifts t lt is incomplete = tallied_same g (Front xs i) (Front xs (i + 1)) shifts t to from
   where

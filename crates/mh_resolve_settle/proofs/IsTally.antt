@@ -49,7 +49,7 @@ two_kept by Has Has' p m e false t = λ a b h k r s.
       | inr x ↦ absurd (e (ap by (sym x) ∙ r))
     ]
 
--- The case that p is the lowest winning production, or that none won before.
+-- If no production but p won before, the new production p does not change whether two productions win.
 two_same : (by : ℕ → Comparison) (Has Has' : ℕ → Type 0) (p : ℕ) → IsMore Has Has' p → ((q : ℕ) → Has q → by q ≡ Reduces → q ≡ p) → (two : Bool) → IsTwo by Has two → IsTwo by Has' two
 two_same by Has Has' p m e true t = two_old by Has Has' m.old t
 two_same by Has Has' p m e false t = λ a b h k r s.

@@ -35,7 +35,7 @@ module _ {S : Type 0} (f : Observer S) (t : TableData) where
   leads_none look old before = record { reaches = λ read rest. refl; value = λ read rest. refl }
 
   module _ (look : Option ℕ) (n : ℕ) (old stack : List ℕ) (before s : S) (h : StepsLead f t look n old stack before s) (p : ℕ) (m : run_move_of t (top_of stack) (look_list look) ≡ Reduces p) where
-    -- The value after one more reduction.
+    -- After one more reduction the value is the observer's value for this reduction.
     value_more : (read : ℕ) (rest : List ℕ) → observed_after f t (suc n) (config_with old read look rest) before ≡ f.reduced s (length (rhs_of t.grammar p)) p
     value_more read rest =
         let first : Config = config_with old read look rest in

@@ -20,7 +20,7 @@ pub record Progress {S : Type 0} (f : Observer S) (t : TableData) (look : Option
   pub leads : StepsLead f t look steps old stack before now
   pub relative : Relative t look stack floor count
 
--- The length of the stack after a reduction.
+-- A reduction takes as many states off the stack as its right side has symbols, and pushes one state.
 pub length_reduced : (t : TableData) (p : ℕ) (stack new : List ℕ) → reduce t p stack ≡ Some new → length new + length (rhs_of t.grammar p) ≡ length stack + 1
 length_reduced t p stack new e =
     let r = reduced t p stack new e in
@@ -43,7 +43,7 @@ module _ {S : Type 0} (f : Observer S) (t : TableData) (look : Option ℕ) (old 
   progress_few h l stack now floor count p = Relative-few t h.halts look l stack floor count p.relative
 
   module _ (stack : List ℕ) (now : S) (floor count p : ℕ) (h : Progress f t look old stack before now floor count) (m : run_move_of t (top_of stack) (look_list look) ≡ Reduces p) where
-    -- A reduction that keeps the state at `floor`.
+    -- After a reduction that keeps the state at `floor`, the relative run has one reduction more.
     pub progress_above : (new : List ℕ) → reduce t p stack ≡ Some new → floor + 1 < length new → Progress f t look old new before (value_reduced f t p now) floor (suc count)
     progress_above new e above = record {
       run = run_reduced t p stack new h.run e;
@@ -52,7 +52,7 @@ module _ {S : Type 0} (f : Observer S) (t : TableData) (look : Option ℕ) (old 
       relative = let l = length_reduced t p stack new e in Relative-step t look stack new floor count p h.relative m (omega arith) e;
     }
 
-    -- A reduction that makes `floor` smaller.
+    -- After a reduction that makes `floor` smaller, a new relative run begins.
     pub progress_to : (new : List ℕ) (floor' : ℕ) → reduce t p stack ≡ Some new → floor' ≡ length new - 2 → Progress f t look old new before (value_reduced f t p now) floor' 0
     progress_to new floor' e low =
         let run : IsRunStack t new = run_reduced t p stack new h.run e in

@@ -40,14 +40,14 @@ module _ {S : Type 0} (f : Observer S) (t : TableData) (start : ℕ) (w : List �
       })
 
   module _ (stack : List ℕ) (read : ℕ) (s : S) (h : RunProgress f t start w first stack read s) where
-    -- The value after k more steps.
+    -- The value after k more steps is what observing k steps from the configuration c and the value s gives.
     behind : (c : Config) (k : ℕ) → at stack read (drop read w) ≡ c → observed_after f t (h.steps + k) (initial start w) first ≡ observed_after f t k c s
     behind c k e =
         observed_after-add f t h.steps k (initial start w) first
         ∙ ap (λ (x : Config). observed_after f t k x (observed_after f t h.steps (initial start w) first)) (h.reaches ∙ e)
         ∙ ap (observed_after f t k c) h.value
 
-    -- The invariant after the next reductions.
+    -- The invariant still holds after the next reductions.
     pub so_far_settled : (look : Option ℕ) (rest new : List ℕ) (now : S) (m : RunMove) → drop read w ≡ left_with look rest → SettlesTo f t look stack new s now m → RunProgress f t start w first new read now
     so_far_settled look rest new now m e r =
         let here : at stack read (drop read w) ≡ config_with stack read look rest = ap (at stack read) e in
@@ -95,7 +95,7 @@ token_ends_run f t start w first old new read z before now m how h lt e s ended 
     so_far_ends f t start w first new read now (so_far_settled f t start w first old read before h (Some z) (drop (read + 1) w) new now m left s) m how
     (ap (run_move_of t (top_of new)) left ∙ move_at_next t (top_of new) z (drop (read + 1) w) ∙ s.next) ended
 
--- The invariant after the shift of a token.
+-- The invariant still holds after a token is shifted.
 pub token_is_shifted : {S : Type 0} (f : Observer S) (t : TableData) (facts : Facts t) (start : ℕ) (w : List ℕ) (first : S) (old new : List ℕ) (read z j : ℕ) (before now : S) → RunProgress f t start w first old read before
     → read < length w → z ≡ get_or w read 0 → SettlesTo f t (Some z) old new before now (Shifts j) → RunProgress f t start w first (new ++ j ∷ []) (read + 1) (f.shifted now z)
 token_is_shifted f t facts start w first old new read z j before now h lt e s =

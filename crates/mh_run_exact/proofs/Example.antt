@@ -354,7 +354,7 @@ each_edge (suc zero) X lt m = absurd (done_still 1 1 kernel_1 done_1 X m)
 each_edge (suc (suc zero)) X lt m = absurd (done_still 2 0 kernel_2 done_0 X m)
 each_edge (suc (suc (suc s))) X lt m = absurd (omega arith)
 
--- The items that the edges of the start state move.
+-- The edges of the start state move these items.
 over_T : move_of g one_automaton 0 (T 0) 1 1 End
 over_T = moved has_next rhs_1
 

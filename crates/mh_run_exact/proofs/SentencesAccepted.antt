@@ -27,7 +27,8 @@ here stack read left = record { stack = stack; read = read; left = left }
 top-push : (stack : List ℕ) (u : ℕ) → top_of (stack ++ u ∷ []) ≡ u
 top-push stack u = rw length-append (let e : length stack + 1 - 1 ≡ length stack = omega arith in rw e (get_or-append_seam stack u [] 0))
 
--- A reduction whose right side is the last part of the stack.
+-- A reduction replaces the states of its right side, if they are the last part of the stack, by the target of the goto
+-- edge.
 reduce-append : (t : TableData) (p : ℕ) (stack path : List ℕ) (g : ℕ) → 0 < length stack → length path ≡ length (rhs_of t.grammar p) → edge_of t (top_of stack) (N (lhs_of t.grammar p)) ≡ Some g → reduce t p (stack ++ path) ≡ Some (stack ++ g ∷ [])
 unfolding reduce
 reduce-append t p stack path g pos len e =

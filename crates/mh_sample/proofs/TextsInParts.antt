@@ -50,7 +50,7 @@ each_push_as h f n k number value old new before place is so_far added =
 
 -- Whole texts.
 
--- A text that is appended in six parts.
+-- A text that is appended in six parts is the concatenation of the parts.
 pub six_parts : (a b c d e f t1 t2 t3 t4 t5 t6 : Text) → t1 ≡ a → t2 ≡ t1 ++ b → t3 ≡ t2 ++ c → t4 ≡ t3 ++ d → t5 ≡ t4 ++ e → t6 ≡ t5 ++ f → t6 ≡ ((((a ++ b) ++ c) ++ d) ++ e) ++ f
 six_parts a b c d e f t1 t2 t3 t4 t5 t6 p1 p2 p3 p4 p5 p6 =
     p6 ∙ ap (λ (t : Text). t ++ f) (p5 ∙ ap (λ (t : Text). t ++ e) (p4 ∙ ap (λ (t : Text). t ++ d) (p3 ∙ ap (λ (t : Text). t ++ c) (p2 ∙ ap (λ (t : Text). t ++ b) p1))))

@@ -1,5 +1,5 @@
--- Lemmas on least lengths: each word of some symbols has at least as many tokens, and some word has exactly as many if
--- that number is within the limit.
+-- Lemmas on the sum of the least lengths of some symbols: each word that the symbols derive has at least this number of
+-- tokens, and some word has exactly this number, if the number is within the limit.
 use Rattle.std.proofs.Common.{◌≡◌, ◌∙◌, ◌<◌, ◌≤◌, ◌+◌, ◌++◌, ◌^◌, ◌*◌, ℕ, List, [], ◌∷◌, Some, length, map, take, get_or, refl, sym, ap, arith, subst}
 use Rattle.std.specs.List.{slice_get, All, AllByRecursion}
 use Rattle.std.specs.Option.{option_map}

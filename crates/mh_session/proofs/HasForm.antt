@@ -18,7 +18,8 @@ use Rattle.mh_grammar.proofs.TextEquality.{equal_from_same}
 
 -- The words from which a form is computed are the words of this form.
 
--- One case of the comparison of the verb with the verbs of the forms.
+-- If the verb is compared with one form and, if it differs, with the other forms, the words are those of the form that
+-- is found.
 pick : (verb : Text) (text : Text) (a form : Form) (rest : List Text) (o : Option Form) → words_of a ≡ text ∷ rest → (o ≡ Some form → verb ∷ rest ≡ words_of form) → (b : Bool) → same verb text ≡ b → (if b then Some a else o) ≡ Some form → verb ∷ rest ≡ words_of form
 pick verb text a form rest o w later true e h = let is : verb ≡ text = equal_from_same verb text e in let one : a ≡ form = cc in ap (λ (x : Text). x ∷ rest) is ∙ sym w ∙ ap words_of one
 pick verb text a form rest o w later false e h = later h

@@ -21,7 +21,7 @@ use Rattle.mh_session.specs.LineAnswers.{IsLineAnswered}
 use Rattle.mh_session.specs.code.AnswerTexts.{IsMeaningAnswered}
 use Rattle.mh_session.specs.code.AnswerTexts.{IsCommandFaultText, IsAnswerText}
 
--- After a command the session represents some branches.
+-- If a session represents branches before a command, it represents some branches after the command.
 served_some : (old new : SessionState) (command : Command) (r : Answer) (bs : Branches) → IsServed old command new r → Represents old bs → (after : Branches) × Represents new after
 served_some old new command (Ok reply) bs s all = let next = s.2 bs all in (next.0, next.2)
 served_some old new command (Err faults.UnknownName) bs s all = (bs, subst (λ (m : SessionState). Represents m bs) (sym s.0) all)

@@ -61,7 +61,8 @@ put_case old new command name c (Ok reply) gives is reply_is fault put same = (
 )
 put_case old new command name c (Err fault) gives is reply_is f put same = subst (λ (x : SessionFault). IsServed old command new (Err x)) (sym f) same
 
--- The contract of `name_changed` for this result.
+-- The contract of the session's function `put` for its result r. If r is `Ok`, it gives the phase of c, and the name
+-- now has the position c; if r is `Err`, memory ran out and nothing changed.
 pub record DidPut (old new : SessionState) (name : Text) (c : Position) (r : Answer) : Type 0 where
   pub reply : IfOk r (λ x. x ≡ replies.Phase (phase_of c))
   pub fault : IfErr r (λ f. f ≡ faults.Memory)
@@ -158,7 +159,7 @@ forget_served old new name c has put = (
   λ bs all. (without_name name bs, refl, removal_fits old new bs name all put),
 )
 
--- The answer to `expected` for a name that has a branch.
+-- For a name that has a branch, the answer to `expected` is the list of expected tokens in the phase of its position.
 expected_of_held : (old : SessionState) (bs : Branches) (name : Text) (c : Position) (a : Answer) → Represents old bs → at_name name old.held ≡ Some c → c.table ≡ old.table → ((b : Branch) → HasPosition b c → ListsExpected old.table b (phase_of c) a) → IsAnswer old.table bs (commands.Expected name) a
 expected_of_held old bs name c a all has of lists =
     let f = held_name_has_branch old bs name c all has in
@@ -173,7 +174,8 @@ expected_served old name s c list has of asks lists = (
   λ bs all. (bs, refl, all),
 )
 
--- Commands that are answered by a relation of the branch and the answer.
+-- Commands whose answer is defined by a relation between the branch and the answer, not by a function of the
+-- branch, such as `Feed`.
 module _ (old : SessionState) (command : Command) (name : Text) (Is : Branch → Phase → Answer → Type 0) (by : (bs : Branches) (a : Answer) → IsAnswerIfHeld (at_name name bs) (λ b. Is b (phase_at old.table b)) a → IsAnswer old.table bs command a) where
   unknown_answered : at_name name old.held ≡ None → IsAnswerOfBranches old command (Err faults.UnknownName)
   unknown_answered none = λ bs all. by bs (Err faults.UnknownName) (subst (λ (o : Option Branch). IsAnswerIfHeld o (λ b. Is b (phase_at old.table b)) (Err faults.UnknownName)) (sym (free_name_has_no_branch old bs name all none)) refl)

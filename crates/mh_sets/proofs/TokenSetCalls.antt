@@ -45,14 +45,14 @@ module _ (words : List ℕ) (end : Bool) (looks : List Look) (is : looks_of word
   pub looks_rising : IsRising IsLookBefore looks
   looks_rising = subst (IsRising IsLookBefore) is (looks_of_rising words end)
 
-  -- Lemmas on membership.
+  -- A look is in the set of looks exactly if its bit, or the flag of the end of the stream, is set.
   pub contains_token : (look : Look) (a : ℕ) (r : Bool) → look ≡ Token a → r ≡ has_token words a → IsTrue r ↔ Contains looks look
   contains_token look a r e k = let P : Look → Type 0 = λ b. IsTrue r ↔ Contains looks b in subst P (sym e) ((λ h. contains_of_has (Token a) (sym k ∙ h)), (λ c. k ∙ has_of_contains (Token a) c))
 
   pub contains_end : (look : Look) → look ≡ End → IsTrue end ↔ Contains looks look
   contains_end look e = let P : Look → Type 0 = λ b. IsTrue end ↔ Contains looks b in subst P (sym e) ((λ h. contains_of_has End h), (λ c. has_of_contains End c))
 
-  -- Lemmas on insertion.
+  -- A look is new to the set of looks exactly if its bit, or the flag of the end of the stream, is not set.
   pub fresh_token : (look : Look) (a : ℕ) (r : Bool) → look ≡ Token a → r ≡ not (has_token words a) → IsTrue r ↔ (Contains looks look → ⊥)
   fresh_token look a r e k = let P : Look → Type 0 = λ b. IsTrue r ↔ (Contains looks b → ⊥) in
       subst P (sym e) ((λ h c. of_not (has_token words a) (sym k ∙ h) (has_of_contains (Token a) c)), (λ n. k ∙ to_not (has_token words a) (λ h. n (contains_of_has (Token a) h))))

@@ -82,7 +82,8 @@ fn lexemes(rt: HostRuntime) -> Result<(), Fail> {
     Ok(())
 }
 
-/// The names of a grammar file have places: the start of the token, and that of the rule.
+/// Each name in a grammar file has a place, the position where it begins in the text: here those of the token and of
+/// the rule.
 #[test]
 fn places(rt: HostRuntime) -> Result<(), Fail> {
     let Ok(found) = read_placed(rt.alloc(), b"%token A\n%%\ns: {}") else {

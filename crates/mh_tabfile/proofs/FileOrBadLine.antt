@@ -10,7 +10,7 @@ use Rattle.mh_tabfile_read.specs.code.Machine.{run, initial_reader, Outcome, Rea
 use Rattle.mh_tabfile_read.proofs.RunExact.{exact_reads, exact_stops, Stuck}
 use Rattle.mh_tabfile_read.proofs.SplitLines.{split_some, IsCut, is_cut, cut_whole, cut_early, cut_unended, cut_misplaced}
 
--- the last of some items
+-- A list with at least one item has a last item.
 last_of : {X : Type 0} (x : X) (xs : List X) → (front : List X) × (last : X) × (front ++ last ∷ [] ≡ x ∷ xs)
 last_of x [] = ([], x, refl)
 last_of x (y ∷ ys) = let r = last_of y ys in (x ∷ r.0, r.1, ap (λ zs. x ∷ zs) r.2)

@@ -16,8 +16,8 @@ use Rattle.mh_tabfile_form.specs.TableContent.{raw_of, raw_item, raw_edge, raw_c
 use Rattle.mh_validate_valid.specs.Valid.{AreCostsOf, IsValidFor, no_raw_state, raw_state}
 use Rattle.mh_tabfile.specs.Versions.{with_costs}
 
--- Two contents that are equal but for their costs are valid for the same automaton, if the costs of the second are those
--- of the grammar.
+-- Two contents that are equal but for their costs are valid for the same automaton, if the costs of the second are
+-- those of the grammar.
 valid_but_for_costs : (g : Grammar) (raw other : RawTable) (a : Automaton) (parts : List StateParts) → other ≡ with_costs g raw → IsValidFor g raw a parts → IsValidFor g other a parts
 valid_but_for_costs g raw other a parts e v = subst (λ (r : RawTable). IsValidFor g r a parts) (sym e) (record {
   header = record { tokens = v.header.tokens; costs = refl; starts = v.header.starts; productions = v.header.productions };

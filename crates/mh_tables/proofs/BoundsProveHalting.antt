@@ -161,7 +161,7 @@ module _ (t : TableData) (f : Facts t) (ps : List Passage) (bounds : List ℕ) (
   abbrev Few : ℕ → ℕ → ℕ → Symbol → Option ℕ → Type 0
   Few n r u x look = edge_of t r x ≡ Some u → bound x ≤ 9900 → MakesReductions t (Some r) u look n → n ≤ bound x + 100
 
-  -- The case of an empty production that is reduced first.
+  -- If an empty production is reduced first, the number of reductions is within the bound.
   empty : (r u : ℕ) (x : Symbol) (look : Option ℕ) (n : ℕ) → bound x ≤ 9900 → MakesReductions t (Some r) u look n → IsEmptyFirst t u look → ((j v : ℕ) (y : Symbol) → j < n → Few j r v y look) → IsCoveredOn t ps (symbol_index t x) u look → n ≤ bound x + 100
   empty r u x look n low makes is again (inl unclear) = absurd (never_unclear (symbol_index t x) unclear low)
   empty r u x look n low makes is again (inr covered) = elim (covered is) [

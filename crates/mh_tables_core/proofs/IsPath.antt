@@ -109,7 +109,8 @@ IsRunStack-take t stack n pos le h = record {
   start = rw (get_or-take n stack 0 0 pos) h.start;
 }
 
--- The stack after a reduction that finds its states and its edge.
+-- A reduction that finds its states and its edge takes off the states of its right side and pushes the target of the
+-- edge.
 pub reduce_is : (t : TableData) (p : ℕ) (stack : List ℕ) (h : FindsStatesAndEdge t p stack) → reduce t p stack ≡ Some (take (length stack - length (rhs_of t.grammar p)) stack ++ h.goto.0 ∷ [])
 unfolding reduce
 reduce_is t p stack h = rw (lt-ltb (length (rhs_of t.grammar p)) (length stack) h.states, h.goto.1) refl

@@ -1,4 +1,5 @@
--- The messages of two files exist, are unique if the files are known, and stop only for an allowed cause.
+-- Proves that the stage that reads two messages files has a result, that the result is unique if the files are known,
+-- and that the stage stops the work only for an allowed cause.
 use Rattle.std.proofs.Common.{◌≡◌, ◌∙◌, ◌⊎◌, ◌++◌, ◌∷◌, ap₂, inl, inr, List, Option, Some, [], sym, subst, refl}
 use Rattle.std.specs.List.{All}
 use Rattle.std.proofs.lemmas.List.Elements.{All-head}

@@ -129,7 +129,7 @@ module _ (p : Prepared) where
         subst (EndsAllowed Right) (sym is.2) (judges_right Right is.0 (messages_stop_allowed p Right may file files is.0 (λ name what cause same found halt. of_file name what cause (named_turn p files file name same) found halt) is.1));
   }
 
--- The facts on one messages file that is checked against the table.
+-- The facts are true of a stage that reads one messages file and checks the file against the table.
 one_checked : (p : Prepared) (file : Text) → ReadFacts p (file ∷ []) (λ files. IsFileContent files (AreMessages p.grammar p.tabled.halting) file)
 one_checked p file = one_file p file (AreMessages p.grammar p.tabled.halting) (messages_facts p.grammar p.tabled.halting) (λ runs. some_checked p.grammar p.tabled.halting runs.halts runs.consistent.table.grammar)
 

@@ -1,5 +1,5 @@
--- Grammars with the names of files meet the premises on names of the laws on texts that are read again: the names are
--- words of table files and have no line ends.
+-- Proves that grammars whose names are as grammar files spell them meet the premises on names of the laws on texts that
+-- are read again: the names are words of table files and have no line ends.
 use Rattle.std.proofs.Common.{◌≡◌, ◌≢◌, ◌∙◌, ℕ, true, false, true≢false, List, [], ◌∷◌, refl, sym, ap}
 use Rattle.std.specs.List.{All, AllByRecursion, list_all}
 use Rattle.std.proofs.lemmas.Bool.{and_from, and_parts, ne_eqb}

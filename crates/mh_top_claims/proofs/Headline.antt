@@ -110,7 +110,7 @@ module _ (files : Option Files) (g : Grammar) (t : TableData) (name : Text) wher
     sound : IsSoundFile files g t name file
     compiled : IsCompiled t file messages
 
-  -- The named file, if its messages are those of a stage.
+  -- If a stage reads messages from the named file, the file is sound, and the messages are compiled from the file.
   compiled_file : (messages : Messages) → IsFileContent files (AreMessages g t) name (Go messages) → HasCompiled messages
   compiled_file messages is = at is.0 is.1 is.2
     where
@@ -296,7 +296,7 @@ module _ (words : List Text) (b a : World) (status : ℕ) where
           ),
         )
 
-    -- The messages of a stage that did not stop.
+    -- If compiling the messages did not stop the work, the named file is sound.
     taken : (order : Order) (name : Text) (d : IsDone order) → IsPlanOfJob (CompileErrors name) b.files d.p d.plan → (file : MsgFile) × IsSoundFile b.files d.p.grammar d.p.tabled.halting name file
     taken order name d is = at is.0 is.1 is.2
       where

@@ -1,4 +1,5 @@
--- The updated text of a messages file exists, is unique if the files are known, and stops only for an allowed cause.
+-- Proves that the stage that updates a messages file has a result, that the result is unique if the files are known,
+-- and that the stage stops the work only for an allowed cause.
 use Rattle.std.proofs.Common.{inl, inr, [], ◌∷◌, length, ap, refl, subst, sym, ◌∙◌}
 use Rattle.mh_check.specs.Checks.{SoundnessFault, sentences_of}
 use Rattle.mh_check.specs.Texts.{check_line}

@@ -1,6 +1,6 @@
--- The claim on examined messages files: out has a line for each thing that is wrong with the file, and nothing exactly if
--- the file is sound and complete and all its messages are written (this project's own; sound and complete files: Pottier
--- 2016).
+-- The claim on examined messages files: out has a line for each thing that is wrong with the file, and nothing exactly
+-- if the file is sound and complete and all its messages are written (this project's own; sound and complete files:
+-- Pottier 2016).
 use Rattle.std.specs.Prelude.{◌≡◌, ◌⊎◌, ◌↔◌, ◌&&◌, ℕ, false, List, [], ◌++◌, Option, None, Some}
 use Rattle.std.specs.Io.KnownBytes.{Appends}
 use Rattle.mh_opts.specs.declared.jobs.Job.TheVariants.{CheckErrors}
@@ -22,8 +22,8 @@ use Rattle.mh_top_types.specs.Shapes.{Prepared}
 use Rattle.mh_top_claims.specs.Preparing.{IsPrepared}
 use Rattle.mh_top_warnings.specs.Warnings.{has_warning, warnings_of}
 
--- The words ask to examine the messages file of this name and these bytes, and their grammar is accepted: the grammar has
--- a table, and `--strict` does not refuse its conflicts.
+-- The words ask to examine the messages file of this name and these bytes, and their grammar is accepted: the grammar
+-- has a table, and `--strict` does not refuse its conflicts.
 pub record AsksForCheckedErrors (words : List Text) (files : Files) (p : Prepared) (name bytes : Text) (blocks : LooseBlocks) : Type 0 where
   pub prepared : IsPrepared words (Some files) (Go p)
   pub job : p.order.job ≡ CheckErrors name

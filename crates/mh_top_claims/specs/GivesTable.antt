@@ -1,5 +1,5 @@
--- The grammar of the files that the words name, with its automaton and its table, by the relations of success alone; and
--- the accepted grammars: if there is no fault of a device or lack of memory, the program prepares the table of an
+-- The grammar of the files that the words name, with its automaton and its table, by the relations of success alone;
+-- and the accepted grammars: if there is no fault of a device or lack of memory, the program prepares the table of an
 -- accepted grammar and begins the mode.
 use Rattle.std.specs.Prelude.{◌≡◌, ◌⊎◌, ◌&&◌, true, false, List, Option, None, Some, Ok}
 use Rattle.std.specs.List.{AllZip}

@@ -35,8 +35,8 @@ abbrev pub IsRefusedIn : TableData → ℕ → Type 0
 IsRefusedIn t s = (start : ℕ) × (w : List ℕ) × (at : ℕ) × IsInput t start w × VerdictOf t start w (Rejected at s)
 
 -- The text is one entry for each state in which some sentence is refused, and for no other state. The states rise. Each
--- entry has the first sentence that is refused in its state at its last token, in the order of sentences, which compares
--- costs first.
+-- entry has the first sentence that is refused in its state at its last token, in the order of sentences, which
+-- compares costs first.
 pub record ListsErrorStates (expected : Bool) (g : Grammar) (a : Automaton) (t : TableData) (text : Text) : Type 0 where
   pub rows : List CatalogueRow
   pub entries : AreEntries expected g a t rows text
@@ -44,8 +44,8 @@ pub record ListsErrorStates (expected : Bool) (g : Grammar) (a : Automaton) (t :
   pub each : AllByRecursion (λ row. FailsFirst t row.start row.sentence row.state) rows
   pub states : (s : ℕ) → IsRefusedIn t s ↔ ((row : CatalogueRow) × Contains rows row × (row.state ≡ s))
 
--- Claim: if the words ask for the list of errors and the status is 0, out has exactly the entries of the states in which
--- some sentence is refused by the table of the grammar.
+-- Claim: if the words ask for the list of errors and the status is 0, out has exactly the entries of the states in
+-- which some sentence is refused by the table of the grammar.
 abbrev pub ListsErrorsOfTable : List Text → World → World → ℕ → Type 0
 ListsErrorsOfTable words before now status = (order : Order) → order_of words ≡ Ok order → order.job ≡ ListErrors → status ≡ 0 →
     (g : Grammar) × (a : Automaton) × (t : TableData) × GivesTable words before.files order g a t × ((text : Text) × ListsErrorStates order.comment_expected g a t text × Appends before.out now.out text)
@@ -61,8 +61,8 @@ pub record IsSoundFile (files : Option Files) (g : Grammar) (t : TableData) (nam
   pub sound : Sound t (sentences_of file)
 
 -- Claim: if the words ask to compile a messages file, the status is 0 only if the file is sound for the table of the
--- grammar. If the grammar is accepted, the file is sound, and no device had a fault, the status is 0, unless memory runs
--- out (status 6).
+-- grammar. If the grammar is accepted, the file is sound, and no device had a fault, the status is 0, unless memory
+-- runs out (status 6).
 abbrev pub TakesSoundFiles : List Text → World → World → ℕ → Type 0
 TakesSoundFiles words before now status = (order : Order) (name : Text) → order_of words ≡ Ok order → order.job ≡ CompileErrors name →
     (status ≡ 0 → (g : Grammar) × (a : Automaton) × (t : TableData) × GivesTable words before.files order g a t × ((file : MsgFile) × IsSoundFile before.files g t name file))
@@ -70,14 +70,14 @@ TakesSoundFiles words before now status = (order : Order) (name : Text) → orde
 
 -- ---- Messages for refused lines.
 
--- If the line is a sentence that is refused in a state for which the file has a message, the answer is `REJECT` and this
--- message; or trees are shown and a tree or a stack is too deep.
+-- If the line is a sentence that is refused in a state for which the file has a message, the answer is `REJECT` and
+-- this message; or trees are shown and a tree or a stack is too deep.
 abbrev pub HasMessage : Order → Grammar → TableData → MsgFile → Text → Text → Type 0
 HasMessage order g t file line answer = (s : Sentence) (at state : ℕ) (message : Text) → sentence_in (vocabulary_of g) line ≡ IsSentence s → VerdictOf t s.start s.tokens (Rejected at state) → IsMessage t file state message →
     (answer ≡ codes "REJECT\n" ++ message) ⊎ ((order.show_cst ≡ true) × (answer ≡ codes "TOODEEP\n"))
 
--- Claim: if the words ask for verdicts with a messages file and the status is 0, this file is sound for the table of the
--- grammar, and out has an answer to each line of the input: to a refused line the message of its state, if the file
+-- Claim: if the words ask for verdicts with a messages file and the status is 0, this file is sound for the table of
+-- the grammar, and out has an answer to each line of the input: to a refused line the message of its state, if the file
 -- names the state. (The words cannot ask for expected tokens too.)
 abbrev pub GivesMessages : List Text → World → World → ℕ → Type 0
 GivesMessages words before now status = (order : Order) (name input : Text) → order_of words ≡ Ok order → order.job ≡ Interpret → order.messages ≡ Some name → order.show_expected ≡ false → before.left ≡ Some input → status ≡ 0 →

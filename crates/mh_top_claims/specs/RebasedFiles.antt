@@ -1,5 +1,5 @@
--- The claim on rebased messages files: the text on out is a messages file that is sound and complete for the new grammar,
--- and has the old messages of the kept sentences (this project's own; sound and complete files: Pottier 2016).
+-- The claim on rebased messages files: the text on out is a messages file that is sound and complete for the new
+-- grammar, and has the old messages of the kept sentences (this project's own; sound and complete files: Pottier 2016).
 use Rattle.std.specs.Prelude.{◌≡◌, ◌⊎◌, ◌&&◌, ℕ, false, List, [], ◌++◌, Option, Some}
 use Rattle.std.specs.Io.KnownBytes.{Appends}
 use Rattle.mh_opts.specs.declared.jobs.Job.TheVariants.{RebaseErrors}
@@ -29,9 +29,9 @@ pub record AsksForRebasedFile (words : List Text) (files : Files) (p : Prepared)
   pub found : IsFound (Some files) name (Bytes bytes)
   pub spells : LooseSpells bytes file
 
--- The two outcomes of rebasing a file. `Written`: status 0, out has exactly the rebased text, which reads as a sound and
--- complete messages file, and err has only the warnings. `Refused`: in some state only sentences of too high a cost fail;
--- status 1, out has nothing, and the last line on err names the lowest such state.
+-- The two outcomes of rebasing a file. `Written`: status 0, out has exactly the rebased text, which reads as a sound
+-- and complete messages file, and err has only the warnings. `Refused`: in some state only sentences of too high a cost
+-- fail; status 1, out has nothing, and the last line on err names the lowest such state.
 pub data RebasedOutcome (p : Prepared) (file : LooseFile) (before now : World) (status : ℕ) : Type 0 where
   Written : ((s : ℕ) → TooLongAt p.tabled.halting s → ⊥) → status ≡ 0 → (text : Text) → IsReadAgain p.order.comment_expected p.grammar p.tabled.automaton p.tabled.halting file text → Appends before.out now.out text → Appends before.err now.err (warnings_of p) → RebasedOutcome p file before now status
   Refused : (s : ℕ) → TooLongAt p.tabled.halting s → status ≡ 1 → Appends before.out now.out [] → Appends before.err now.err (warnings_of p ++ too_long s) → RebasedOutcome p file before now status

@@ -46,12 +46,12 @@ pub record HasRoundTrips (p : Prepared) : Type 0 where
   pub printed : (bytes : Text) (file : MsgFile) → MsgSpells p.grammar bytes file → HasNoCr file → (again : MsgFile) × MsgSpells p.grammar (file_text p.grammar file) again × HaveSameContent file again
   -- The list of errors is a messages file that is sound and complete.
   pub list : (expected : Bool) (text : Text) → IsCatalogueText expected p.grammar p.tabled.automaton p.tabled.halting text → IsCompleteMessagesFile p.grammar p.tabled.halting text
-  -- A messages file that was brought up to date has the same content, and a second update changes no byte, if no line of
-  -- the file ends in a CR.
+  -- A messages file that was brought up to date has the same content, and a second update changes no byte, if no line
+  -- of the file ends in a CR.
   pub updated : (expected : Bool) (bytes text : Text) (file : MsgFile) → MsgSpells p.grammar bytes file → HasNoCrAtEnds file → IsUpdated expected p.grammar p.tabled.automaton p.tabled.halting file text
       → (again : MsgFile) × MsgSpells p.grammar text again × HaveSameContent file again × IsUpdated expected p.grammar p.tabled.automaton p.tabled.halting again text
-  -- A messages file that was rebased is rebased once more without a change of its entries, and nothing is dropped, if no
-  -- line of a message ends in a CR.
+  -- A messages file that was rebased is rebased once more without a change of its entries, and nothing is dropped, if
+  -- no line of a message ends in a CR.
   pub rebased : (expected : Bool) (bytes : Text) (file : LooseFile) (text : Text) → LooseSpells bytes file → HasNoCrInEntries file → (is : IsRebased expected p.grammar p.tabled.automaton p.tabled.halting file text)
       → (loose : LooseFile) × LooseSpells text loose × ((next : Text) → IsRebased expected p.grammar p.tabled.automaton p.tabled.halting loose next → next ≡ kept_entries_text p.grammar is.entries ++ is.new)
   -- The table file that is written has the content that was written.

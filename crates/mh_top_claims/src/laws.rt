@@ -58,9 +58,9 @@ pub fn random_sentences_are_accepted()
     ensures { (words : List Text) (files : Option Files) → AcceptsRandom words files }
 {}
 
-/// The texts that the program writes for an accepted grammar are read again as what was written: sentence lines, printed
-/// messages files, the list of errors, updated messages files and table files. There is no premise on the names of the
-/// grammar, since those that files give are fit.
+/// The texts that the program writes for an accepted grammar are read again as what was written: sentence lines,
+/// printed messages files, the list of errors, updated messages files and table files. There is no premise on the names
+/// of the grammar, since those that files give are fit.
 pub fn texts_are_read_again()
     ensures { (words : List Text) (files : Option Files) (p : Prepared) → IsPrepared words files (Go p) → HasRoundTrips p }
 {}

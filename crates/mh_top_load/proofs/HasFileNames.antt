@@ -1,5 +1,6 @@
--- The grammar of modules whose names are words has the names of files: its tokens have the names that the modules
--- declare, its start symbols the names of their rules, and its nonterminals the texts of terms.
+-- Proves that a grammar made from modules whose names are words has names as grammar files spell them: its tokens have
+-- the names that the modules declare, its start symbols the names of their rules, and its nonterminals the texts of
+-- terms.
 use Rattle.std.proofs.Common.{◌≡◌, ◌<◌, ◌+◌, ◌∙◌, ℕ, zero, suc, Bool, true, false, not, cond, List, [], ◌∷◌, drop, filter, get_or, length, map, take, Option, None, Some, unwrap_or, option_map, refl, sym, ap, subst}
 use Rattle.std.specs.Prelude.{slice_get}
 use Rattle.std.specs.List.{All, AllByRecursion, enumerate_from, flat_map, list_all, position}

@@ -183,7 +183,7 @@ record Answered (t : TableData) (bs : Branches) (command : Command) : Type 0 whe
   next : HasNext t answer bs command
 
 module _ (t : TableData) (h : HaltingFacts t) (bs : Branches) (all : AreBranchesOf t bs) where
-  -- The branches after an answer, if a command that is not refused has branches after it.
+  -- If a command that is not refused has branches after it, an answer to the command has branches after it.
   after_of : (command : Command) (a : Answer) → (after : Branches) × AreBranchesAfter t bs command after × AreBranchesOf t after → HasNext t a bs command
   after_of command (Ok reply) next = next
   after_of command (Err fault) next = (bs, refl, all)

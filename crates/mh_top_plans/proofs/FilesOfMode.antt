@@ -1,5 +1,5 @@
--- Lemmas on files that a mode reads, for any content: a result exists, it is unique if the files are known, and it
--- stops only for an allowed cause.
+-- Lemmas on the stage that reads a file for a mode, whatever the file has: the stage has a result, the result is unique
+-- if the files are known, and the stage stops the work only for an allowed cause.
 use Rattle.std.proofs.Common.{◌≡◌, ◌≤◌, List, [], ◌∷◌, length, Option, None, Some, refl, sym, ◌∙◌, ap, subst}
 use Rattle.mh_tables_core.specs.Halting.{HaltingFacts}
 use Rattle.mh_outside.specs.Shelf.{Files, FileFound, NoFile, Long, Bytes, file_at, found_file}
@@ -73,8 +73,8 @@ pub record PreparedFacts (p : Prepared) : Type 0 where
   pub halts : HaltingFacts p.tabled.halting
   pub consistent : IsConsistent p
 
--- The facts on a stage that reads these files: a result exists and is unique, a file that cannot be read stops it, and
--- it stops only for an allowed cause.
+-- The facts on a stage that reads these files: the stage has a result, which is unique if the files are known; a file
+-- that cannot be read stops the work, and the stage stops the work only for an allowed cause.
 pub record ReadFacts {A : Type 0} (p : Prepared) (names : List Text) (Has : Option Files → StageResult A → Type 0) : Type 1 where
   pub some : (files : Option Files) → PreparedFacts p → (s : StageResult A) × Has files s
   pub unique : (files : Files) → IsOne (Has (Some files))

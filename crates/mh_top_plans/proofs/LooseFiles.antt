@@ -1,5 +1,5 @@
--- Lemmas on messages files whose sentence lines are not read: their entries exist or the last block has no message, both
--- are unique, and a file stops the work only with a refusal.
+-- Lemmas on messages files whose sentence lines are not read: their entries exist or the last block has no message,
+-- both are unique, and a file stops the work only with a refusal.
 use Rattle.std.proofs.Common.{◌≡◌, ◌≤◌, ◌⊎◌, ℕ, List, map, length, Option, None, Some, refl, sym, ◌∙◌, ap, subst, inl, inr, arith}
 use Rattle.bstr.specs.Text.{lines_of, without_terminator}
 use Rattle.mh_grammar.specs.Text.{Text}

@@ -66,12 +66,12 @@ joined_fewer b old new kids after tree p e is a =
     let n : all_nodes old ≡ all_nodes new + nodes (Node p (forest_of kids)) = rw is at (popped_nodes old new tree e) in
     let j = joined_nodes b new kids after a in omega arith
 
--- The height of the children that are dropped at once.
+-- Dropping children at once does not raise the greatest height.
 pub dropped_low : (b : Bool) (kids after : List SyntaxTree) → after ≡ cond b [] kids → greatest_height after ≤ greatest_height kids
 dropped_low true kids after e = rw e (omega arith)
 dropped_low false kids after e = rw e (omega arith)
 
--- The measure of a recursion over a list of trees.
+-- The measure of a recursion over a list of trees is at most twice the greatest height plus two.
 pub recursion_measure_bound : (kids : List SyntaxTree) → most (w_this.weight Tree size-Tree) kids ≤ 2 * (greatest_height kids + 1)
 recursion_measure_bound [] = omega arith
 recursion_measure_bound (x ∷ kids) = omega (arith, recursion_measure_bound kids)

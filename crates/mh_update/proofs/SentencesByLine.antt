@@ -89,7 +89,7 @@ module _ (lines : List Text) where
   abbrev kept_from : ℕ → List Text → List ℕ
   kept_from k xs = filter (is_kept lines) (numbers_from (k + 1) (length xs))
 
-  -- The texts of the lines that are not ignored.
+  -- The texts of the kept line numbers are the texts of the lines that are not ignored.
   kept_texts_on : (k : ℕ) (x : Text) (xs : List Text) (c : Bool) → is_ignored_line x ≡ c → line_at lines (k + 1) ≡ x → map (line_at lines) (kept_from (k + 1) xs) ≡ filter (λ line. not (is_ignored_line line)) xs
       → map (line_at lines) (kept_from k (x ∷ xs)) ≡ filter (λ line. not (is_ignored_line line)) (x ∷ xs)
   kept_texts_on k x xs true is here more =

@@ -33,13 +33,14 @@ use Rattle.mh_validate.proofs.KernelWithin.{target_of, holds_move}
 use Rattle.mh_items_kernels.proofs.SymbolAtDot.{drop_from-slice_get}
 use Rattle.mh_canon_states.proofs.IsEdgeRow.{after_dot_of_moved}
 
--- The edges built from moves have the symbols of the moves, and the written edges are those of the file.
+-- The edges built from moves have the symbols of the moves.
 on_symbols : (g : Grammar) (ks : List Kernel) (ms : List Move) (rs : List RawEdge) → AllZip (MatchesMove g ks) ms rs → edge_symbols (edges_on ms rs) ≡ symbols_of ms
 on_symbols g ks [] [] z = refl
 on_symbols g ks [] (r ∷ rs) z = absurd z
 on_symbols g ks (m ∷ ms) [] z = absurd z
 on_symbols g ks (m ∷ ms) (r ∷ rs) z = ap (λ xs. m.symbol ∷ xs) (on_symbols g ks ms rs z.1)
 
+-- In the form of a table file, the edges built from moves are the edges of the file.
 on_spelled : (g : Grammar) (ks : List Kernel) (ms : List Move) (rs : List RawEdge) → AllZip (MatchesMove g ks) ms rs → rs ≡ map (raw_edge g) (edges_on ms rs)
 on_spelled g ks [] [] z = refl
 on_spelled g ks [] (r ∷ rs) z = absurd z

@@ -75,7 +75,8 @@ module _ (g : Grammar) (n : AreTokenNamesDistinct g) (raw : RawTable) where
   kernel_before : (s t : ℕ) → HasNoKernel g raw s → HasNoKernel g raw t → s < t → ⊥
   kernel_before s t h k lt = h.none (k.before s lt).0 (k.before s lt).1
 
-  -- Either the edges of a state are wrong, or its cells are wrong, but not both.
+  -- The first fault of a file cannot be both wrong edges and wrong cells: all states before it are right, and the cells
+  -- of a state are compared only if its edges are right.
   edges_not : (s t : ℕ) (reason : Reason) (h : IsRightBefore g raw s) → ((edges : List Edge) → HasEdges g raw h.kernels s edges → ⊥) → (k : IsRightBefore g raw t) → HasWrongCells g raw k.kernels t reason → ⊥
   edges_not s t reason h none k w = elim (cases_of s t) [
     | inl lt ↦ no_edges_before s t h none k lt

@@ -1,5 +1,5 @@
-//! Worked examples of runs and sentences: verdicts, trees, lists of errors, words of a grammar, and samples. Each result
-//! was worked out by hand.
+//! Worked examples of runs and sentences: verdicts, trees, lists of errors, words of a grammar, and samples. Each
+//! result was worked out by hand.
 #![tactic(auto)]
 
 #[cfg(test)]

@@ -30,9 +30,11 @@ pub record ExceedsAtPrefix (g : PlainGrammar) (closed : Items) (symbols : List S
   pub moves_placed : (k : Kernel) → AreSameItems (Holds closed) (Close g (Holds k)) → PlacesMoves g k prefix targets old placed
   pub exceeds : limit < length placed.kernels
 
--- All moves are placed, or the list exceeds the limit, for every closure with these moves.
+-- All moves are placed, for every closed item list that has these moves.
 abbrev pub PlacesAllMoves : PlainGrammar → List Move → MergeState → MergeState → List Edge → Type 0
 PlacesAllMoves g moves old new row = (closed : Items) → IsItemList g closed → AreMoves g closed moves → IsPlacedRow g closed (map (λ (m : Move). m.symbol) moves) row old new
 
+-- The list exceeds the limit after the moves on some prefix of the symbols are placed, for every closed item list that
+-- has these moves.
 abbrev pub ExceedsForMoves : PlainGrammar → List Move → MergeState → ℕ → Type 0
 ExceedsForMoves g moves old limit = (closed : Items) → IsItemList g closed → AreMoves g closed moves → ExceedsAtPrefix g closed (map (λ (m : Move). m.symbol) moves) old limit

@@ -177,6 +177,7 @@ at_formals_closed m r signs.Colon = continues m (places.Begin r)
 at_formals_closed m r _ = None
 
 -- The draft at the beginning of a group.
+-- The draft of a rule before its first production.
 abbrev pub new_draft : Rule → RuleDraft
 new_draft r = record { rule = r; productions = []; producers = [] }
 
@@ -196,6 +197,7 @@ state_after_bar d = places.Production (with_production d None)
 abbrev pub state_after_action : RuleDraft → ParserState
 state_after_action d = places.Group (with_production d None)
 
+-- The step inside a production, where a producer, `%prec`, a bar or an action may come.
 abbrev pub in_production : Module → RuleDraft → TokenKind → List ℕ → Option Parser
 in_production m d signs.Word text = continues m (places.Named d text)
 in_production m d signs.Quoted text = continues m (places.Head (purposes.Producer d) [] (Alias text))
@@ -204,6 +206,7 @@ in_production m d signs.Bar text = continues m (places.Production (with_producti
 in_production m d signs.Action text = continues m (places.Group (with_production d None))
 in_production m d _ text = None
 
+-- The step after the colon of a rule.
 abbrev pub at_begin : Module → Rule → TokenKind → List ℕ → Option Parser
 at_begin m r signs.Bar text = continues m (places.Production (new_draft r))
 at_begin m r g text = in_production m (new_draft r) g text

@@ -36,7 +36,8 @@ abbrev pub IsExpectedPart : (expected : Bool) → Grammar → TableData → Sent
 IsExpectedPart false g t x text = text ≡ []
 IsExpectedPart true g t x text = (tokens : List ℕ) × ExpectedTokens t x.start (take (length x.tokens - 1) x.tokens) tokens × (text ≡ expected_comment g tokens)
 
--- The canonical line of a sentence and the comment lines of the state are appended, with the expected tokens or without.
+-- The canonical line of a sentence and the comment lines of the state are appended, with the expected tokens or
+-- without.
 pub record WritesKeptSentence (expected : Bool) (g : Grammar) (a : Automaton) (t : TableData) (x : Sentence) (state : ℕ) (reduced : List ℕ) (old new : Text) : Type 0 where
   pub item : KernelItem
   pub farthest : HasFarthestDot (kernel_at a state).items item

@@ -1,4 +1,5 @@
--- The measure and the invariant of the offers.
+-- The measure and the invariant of the loop that takes offers from a heap. An offer is a word for a nonterminal, which
+-- waits on the heap until it is accepted or dropped.
 use Rattle.std.specs.Prelude.{◌+◌, ℕ, List, Option, sum}
 use Rattle.std.specs.BinaryHeap.{heap_len}
 use Rattle.mh_grammar.specs.Plain.{PlainGrammar}

@@ -85,7 +85,8 @@ UnitsAreIn t ps = (p : ℕ) → length t.grammar.starts ≤ p → p < production
 abbrev pub IsEmptyFirst : TableData → ℕ → Option ℕ → Type 0
 IsEmptyFirst t s look = (p : ℕ) × (run_move_of t s (look_list look) ≡ Reduces p) × (length (rhs_of t.grammar p) ≡ 0)
 
--- `None` says that the state does not reduce an empty production first. A number is that of a production that is not a
+-- What a search for the empty production that the state reduces first may return. `None` means that the state does not
+-- reduce an empty production first. Of a number it is only known that it is the number of a production that is not a
 -- start production.
 abbrev pub EmptyNext : TableData → ℕ → Option ℕ → Option ℕ → Type 0
 EmptyNext t s look None = IsEmptyFirst t s look → ⊥

@@ -1,5 +1,5 @@
--- Whether a sink may still be written to after a part of the work. `May` says that the sink may be written to as long as
--- no write has failed.
+-- Whether a sink may still be written to after a part of the work. `May` says that the sink may be written to as long
+-- as no write has failed.
 use Rattle.std.specs.Prelude.{Result, Ok, Err, ⊤}
 use Rattle.mh_top_drive.specs.declared.stop.Stop.{Stop}
 use Rattle.mh_top_drive.specs.declared.stop.Stop.TheVariants.{WriteFailed}

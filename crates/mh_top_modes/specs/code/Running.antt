@@ -3,8 +3,8 @@ use Rattle.std.specs.Prelude.{ℕ, ◌≤◌}
 use Rattle.mh_top_types.specs.Shapes.{Prepared}
 use Rattle.mh_top_types.specs.code.Prepared.{IsConsistent}
 
--- A mode may run on what is prepared, with sets of tokens of `width` words: the parts of what is prepared agree, and the
--- input (`Reads`) and out (`Writes`) may be used.
+-- A mode may run on what is prepared, with sets of tokens of `width` words: the parts of what is prepared agree, and
+-- the input (`Reads`) and out (`Writes`) may be used.
 pub record MayRun (width : ℕ) (p : Prepared) (Reads Writes : Type 0) : Type 0 where
   pub few : width ≤ 8
   pub consistent : IsConsistent p

@@ -5,7 +5,8 @@ use Rattle.mh_opts.specs.declared.jobs.Opt.{Opt}
 use Rattle.mh_opts.specs.App.{option_rule, plain, plain_rows, with_options}
 use Rattle.mh_opts.proofs.command.with_all.Goals as goal
 
--- The command with one more option.
+-- If the options from index i on are still to be added to the command, then those from index i + 1 on are still to be
+-- added after option i was added.
 one_more : {N : Type 0} (options : List (Opt N)) (text : N → Text) (i : ℕ) (d : Opt N) (old new whole : App) (rule : Rule) → i < length options → new ≡ with_rule old rule → rule ≡ option_rule (plain (get_or options i d) text)
     → with_options (plain_rows (drop i options) text) old ≡ whole → with_options (plain_rows (drop (i + 1) options) text) new ≡ whole
 one_more {N} options text i d old new whole rule lt is by so_far =

@@ -15,4 +15,4 @@ pub returns-in-Some : goal.returns-in-Some
 returns-in-Some c =
     let known = rw (sym c.self.view_is) at c.requires in
     let at = index_at c.self.inside.best.items c.args.state c.index.result.now (let l = c.self.invariant.len in omega (arith, l, known)) c.index.ensures in
-    subst (λ (t : TableData). LeastCost t c.args.state (Some c.in-Some.best.cost)) c.self.view_is (least_cost c.self.inside.table.now c.self.invariant.word_assignment.words c.self.invariant.label_assignment.labels c.args.state c.in-Some.best (c.self.invariant.each c.args.state (Some c.in-Some.best) (at ∙ ap Some c.in-Some.is)))
+    subst (λ (t : TableData). LeastCost t c.args.state (Some c.in-Some.best.cost)) c.self.view_is (least_cost c.self.inside.table.now c.self.inside.spots.book c.args.state c.in-Some.best (c.self.invariant.each c.args.state (Some c.in-Some.best) (at ∙ ap Some c.in-Some.is)))

@@ -1,6 +1,0 @@
-mod ArrivalInvariant
-mod LabelAssignment
-mod ArrivalLevels
-mod ArrivalOrder
-mod Unreached
-mod StepsShift

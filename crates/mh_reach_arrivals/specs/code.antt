@@ -1,2 +1,0 @@
-pub mod ArrivalSearch
-pub mod ArrivalOrder

@@ -1,5 +1,0 @@
-pub mod GotoFacts
-pub mod EmptyPaths
-pub mod LevelInvariant
-pub mod Numbering
-pub mod Levels

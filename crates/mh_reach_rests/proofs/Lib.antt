@@ -1,0 +1,17 @@
+pub mod CompletePaths
+pub mod ClosedRests
+pub mod SoundRests
+pub mod RestInvariant
+pub mod WordsOfSettled
+pub mod RestRanges
+pub mod ConcludedItems
+pub mod DerivedConclusions
+pub mod Expansions
+pub mod RestSteps
+pub mod RestLevels
+pub mod UnsettledWords
+pub mod RestNumbers
+pub mod WholeSearch
+pub mod FiledEdges
+pub mod EndWords
+pub mod RestExpansion

@@ -1,0 +1,8 @@
+mod GotoRows
+mod LeastLabels
+pub mod SpotLabels
+mod SpotInvariant
+mod SpotLevels
+mod SpotNumbers
+mod StepsShift
+mod Unreached
