@@ -5,7 +5,7 @@ use Rattle.mh_grammar.specs.declared.types.Symbol.TheVariants.{N}
 use Rattle.mh_tables_core.specs.Table.{TableData, edge_of}
 use Rattle.mh_grammar.specs.Plain.{rhs_of, lhs_of}
 use Rattle.mh_tables_core.specs.Facts.{Facts, HasGoto}
-use Rattle.mh_tables_core.specs.Run.{Config, RunMove, Accepts, Asks, Refuses, Shifts, Reduces, run_move_of, top_of, reduce, step, step_by, Goes, Ends, goes_to, next_of, after}
+use Rattle.mh_tables_core.specs.Run.{Config, RunMove, Accepts, Asks, Refuses, Shifts, Reduces, run_move_of, top_of, reduce, step, step_by, Ends, goes_to, next_of, after}
 use Rattle.mh_tables_core.proofs.Reductions.{reduced, reduces_from_move, move_at_next}
 use Rattle.mh_tables_core.proofs.MoveCases.{goes_to_no_end, no_refusal_at_end}
 use Rattle.mh_tables_core.proofs.RunEnds.{step_moves}

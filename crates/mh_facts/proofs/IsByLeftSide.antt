@@ -8,7 +8,7 @@ use Rattle.mh_grammar.proofs.Lists.{contains_none}
 use Rattle.mh_tables_core.specs.Table.{TableData}
 use Rattle.mh_facts.specs.declared.left_sides.ByLeftSide.{ByLeftSide}
 use Rattle.mh_facts.specs.code.Queues.{row_of, AddsToRow}
-use Rattle.mh_facts.specs.code.ByLeftSide.{IsByLeftSide, IsByLeftSideBelow}
+use Rattle.mh_facts.specs.code.ByLeftSide.{IsByLeftSideBelow}
 
 pub IsByLeftSideBelow-start : (t : TableData) (left : ByLeftSide) → length left.rows.items ≡ t.grammar.nonterminals → ((n : ℕ) → row_of left.rows.items n ≡ []) → IsByLeftSideBelow t (length t.grammar.starts) left
 IsByLeftSideBelow-start t left rows none = record {
@@ -29,9 +29,6 @@ IsByLeftSideBelow-step t p old new ordinary known h f = record {
     | inr is ↦ record { ordinary = rw is.1 ordinary; known = rw is.1 known; lhs = rw (is.1, is.0) refl }
   ];
 }
-
-pub IsByLeftSide-all : (t : TableData) (limit : ℕ) (left : ByLeftSide) → limit ≡ production_count t.grammar → IsByLeftSideBelow t limit left → IsByLeftSide t left
-IsByLeftSide-all t limit left e h = record { rows = h.rows; all = λ n p is. h.all n p is (let k = is.known in omega arith); only = h.only }
 
 get_below : {X : Type 0} (xs : List X) (n : ℕ) → n < length xs → (x : X) × (slice_get xs n ≡ Some x) × ((d : X) → get_or xs n d ≡ x)
 get_below [] n lt = absurd (omega arith)

@@ -1,59 +1,18 @@
--- Proves that the search over states and next tokens, after the search for facts, finds the least sentences.
-use Rattle.std.proofs.Common.{◌≡◌, ℕ, ◌+◌, ◌<◌, ◌⊎◌, inl, inr, List, [], ◌∷◌, ◌++◌, length, Some, Option, refl, sym, subst}
+-- Lemmas on labels and candidates: the rules of the second search keep labels sound, the sentence of a candidate fails,
+-- and each failing sentence has a candidate that comes no later.
+use Rattle.std.proofs.Common.{◌≡◌, ℕ, ◌<◌, List, [], ◌∷◌, ◌++◌, length, Some, Option, refl, sym, subst}
 use Rattle.mh_grammar.specs.declared.types.Symbol.TheVariants.{N}
 use Rattle.mh_tables_core.specs.Table.{TableData, edge_of}
 use Rattle.mh_grammar.specs.Plain.{rhs_of, lhs_of}
 use Rattle.mh_tables_core.specs.Facts.{Facts}
-use Rattle.mh_tables_core.proofs.Reductions.{reduces_from_move}
-use Rattle.mh_tables_core.specs.Run.{Shifts, Reduces, run_move_of}
+use Rattle.mh_tables_core.specs.Run.{Shifts, run_move_of}
 use Rattle.mh_tables_core.specs.Failing.{Fails}
 use Rattle.mh_facts.specs.Search.{leading_token, ReachesState, IsRefusedSentence}
 use Rattle.mh_facts.specs.Search as rules
-use Rattle.mh_facts.specs.declared.store.FactKey.{FactKey}
-use Rattle.mh_facts.specs.code.BestFirst.{IsPathEnd, WordOrderLaws, key, HasNoLater, ClosedBy, SoundGoto, Label, extended_label, LabelOrderLaws, HasNoLaterLabel, LabelsClosedBy, SoundLabel, Complete, Candidate}
-use Rattle.mh_facts.proofs.StackBuilt.{leading_token-derives}
-use Rattle.mh_facts.proofs.Sound.{derives_known, reaches_known, shift_known, refused_is_failing}
+use Rattle.mh_facts.specs.code.BestFirst.{WordOrderLaws, SoundGoto, Label, extended_label, LabelOrderLaws, HasNoLaterLabel, SoundLabel, Candidate}
+use Rattle.mh_facts.proofs.Sound.{derives_known, shift_known, refused_is_failing}
 use Rattle.mh_facts.proofs.Complete.{failing_is_refused}
-use Rattle.mh_facts.proofs.LowerBound.{bound, derives_end, leading_token_in_range}
-
--- A store that is closed under the rules is complete.
-pub closed_complete : (t : TableData) (f : Facts t) (rep : ℕ → ℕ → ℕ) (Le : List ℕ → List ℕ → Type 0) (laws : WordOrderLaws Le) (store : FactKey → Option (List ℕ)) → ClosedBy t rep store (HasNoLater Le store) → Complete t rep Le store
-closed_complete t f rep Le laws store closed r p d a z v s known lt pk h =
-    elim (bound t f rep Le laws store (HasNoLater Le store) closed (λ w. ⊥) (λ u w b le. b) (λ k w h. inl h) r p d a z v s known lt pk h) [ inl there ↦ there | inr none ↦ absurd none ]
-
--- The second search has a label for s and z that is no later than l, or l is in the set M.
-abbrev pub HoldsAtOr : (Label → Label → Type 0) → (ℕ → ℕ → Option Label) → (Label → Type 0) → ℕ → ℕ → Label → Type 0
-HoldsAtOr LeAt reached M s y l = HasNoLaterLabel LeAt reached s y l ⊎ M l
-
-module _ (t : TableData) (f : Facts t) (rep : ℕ → ℕ → ℕ) (Le : List ℕ → List ℕ → Type 0) (LeAt : Label → Label → Type 0) (laws : WordOrderLaws Le) (at_laws : LabelOrderLaws Le LeAt) (store : FactKey → Option (List ℕ)) (complete : Complete t rep Le store)
-    (reached : ℕ → ℕ → Option Label) (H : ℕ → ℕ → Label → Type 0) (closed : LabelsClosedBy t rep store reached H) (M : Label → Type 0) (up : (k l : Label) → M k → LeAt k l → M l) (or : (s y : ℕ) (l : Label) → H s y l → HoldsAtOr LeAt reached M s y l) where
-  later_at : (s y : ℕ) (k l : Label) → LeAt k l → H s y k → HoldsAtOr LeAt reached M s y l
-  later_at s y k l le h = elim (or s y k h) [ inl b ↦ inl (b.0, b.1, at_laws.transitive b.0 k l b.2 le) | inr b ↦ inr (up k l b le) ]
-
-  abbrev lab : ℕ → List ℕ → Label
-  lab i v = record { start = i; word = v }
-
-  at_shift : (i s y z j : ℕ) (v w : List ℕ) → HoldsAtOr LeAt reached M s (rep s y) (lab i v) → run_move_of t s (y ∷ []) ≡ Shifts j → z < t.grammar.tokens → w ≡ v ++ y ∷ [] → HoldsAtOr LeAt reached M j (rep j z) (lab i w)
-  at_shift i s y z j v w (inl h) move lt word = later_at j (rep j z) (extended_label h.0 (y ∷ [])) (lab i w) (rw word (at_laws.monotone h.0 (lab i v) (y ∷ []) (y ∷ []) h.2 (laws.reflexive (y ∷ [])))) (closed.shifts s y z j h.0 h.1 move lt)
-  at_shift i s y z j v w (inr h) move lt word = inr (up (lab i v) (lab i w) h (rw word (at_laws.prefix (lab i v) (y ∷ []))))
-
-  at_reduce : (i s y z q e g : ℕ) (u v w : List ℕ) → HoldsAtOr LeAt reached M s y (lab i u) → HasNoLater Le store (key s q (length (rhs_of t.grammar q)) y (rep e z)) v → IsPathEnd t s q (length (rhs_of t.grammar q)) e → run_move_of t e (z ∷ []) ≡ Reduces q
-      → edge_of t s (N (lhs_of t.grammar q)) ≡ Some g → z < t.grammar.tokens → w ≡ u ++ v → HoldsAtOr LeAt reached M g (rep g z) (lab i w)
-  at_reduce i s y z q e g u v w (inl h) inner end move edge lt word =
-      later_at g (rep g z) (extended_label h.0 inner.0) (lab i w) (rw word (at_laws.monotone h.0 (lab i u) inner.0 v h.2 inner.2)) (closed.reduces s y z q e g h.0 inner.0 h.1 inner.1 end move edge lt)
-  at_reduce i s y z q e g u v w (inr h) inner end move edge lt word = inr (up (lab i u) (lab i w) h (rw word (at_laws.prefix (lab i u) v)))
-
-  -- Each word that reaches a state is no earlier than the state's stored label, or is in the set M.
-  pub bound_at : (i s z : ℕ) (v : List ℕ) → i < length t.grammar.starts → z < t.grammar.tokens → ReachesState t i s z v → HoldsAtOr LeAt reached M s (rep s z) (lab i v)
-  bound_at i s z v start lt rules.ReachesState.Begins = or i (rep i z) (lab i []) (closed.begins i z start lt)
-  bound_at i j z w start lt (rules.ReachesState.Steps {s = s} {y = y} {v = v} h move word) =
-      let k = reaches_known t f i s y v start h in
-      at_shift i s y z j v w (bound_at i s y v start (shift_known t f s y j k.state move) h) move lt word
-  bound_at i g z w start lt (rules.ReachesState.Goes {s = s} {y = y} {e = e} {u = u} {v = v} q h inner move edge word) =
-      let k = reaches_known t f i s y u start h in
-      let n = derives_known t f s q (length (rhs_of t.grammar q)) y z v e k.state inner in
-      let front : y < t.grammar.tokens = rw (← leading_token-derives t s q (length (rhs_of t.grammar q)) y z v e inner) (leading_token_in_range t.grammar.tokens v z n.tokens lt) in
-      at_reduce i s (rep s y) z q e g u v w (bound_at i s y u start front h) (complete s q (length (rhs_of t.grammar q)) y z v e k.state lt (f.ordinary e q (reduces_from_move t e (z ∷ []) q move)).1 inner) (derives_end t f s q (length (rhs_of t.grammar q)) y z v e inner) move edge lt word
+use Rattle.mh_facts.proofs.IsPathEnd.{leading_token_in_range}
 
 -- Each rule of the second search derives sound labels from sound labels.
 module _ (t : TableData) (f : Facts t) (rep : ℕ → ℕ → ℕ) where
@@ -91,9 +50,3 @@ module _ (t : TableData) (f : Facts t) (rep : ℕ → ℕ → ℕ) (Le : List �
   -- For each failing sentence there is a candidate that is no later.
   pub fails_candidate : (i s : ℕ) (w : List ℕ) → Fails t i w s → (z : ℕ) × (l : Label) × Candidate t rep reached s z l × LeAt (extended_label l (z ∷ [])) (record { start = i; word = w })
   fails_candidate i s w h = refused_candidate i s w (failing_is_refused t f i w s h)
-
--- A second search that is closed under its rules is complete.
-pub closed_reached : (t : TableData) (f : Facts t) (rep : ℕ → ℕ → ℕ) (Le : List ℕ → List ℕ → Type 0) (LeAt : Label → Label → Type 0) (laws : WordOrderLaws Le) (at_laws : LabelOrderLaws Le LeAt) (store : FactKey → Option (List ℕ)) (complete : Complete t rep Le store)
-    (reached : ℕ → ℕ → Option Label) (closed : LabelsClosedBy t rep store reached (HasNoLaterLabel LeAt reached)) → (i s z : ℕ) (v : List ℕ) → i < length t.grammar.starts → z < t.grammar.tokens → ReachesState t i s z v → HasNoLaterLabel LeAt reached s (rep s z) (record { start = i; word = v })
-closed_reached t f rep Le LeAt laws at_laws store complete reached closed i s z v start lt h =
-    elim (bound_at t f rep Le LeAt laws at_laws store complete reached (HasNoLaterLabel LeAt reached) closed (λ l. ⊥) (λ k l b le. b) (λ s y l h. inl h) i s z v start lt h) [ inl there ↦ there | inr none ↦ absurd none ]

@@ -1,14 +1,13 @@
 mod OrderedEntries
 pub mod StoreEntries
-pub mod SearchInvariant
-pub mod LowerBound
+pub mod IsPathEnd
 pub mod Complete
 pub mod StackBuilt
 pub mod LeastSentences
 pub mod OrderLaws
 pub mod Sound
 pub mod ListGains
-pub mod Unsettled
+pub mod SumBelow
 pub mod Edges
 mod FirstElements
 pub mod QueueGains
@@ -16,4 +15,4 @@ pub mod AssociationLists
 mod IsByLeftSide
 pub mod FactKeys
 pub mod QueueRows
-pub mod WordAssignment
+pub mod WordCosts

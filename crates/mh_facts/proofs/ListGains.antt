@@ -1,14 +1,7 @@
 -- Lemmas on the definition `ListGains`: a list gains exactly the elements with a given property.
-use Rattle.std.proofs.Common.{◌≡◌, ℕ, ◌<◌, ◌+◌, ◌⊎◌, inl, inr, List, [], ◌∷◌, length, Bool, true, false, eqb, ◌&&◌, ◌||◌, not, refl, sym, ◌∙◌, get_or}
-use Rattle.std.specs.Bool.{MatchBool}
-use Rattle.std.specs.List.{Contains, list_any}
-use Rattle.std.specs.List.Sorted.{IsPermutation}
-use Rattle.std.proofs.lemmas.Bool.Decides.{Decides-eqb}
-use Rattle.mh_facts.specs.declared.work.GotoFact.{GotoFact}
+use Rattle.std.proofs.Common.{◌≡◌, ℕ, ◌<◌, ◌+◌, ◌⊎◌, inl, inr, List, length, get_or}
+use Rattle.std.specs.List.{Contains}
 use Rattle.std.proofs.lemmas.List.{get_or_default}
-use Rattle.std.proofs.lemmas.List.Sorted.{Contains-permutation, IsPermutation-sym}
-use Rattle.std.proofs.lemmas.Bool.{and_parts}
-use Rattle.mh_grammar.proofs.Lists.{contains_here, contains_there, contains_cases}
 use Rattle.mh_facts.specs.code.Queues.{ListGains}
 use Rattle.mh_facts.proofs.FirstElements.{OfFirst, of_none, of_more, of_fewer, of_all, of_some}
 
@@ -25,46 +18,6 @@ module _ {X : Type 0} where
     all = λ o e. elim e [ inl p ↦ h.kept o (g.all o p) | inr q ↦ h.all o q ];
     only = λ o w. elim (h.only o w) [ inl m ↦ (elim (g.only o m) [ inl was ↦ inl was | inr p ↦ inr (inl p) ]) | inr q ↦ inr (inr q) ];
   }
-
--- The insertion of a key into a set.
-module _ {X : Type 0} (eq : X → X → Bool) (same : (x y : X) → eq x y ≡ true → x ≡ y) where
-  or_contains : (x k : X) (xs : List X) (b : Bool) → eq k x ≡ b → (list_any (eq k) xs ≡ true → Contains xs k) → (b || list_any (eq k) xs) ≡ true → Contains (x ∷ xs) k
-  or_contains x k xs true e more h = rw (same k x e) (contains_here x xs)
-  or_contains x k xs false e more h = contains_there x xs k (more h)
-
-  any_contains : (ks : List X) (k : X) → list_any (eq k) ks ≡ true → Contains ks k
-  any_contains [] k h = cc
-  any_contains (x ∷ xs) k h = or_contains x k xs (eq k x) refl (any_contains xs k) h
-
-  was_there : (b : Bool) → false ≡ not b → b ≡ true
-  was_there true h = refl
-  was_there false h = cc
-
-  pub collects_put : (ks new : List X) (k : X) (added : Bool) → added ≡ not (list_any (eq k) ks) → MatchBool added (IsPermutation (k ∷ ks) new) (new ≡ ks) → ListGains (λ r. r ≡ k) ks new
-  collects_put ks new k true fresh moved = record {
-    kept = λ r h. Contains-permutation (k ∷ ks) new r moved (contains_there k ks r h);
-    all = λ r is. rw is (Contains-permutation (k ∷ ks) new k moved (contains_here k ks));
-    only = λ r h. elim (contains_cases k ks r (Contains-permutation new (k ∷ ks) r (IsPermutation-sym (k ∷ ks) new moved) h)) [ inl is ↦ inr (sym is) | inr was ↦ inl was ];
-  }
-  collects_put ks new k false fresh stays = record {
-    kept = λ r h. rw stays h;
-    all = λ r is. rw (is, stays) (any_contains ks k (was_there (list_any (eq k) ks) fresh));
-    only = λ r h. inl (rw stays at h);
-  }
-
-pub goto_fact_same : (x y : GotoFact) (r : Bool) → r ≡ (eqb x.from y.from && (eqb x.nonterminal y.nonterminal && (eqb x.first y.first && eqb x.next y.next))) → r ≡ true → x ≡ y
-goto_fact_same x y r e t =
-    let a = and_parts (eqb x.from y.from) _ (sym e ∙ t) in
-    let b = and_parts (eqb x.nonterminal y.nonterminal) _ a.1 in
-    let c = and_parts (eqb x.first y.first) (eqb x.next y.next) b.1 in
-    let e1 = (Decides-eqb x.from y.from).0 a.0 in
-    let e2 = (Decides-eqb x.nonterminal y.nonterminal).0 b.0 in
-    let e3 = (Decides-eqb x.first y.first).0 c.0 in
-    let e4 = (Decides-eqb x.next y.next).0 c.1 in
-    let a : GotoFact = record { from = x.from; nonterminal = x.nonterminal; first = x.first; next = x.next } in
-    let b : GotoFact = record { from = y.from; nonterminal = y.nonterminal; first = y.first; next = y.next } in
-    let whole : a ≡ b = rw (e1, e2, e3, e4) refl in
-    whole
 
 -- The values that a rule gives for the first n elements of a list.
 abbrev pub FirstOf : {X Y : Type 0} → (X → Y → Type 0) → List X → ℕ → Y → Type 0

@@ -1,11 +1,11 @@
 -- Proves that the orders of words and of labels obey the laws that the search needs.
-use Rattle.std.proofs.Common.{◌≡◌, ℕ, zero, suc, ◌+◌, ◌-◌, ◌<◌, ◌≤◌, ◌⊎◌, inl, inr, List, [], ◌∷◌, ◌++◌, length, refl, ap, sym, subst, arith, ◌∙◌}
+use Rattle.std.proofs.Common.{◌≡◌, ℕ, ◌+◌, ◌<◌, ◌≤◌, ◌⊎◌, inl, inr, List, [], ◌∷◌, ◌++◌, refl, ap, arith, ◌∙◌}
 use Rattle.std.proofs.lemmas.Bool.{cases_lt}
 use Rattle.mh_facts.specs.code.BestFirst.{WordOrderLaws, LabelOrderLaws, Label, extended_label}
 use Rattle.mh_grammar.specs.WordOrder.{LexLe}
 use Rattle.mh_tables_core.specs.Failing.{cost_by}
 use Rattle.mh_grammar.proofs.WordOrder.{lex_refl, lex_trans, lex_prefix}
-use Rattle.mh_facts.specs.code.Orders.{CostLe, LabelCostLe, CostLexLe, SentenceLe}
+use Rattle.mh_facts.specs.code.Orders.{CostLe, CostLexLe, SentenceLe}
 use Rattle.mh_facts.specs.Costs.{cap}
 use Rattle.mh_facts.specs.code.Orders as orders
 
@@ -56,10 +56,6 @@ module _ (weigh : ℕ → ℕ) (some : (x : ℕ) → 0 < weigh x) where
   first_both u u' v v' (orders.CostLexLe.Lower a b) (orders.CostLexLe.Cheaper c) = let l = cost_append weigh u v in let r = cost_append weigh u' v' in orders.CostLexLe.Cheaper (omega arith)
   first_both u u' v v' (orders.CostLexLe.Lower a b) (orders.CostLexLe.Lower c d) =
       let l = cost_append weigh u v in let r = cost_append weigh u' v' in orders.CostLexLe.Lower (omega arith) (lex_both u u' v v' a b d)
-
-  first_nil : (v : List ℕ) → CostLexLe weigh [] v
-  first_nil [] = orders.CostLexLe.Lower refl tt
-  first_nil (x ∷ v) = orders.CostLexLe.Cheaper (let s = some x in omega arith)
 
   first_front : (u v : List ℕ) → CostLexLe weigh u (u ++ v)
   first_front u v =
@@ -114,36 +110,3 @@ module _ (weigh : ℕ → ℕ) (some : (x : ℕ) → 0 < weigh x) where
 
   pub sentence_laws : LabelOrderLaws (CostLexLe weigh) (SentenceLe weigh)
   sentence_laws = record { reflexive = λ l. orders.SentenceLe.Lower refl refl (lex_refl l.word); transitive = sentence_after; monotone = sentence_both; prefix = sentence_front }
-
--- The orders by cost alone.
-module _ (weigh : ℕ → ℕ) where
-  sums : (a b c d : ℕ) → (a ≤ b) ⊎ ((cap ≤ a) × (cap ≤ b)) → (c ≤ d) ⊎ ((cap ≤ c) × (cap ≤ d)) → (a + c ≤ b + d) ⊎ ((cap ≤ a + c) × (cap ≤ b + d))
-  sums a b c d (inl h) (inl k) = inl (omega arith)
-  sums a b c d (inl h) (inr k) = inr (omega (arith, k.0), omega (arith, k.1))
-  sums a b c d (inr h) k = inr (omega (arith, h.0), omega (arith, h.1))
-
-  through : (a b c : ℕ) → (a ≤ b) ⊎ ((cap ≤ a) × (cap ≤ b)) → (b ≤ c) ⊎ ((cap ≤ b) × (cap ≤ c)) → (a ≤ c) ⊎ ((cap ≤ a) × (cap ≤ c))
-  through a b c (inl h) (inl k) = inl (omega arith)
-  through a b c (inl h) (inr k) = elim (cases_lt a cap) [ inl l ↦ inl (omega (arith, k.1)) | inr o ↦ inr (o, k.1) ]
-  through a b c (inr h) (inl k) = inr (h.0, omega (arith, h.1))
-  through a b c (inr h) (inr k) = inr (h.0, k.1)
-
-  cost_both : (u u' v v' : List ℕ) → CostLe weigh u u' → CostLe weigh v v' → CostLe weigh (u ++ v) (u' ++ v')
-  cost_both u u' v v' a b = rw (cost_append weigh u v, cost_append weigh u' v') (sums (cost_by weigh u) (cost_by weigh u') (cost_by weigh v) (cost_by weigh v') a b)
-
-  pub cost_laws : WordOrderLaws (CostLe weigh)
-  cost_laws = record {
-    reflexive = λ u. inl (omega arith);
-    transitive = λ u v w. through (cost_by weigh u) (cost_by weigh v) (cost_by weigh w);
-    monotone = cost_both;
-    prefix = λ u v. inl (let l = cost_append weigh u v in omega arith);
-    suffix = λ u v. inl (let l = cost_append weigh u v in omega arith);
-  }
-
-  pub cost_label_laws : LabelOrderLaws (CostLe weigh) (LabelCostLe weigh)
-  cost_label_laws = record {
-    reflexive = λ l. inl (omega arith);
-    transitive = λ k l m. through (cost_by weigh k.word) (cost_by weigh l.word) (cost_by weigh m.word);
-    monotone = λ k l u v. cost_both k.word l.word u v;
-    prefix = λ k v. inl (let l = cost_append weigh k.word v in omega arith);
-  }

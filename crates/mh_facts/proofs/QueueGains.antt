@@ -3,7 +3,7 @@ use Rattle.std.proofs.Common.{◌≡◌, ℕ, ◌<◌, ◌⊎◌, inl, inr, List
 use Rattle.std.specs.Global.{Vec}
 use Rattle.std.proofs.lemmas.Bool.{cases_lt}
 use Rattle.std.proofs.lemmas.List.{get_or_default}
-use Rattle.mh_facts.proofs.FirstElements.{OfFirst, of_none, of_more, of_fewer, of_all, of_some}
+use Rattle.mh_facts.proofs.FirstElements.{OfFirst, of_more, of_fewer, of_all, of_some}
 use Rattle.mh_facts.specs.code.Queues.{QueueGains, IsSameQueueEntry, Among, Below}
 
 module _ {Y : Type 0} where
@@ -34,9 +34,6 @@ abbrev pub First : {X Y : Type 0} → (X → ℕ → Y → Type 0) → List X �
 First rule xs n c o = OfFirst (λ p. rule p c o) xs n
 
 module _ {X Y : Type 0} (rule : X → ℕ → Y → Type 0) (xs : List X) where
-  pub first_begins : (q : List (Vec Y)) → QueueGains (First rule xs 0) q q
-  first_begins q = gains_none (First rule xs 0) q (λ c o. of_none (λ p. rule p c o) xs)
-
   First-step : (n : ℕ) (x : X) (old mid new : List (Vec Y)) → n < length xs → get_or xs n x ≡ x → QueueGains (First rule xs n) old mid → QueueGains (rule x) mid new → QueueGains (First rule xs (n + 1)) old new
   First-step n x old mid new lt is g p =
       gains_by (λ c o. First rule xs n c o ⊎ rule x c o) (First rule xs (n + 1)) old new (λ c o. of_more (λ p. rule p c o) xs n x is) (λ c o. of_fewer (λ p. rule p c o) xs n x lt is) (gains_then (First rule xs n) (rule x) old mid new g p)

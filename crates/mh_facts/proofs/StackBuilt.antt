@@ -3,8 +3,7 @@ use Rattle.std.proofs.Common.{◌≡◌, ℕ, zero, suc, ◌+◌, ◌-◌, ◌<�
 use Rattle.std.specs.List.{slice_get}
 use Rattle.mh_grammar.specs.declared.types.Symbol.{Symbol}
 use Rattle.mh_grammar.specs.declared.types.Symbol.TheVariants.{T, N}
-use Rattle.mh_tables_core.specs.declared.parts.Place.{Place}
-use Rattle.mh_tables_core.specs.Table.{TableData, state_at, edge_of}
+use Rattle.mh_tables_core.specs.Table.{TableData, edge_of}
 use Rattle.mh_grammar.specs.Plain.{rhs_of, lhs_of}
 use Rattle.mh_tables_core.specs.Facts.{Facts, InCore, HasGoto}
 use Rattle.mh_tables_core.specs.Run.{Shifts, Reduces, run_move_of}
@@ -148,24 +147,6 @@ pub built_long : (t : TableData) (r : ℕ) (stack : List ℕ) (s : ℕ) (v : Lis
 built_long t r stack s v z Alone = omega arith
 built_long t r new s v z (Pushed {stack = stack} b m is w) = let l = length_more new stack s is in omega arith
 built_long t r new s v z (Went {stack = stack} q b inner m edge is w) = let l = length_more new stack s is in omega arith
-
-first_of : (t : TableData) (u : ℕ) (l : List Place) → (state_at t u).core ≡ l → 0 < length l → (p : ℕ) × (d : ℕ) × InCore t u p d
-unfolding InCore
-first_of t u [] e lt = absurd (omega arith)
-first_of t u (c ∷ cs) e lt = (c.production, c.dot, (0, rw e (omega arith), rw e refl))
-
-some_core_of : (t : TableData) (f : Facts t) (r u : ℕ) (x : Symbol) → edge_of t r x ≡ Some u → (p : ℕ) × (d : ℕ) × InCore t u p d
-some_core_of t f r u x e = first_of t u (state_at t u).core refl (f.filled u (f.each_target r x u e))
-
--- Two edges from one state to one target are on one symbol.
-pub same_symbols : (t : TableData) (f : Facts t) (r u : ℕ) (x y : Symbol) → edge_of t r x ≡ Some u → edge_of t r y ≡ Some u → x ≡ y
-same_symbols t f r u x y ex ey =
-    let core = some_core_of t f r u x ex in
-    let bx = f.moved_from r x u core.0 core.1 ex core.2 in
-    let by = f.moved_from r y u core.0 core.1 ey core.2 in
-    let one = bx.symbol in
-    let two = by.symbol in
-    cc
 
 pub built_top : (t : TableData) (r : ℕ) (stack : List ℕ) (s : ℕ) (v : List ℕ) (z n : ℕ) → StackBuilt t r stack s v z → length stack ≡ suc n → get_or stack n 0 ≡ s
 built_top t r stack s v z zero Alone e = refl

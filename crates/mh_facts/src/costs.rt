@@ -20,7 +20,7 @@ pub fn add_costs(left: u32, right: u32) -> u32
 }
 
 /// The cost of a word that is extended by a token, or the highest cost if the sum is greater.
-#[tactic(auto, using(crate::proofs::WordAssignment::token_cost_below_cap))]
+#[tactic(auto, using(crate::proofs::WordCosts::token_cost_below_cap))]
 pub fn add_token(table: &Table, cost: u32, token: Token) -> u32
     requires cost { cost ≤ cap }
     requires token { token < table.now.grammar.tokens }

@@ -13,9 +13,9 @@ use Rattle.mh_facts.specs.Costs.{cap}
 use Rattle.mh_facts.specs.declared.classes.TokenClasses.{TokenClasses}
 use Rattle.mh_facts.specs.code.BestFirst.{Label, extended_label}
 use Rattle.mh_facts.specs.code.TokenClasses.{AreTokenClasses, rep_of}
-use Rattle.mh_facts.specs.code.WordAssignment.{WordNoLater, cost_up_to_cap, weigh}
+use Rattle.mh_facts.specs.code.WordCosts.{WordNoLater, cost_up_to_cap, weigh}
 use Rattle.mh_facts.proofs.LeastSentences.{candidate_fails, fails_candidate}
-use Rattle.mh_facts.proofs.WordAssignment.{capped_one, min_cap, option_unique, order_laws, weigh_word}
+use Rattle.mh_facts.proofs.WordCosts.{capped_one, min_cap, option_unique, order_laws, weigh_word}
 use Rattle.mh_reach_words.specs.code.Words.{Words, spelled}
 use Rattle.mh_reach_words.proofs.ComparisonOrder.{no_later_trans}
 use Rattle.mh_reach_found.specs.declared.arrivals.StateAndNext.{StateAndNext}

@@ -15,7 +15,7 @@ use Rattle.mh_facts.specs.code.Orders as orders
 use Rattle.mh_facts.specs.code.TokenClasses.{rep_of}
 use Rattle.mh_reach.proofs.Coming.{comes_if_reached, reaches_if_comes}
 use Rattle.mh_facts.proofs.Sound.{reaches_known}
-use Rattle.mh_facts.proofs.WordAssignment.{option_unique, weigh_word}
+use Rattle.mh_facts.proofs.WordCosts.{option_unique, weigh_word}
 use Rattle.mh_reach_found.specs.declared.arrivals.StateAndNext.{StateAndNext}
 use Rattle.mh_reach_found.specs.code.Arrivals.{LabelNoLater, labels_at}
 use Rattle.mh_reach_found.specs.code.SentenceComparison.{numbers_of}

@@ -4,7 +4,7 @@ ghost use Rattle.std.specs.Prelude.{◌≡◌, ◌<◌, ◌++◌, IfOk, OnOk, le
 ghost use Rattle.mh_tables_core.specs.Failing.{FailsFirst, FailsWithinMaxCost};
 ghost use Rattle.mh_reach.specs.Coming.{FirstComing, ComesWithinMaxCost};
 ghost use Rattle.mh_facts.specs.code.TokenClasses.{IsSized};
-ghost use Rattle.mh_facts.specs.code.WordAssignment.{listed};
+ghost use Rattle.mh_facts.specs.code.WordCosts.{listed};
 ghost use Rattle.mh_reach.specs.code.Candidates.{HasSentence, IsSentence, spot_of};
 ghost use Rattle.mh_reach.specs.Reaching.{LeastCost, LeastCostTo};
 

@@ -12,7 +12,7 @@ use Rattle.mh_grammar.specs.Plain.{production_count, rhs_of, lhs_of}
 use Rattle.mh_tables_core.specs.Table.{TableData, state_at, edge_of}
 use Rattle.mh_tables_core.specs.Facts.{Facts}
 use Rattle.mh_facts.specs.code.BestFirst.{IsPathEnd}
-use Rattle.mh_facts.proofs.LowerBound.{path_end_unique, path_end_in_range}
+use Rattle.mh_facts.proofs.IsPathEnd.{path_end_unique, path_end_in_range}
 use Rattle.mh_reach_classes.specs.declared.leading_reductions.Reduction.{Reduction}
 use Rattle.mh_facts.specs.code.Queues.{ListGains}
 use Rattle.mh_reach_classes.specs.code.Reductions.{IsReductionFrom, AreAllReductions}

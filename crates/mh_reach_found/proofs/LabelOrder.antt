@@ -10,8 +10,8 @@ use Rattle.mh_facts.specs.code.BestFirst.{Label, extended_label, LabelOrderLaws}
 use Rattle.mh_facts.specs.Costs.{cap}
 use Rattle.mh_facts.specs.code.Orders as orders
 use Rattle.mh_facts.proofs.OrderLaws.{cost_append, sentence_laws}
-use Rattle.mh_facts.specs.code.WordAssignment.{WordNoLater, weigh, cost_up_to_cap}
-use Rattle.mh_facts.proofs.WordAssignment.{weigh_positive, part_of_cost_zero, word_of_cost_zero}
+use Rattle.mh_facts.specs.code.WordCosts.{WordNoLater, weigh, cost_up_to_cap}
+use Rattle.mh_facts.proofs.WordCosts.{weigh_positive, part_of_cost_zero, word_of_cost_zero}
 use Rattle.mh_reach_found.specs.code.Arrivals.{LabelNoLater}
 use Rattle.mh_reach_found.specs.code.SentenceComparison.{numbers_of}
 

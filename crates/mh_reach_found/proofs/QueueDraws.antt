@@ -14,9 +14,6 @@ module _ {X : Type 0} (Done : X → Type 0) where
     pub kept : (c : ℕ) (o : X) → Waits old c o → Waits new c o ⊎ Done o
     pub only : (c : ℕ) (o : X) → Waits new c o → Waits old c o
 
-  pub thinned_none : (q : List (Vec X)) → Thinned q q
-  thinned_none q = record { kept = λ c o h. inl h; only = λ c o h. h }
-
   pub drop_done : (old mid new : List (Vec X)) (cost : ℕ) (i : X) → Thinned old mid → TakesItem mid new cost i → Done i → Thinned old new
   drop_done old mid new cost i h t done = record {
     kept = λ c o w. elim (h.kept c o w) [

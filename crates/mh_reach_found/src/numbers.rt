@@ -1,6 +1,6 @@
 //! The number of the empty word, and the token before the dot of a key.
 ghost use Rattle.std.specs.Prelude.{◌≡◌};
-ghost use Rattle.mh_facts.specs.code.WordAssignment.{before_dot, listed};
+ghost use Rattle.mh_facts.specs.code.WordCosts.{before_dot, listed};
 
 use mh_facts::FactKey;
 use mh_grammar::{Symbol, Token};

@@ -12,9 +12,9 @@ use Rattle.mh_facts.specs.Search.{leading_token, DerivesFact}
 use Rattle.mh_facts.specs.code.BestFirst.{IsPathEnd, WordOrderLaws, HasNoLater}
 use Rattle.mh_facts.proofs.StackBuilt.{leading_token-append}
 use Rattle.mh_facts.proofs.Sound.{shift_known}
-use Rattle.mh_facts.proofs.LowerBound.{derives_end, leading_token_in_range}
-use Rattle.mh_facts.specs.code.WordAssignment.{WordNoLater}
-use Rattle.mh_facts.proofs.WordAssignment.{order_laws}
+use Rattle.mh_facts.proofs.IsPathEnd.{derives_end, leading_token_in_range}
+use Rattle.mh_facts.specs.code.WordCosts.{WordNoLater}
+use Rattle.mh_facts.proofs.WordCosts.{order_laws}
 use Rattle.mh_reach_rests.specs.Rests.{DerivesRest}
 use Rattle.mh_reach_rests.specs.Rests as rules
 use Rattle.mh_reach_rests.specs.code.ClosedRests.{RestWords, GotoWords, GotoNoLater, RestHolds, RestsClosedBy, FindLeastGotos}

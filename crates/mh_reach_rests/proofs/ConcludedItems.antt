@@ -11,9 +11,9 @@ use Rattle.mh_facts.specs.declared.classes.TokenClasses.{TokenClasses}
 use Rattle.mh_facts.specs.code.BestFirst.{IsPathEnd, key}
 use Rattle.mh_facts.specs.code.Queues.{IsSameQueueEntry, QueueGains}
 use Rattle.mh_facts.specs.code.TokenClasses.{AreTokenClasses, rep_of, representatives_at}
-use Rattle.mh_facts.specs.code.WordAssignment.{WordNoLater, cost_up_to_cap}
-use Rattle.mh_facts.proofs.LowerBound.{Congruent-representatives, path_end_unique}
-use Rattle.mh_facts.proofs.WordAssignment.{order_laws}
+use Rattle.mh_facts.specs.code.WordCosts.{WordNoLater, cost_up_to_cap}
+use Rattle.mh_facts.proofs.IsPathEnd.{Congruent-representatives, path_end_unique}
+use Rattle.mh_facts.proofs.WordCosts.{order_laws}
 use Rattle.mh_reach_rests.specs.declared.conclusions.Conclusion.{Conclusion}
 use Rattle.mh_reach_rests.specs.declared.sought.Sought.TheVariants as soughts
 use Rattle.mh_reach_rests.specs.declared.waiting.WaitingWord.{WaitingWord}

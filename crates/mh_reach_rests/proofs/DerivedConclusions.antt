@@ -12,9 +12,9 @@ use Rattle.mh_tables_core.specs.Run.{Shifts, Reduces, run_move_of}
 use Rattle.mh_facts.specs.Costs.{cap}
 use Rattle.mh_facts.specs.declared.classes.TokenClasses.{TokenClasses}
 use Rattle.mh_facts.specs.code.TokenClasses.{AreTokenClasses, rep_of}
-use Rattle.mh_facts.specs.code.WordAssignment.{before_dot, cost_up_to_cap, weigh}
+use Rattle.mh_facts.specs.code.WordCosts.{before_dot, cost_up_to_cap, weigh}
 use Rattle.mh_facts.proofs.Edges.{known_token, shift_target}
-use Rattle.mh_facts.proofs.WordAssignment.{both_costs_zero, capped_both, cost_not_zero, no_lower, no_lower_back, token_cost_positive, weigh_known}
+use Rattle.mh_facts.proofs.WordCosts.{both_costs_zero, capped_both, cost_not_zero, no_lower, no_lower_back, token_cost_positive, weigh_known}
 use Rattle.mh_reach_rests.specs.declared.conclusions.Conclusion.{Conclusion}
 use Rattle.mh_reach_rests.specs.declared.sought.Sought.TheVariants as soughts
 use Rattle.mh_reach_rests.specs.declared.waiting.Origin.TheVariants as origins

@@ -10,14 +10,14 @@ use Rattle.mh_tables_core.specs.Table.{TableData, edge_of}
 use Rattle.mh_tables_core.specs.Facts.{Facts}
 use Rattle.mh_tables_core.specs.Run.{Shifts, run_move_of}
 use Rattle.mh_facts.specs.declared.store.FactKey.{FactKey}
-use Rattle.mh_facts.specs.declared.work.GotoFact.{GotoFact}
+use Rattle.mh_facts.specs.declared.goto_fact.GotoFact.{GotoFact}
 use Rattle.mh_facts.specs.declared.classes.TokenClasses.{TokenClasses}
 use Rattle.mh_facts.specs.code.BestFirst.{key}
 use Rattle.mh_facts.specs.code.Queues.{Waits, row_of}
 use Rattle.mh_facts.specs.code.TokenClasses.{AreTokenClasses, rep_of, place_of}
-use Rattle.mh_facts.specs.code.WordAssignment.{WordNoLater}
+use Rattle.mh_facts.specs.code.WordCosts.{WordNoLater}
 use Rattle.mh_facts.proofs.Edges.{shift_target}
-use Rattle.mh_facts.proofs.WordAssignment.{option_unique}
+use Rattle.mh_facts.proofs.WordCosts.{option_unique}
 use Rattle.mh_reach_rests.specs.declared.conclusions.Conclusion.{Conclusion}
 use Rattle.mh_reach_rests.specs.declared.sought.Sought.{Sought}
 use Rattle.mh_reach_rests.specs.declared.sought.Sought.TheVariants as soughts

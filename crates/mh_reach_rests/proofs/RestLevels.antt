@@ -16,8 +16,8 @@ use Rattle.mh_facts.specs.Costs.{cap}
 use Rattle.mh_facts.specs.declared.classes.TokenClasses.{TokenClasses}
 use Rattle.mh_facts.specs.code.Queues.{IsSameQueueEntry, QueueGains, Waits}
 use Rattle.mh_facts.specs.code.TokenClasses.{AreTokenClasses, rep_of}
-use Rattle.mh_facts.specs.code.WordAssignment.{WordNoLater}
-use Rattle.mh_facts.proofs.WordAssignment.{no_later_at_cap, no_later_if_cheaper, order_laws}
+use Rattle.mh_facts.specs.code.WordCosts.{WordNoLater}
+use Rattle.mh_facts.proofs.WordCosts.{no_later_at_cap, no_later_if_cheaper, order_laws}
 use Rattle.mh_reach_words.specs.code.Words.{IsBook, Words}
 use Rattle.mh_reach_words.specs.code.Numbering.{AreBelowGroup}
 use Rattle.mh_reach_found.specs.code.QueueDraws.{DrawsNone, DrawsOne}

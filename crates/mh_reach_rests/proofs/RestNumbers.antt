@@ -18,14 +18,14 @@ use Rattle.mh_tables_core.specs.Table.{TableData, cost_of_token}
 use Rattle.mh_tables_core.specs.Facts.{Facts}
 use Rattle.mh_tables_core.specs.Failing.{cost_by}
 use Rattle.mh_facts.specs.declared.store.FactKey.{FactKey}
-use Rattle.mh_facts.specs.declared.work.GotoFact.{GotoFact}
+use Rattle.mh_facts.specs.declared.goto_fact.GotoFact.{GotoFact}
 use Rattle.mh_facts.specs.Costs.{cap}
 use Rattle.mh_facts.specs.code.Orders as orders
 use Rattle.mh_facts.specs.code.Queues.{IsSameQueueEntry, QueueGains, row_of}
-use Rattle.mh_facts.specs.code.WordAssignment.{WordNoLater, before_dot, cost_up_to_cap, listed, token_of, weigh}
+use Rattle.mh_facts.specs.code.WordCosts.{WordNoLater, before_dot, cost_up_to_cap, listed, token_of, weigh}
 use Rattle.mh_facts.proofs.Edges.{symbol_token}
 use Rattle.mh_facts.proofs.OrderLaws.{cost_append}
-use Rattle.mh_facts.proofs.WordAssignment.{option_unique, order_laws, part_of_cost_zero, token_cost_positive, weigh_known, weigh_positive, word_of_cost_zero}
+use Rattle.mh_facts.proofs.WordCosts.{option_unique, order_laws, part_of_cost_zero, token_cost_positive, weigh_known, weigh_positive, word_of_cost_zero}
 use Rattle.mh_reach_words.specs.declared.word_parts.LastPart.TheVariants as lasts
 use Rattle.mh_reach_words.specs.declared.word_parts.WordParts.{WordParts}
 use Rattle.mh_reach_words.specs.code.Words.{GroupedWord, IsBook, IsProperPrefix, LessAtDifference, Words, group_in, group_of, letters_of, spelled}

@@ -13,7 +13,7 @@ use Rattle.mh_facts.specs.declared.classes.TokenClasses.{TokenClasses}
 use Rattle.mh_facts.specs.code.BestFirst.{IsPathEnd, key}
 use Rattle.mh_facts.specs.code.TokenClasses.{AreTokenClasses, rep_of}
 use Rattle.mh_facts.proofs.Edges.{known_token, shift_target}
-use Rattle.mh_facts.proofs.WordAssignment.{min_cap}
+use Rattle.mh_facts.proofs.WordCosts.{min_cap}
 use Rattle.mh_reach_rests.specs.declared.waiting.SettledRest.{SettledRest}
 use Rattle.mh_reach_rests.specs.declared.waiting.SettledGoto.{SettledGoto}
 use Rattle.mh_reach_rests.specs.code.RestRules.{FitsRest, IsGotoInRange, IsRestInRange, IsRestToJoin, after_goto, after_token}

@@ -15,15 +15,15 @@ use Rattle.mh_tables_core.specs.Table.{TableData, edge_of}
 use Rattle.mh_tables_core.specs.Facts.{Facts}
 use Rattle.mh_facts.specs.Costs.{cap}
 use Rattle.mh_facts.specs.declared.store.FactKey.{FactKey}
-use Rattle.mh_facts.specs.declared.work.GotoFact.{GotoFact}
+use Rattle.mh_facts.specs.declared.goto_fact.GotoFact.{GotoFact}
 use Rattle.mh_facts.specs.declared.classes.TokenClasses.{TokenClasses}
 use Rattle.mh_facts.specs.code.BestFirst.{WordOrderLaws, key}
 use Rattle.mh_facts.specs.code.Orders as orders
 use Rattle.mh_facts.specs.code.Queues.{Waits}
 use Rattle.mh_facts.specs.code.TokenClasses.{AreTokenClasses, rep_of, place_of}
-use Rattle.mh_facts.specs.code.WordAssignment.{WordNoLater, cost_up_to_cap, weigh}
+use Rattle.mh_facts.specs.code.WordCosts.{WordNoLater, cost_up_to_cap, weigh}
 use Rattle.mh_facts.proofs.OrderLaws.{cost_append}
-use Rattle.mh_facts.proofs.WordAssignment.{no_later_at_cap, order_laws, part_of_cost_zero, word_of_cost_zero}
+use Rattle.mh_facts.proofs.WordCosts.{no_later_at_cap, order_laws, part_of_cost_zero, word_of_cost_zero}
 use Rattle.mh_reach_found.specs.code.QueueDraws.{DrawsOne}
 use Rattle.mh_reach_found.specs.code.WordNumbers.{IsNumberOfWord}
 use Rattle.mh_reach_rests.specs.declared.settled.SettledWord.{SettledWord}
@@ -128,10 +128,6 @@ module _ (t : TableData) (f : Facts t) (c : TokenClasses) (cls : AreTokenClasses
     all_gotos = λ g e target there edge. (let found = good.all_gotos g e target there edge in (found.0, rw beside.gotos found.1, found.2));
     gotos_only = λ n o there. good.gotos_only n o (rw (← beside.gotos) there);
   }
-
-  -- An item that waits has only one word.
-  waiting_word : (cost : ℕ) (i : WaitingWord) (h : IsWaiting old.work level aside cost i) (u : List ℕ) → IsOriginWord t words i.origin u → u ≡ (good.items cost i h).word
-  waiting_word cost i h u by = let ok = good.items cost i h in origin_one t words i.origin u ok.word by ok.word_by
 
   -- A word is settled for the item i.
   module _ (le_cap : level ≤ cap) (flat : (o i : WaitingWord) (cost : ℕ) (u v : List ℕ) → Waits (queue_of old.work) level o → IsWaiting old.work level aside cost i → IsOriginWord t words o.origin u → IsOriginWord t words i.origin v → WordNoLater t u v) (rising : AreSortedByWord t words aside)

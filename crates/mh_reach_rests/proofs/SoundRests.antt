@@ -11,7 +11,7 @@ use Rattle.mh_tables_core.proofs.Reductions.{shifts_from_move}
 use Rattle.mh_facts.specs.Search.{leading_token}
 use Rattle.mh_facts.specs.code.BestFirst.{IsPathEnd, Congruent}
 use Rattle.mh_facts.proofs.StackBuilt.{leading_token-append}
-use Rattle.mh_facts.proofs.LowerBound.{leading_token_in_range, path_end_unique}
+use Rattle.mh_facts.proofs.IsPathEnd.{leading_token_in_range, path_end_unique}
 use Rattle.mh_reach_rests.specs.Rests.{DerivesRest}
 use Rattle.mh_reach_rests.specs.Rests as rules
 use Rattle.mh_reach_rests.specs.code.ClosedRests.{IsRestEnd, IsSoundRest, IsSoundGoto}

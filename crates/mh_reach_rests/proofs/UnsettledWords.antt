@@ -10,11 +10,11 @@ use Rattle.mh_grammar.proofs.Lists.{contains_at}
 use Rattle.mh_tables_core.specs.Table.{TableData}
 use Rattle.mh_tables_core.specs.Facts.{Facts}
 use Rattle.mh_facts.specs.declared.store.FactKey.{FactKey}
-use Rattle.mh_facts.specs.declared.work.GotoFact.{GotoFact}
+use Rattle.mh_facts.specs.declared.goto_fact.GotoFact.{GotoFact}
 use Rattle.mh_facts.specs.code.BestFirst.{key}
 use Rattle.mh_facts.proofs.Edges.{known_nonterminal}
 use Rattle.mh_facts.proofs.FactKeys.{fact_keys}
-use Rattle.mh_facts.proofs.Unsettled.{bit_le, bit_less, narrow, one_if_absent, sum_below, total_le, total_less, wide}
+use Rattle.mh_facts.proofs.SumBelow.{bit_le, bit_less, narrow, one_if_absent, sum_below, total_le, total_less, wide}
 use Rattle.mh_reach_rests.specs.declared.settled.SettledWord.{SettledWord}
 use Rattle.mh_reach_rests.specs.declared.settled.SettledWords.{SettledWords}
 use Rattle.mh_reach_rests.specs.declared.sought.Sought.{Sought}

@@ -11,8 +11,8 @@ use Rattle.mh_facts.specs.Costs.{cap}
 use Rattle.mh_facts.specs.declared.classes.TokenClasses.{TokenClasses}
 use Rattle.mh_facts.specs.code.Queues.{Waits}
 use Rattle.mh_facts.specs.code.TokenClasses.{AreTokenClasses, rep_of}
-use Rattle.mh_facts.specs.code.WordAssignment.{WordNoLater}
-use Rattle.mh_facts.proofs.WordAssignment.{order_laws}
+use Rattle.mh_facts.specs.code.WordCosts.{WordNoLater}
+use Rattle.mh_facts.proofs.WordCosts.{order_laws}
 use Rattle.mh_reach_words.specs.code.Words.{empty_word}
 use Rattle.mh_reach_words.specs.code.Numbering.{AreBelowGroup}
 use Rattle.mh_reach_rests.specs.declared.conclusions.Conclusion.{Conclusion}

@@ -5,15 +5,15 @@ use Rattle.std.proofs.lemmas.Bool.{and_parts}
 use Rattle.std.proofs.lemmas.Grind.{common_steps}
 use Rattle.mh_tables_core.specs.Table.{TableData}
 use Rattle.mh_facts.specs.declared.store.FactKey.{FactKey}
-use Rattle.mh_facts.specs.declared.work.GotoFact.{GotoFact}
+use Rattle.mh_facts.specs.declared.goto_fact.GotoFact.{GotoFact}
 use Rattle.mh_facts.specs.Stored.{same_fact}
 use Rattle.mh_facts.specs.Costs.{cap}
-use Rattle.mh_facts.specs.code.WordAssignment.{before_dot, cost_up_to_cap}
+use Rattle.mh_facts.specs.code.WordCosts.{before_dot, cost_up_to_cap}
 use Rattle.std.proofs.lemmas.Option.{slice_get_within}
 use Rattle.mh_grammar.proofs.Lists.{get_left, get_within}
 use Rattle.mh_facts.proofs.AssociationLists.{AreKeys, at_kept, at_last, at_cases, put_here, put_cases, put_other}
 use Rattle.mh_facts.proofs.FactKeys.{fact_keys}
-use Rattle.mh_facts.proofs.WordAssignment.{option_unique}
+use Rattle.mh_facts.proofs.WordCosts.{option_unique}
 use Rattle.mh_reach_words.specs.code.Words.{GroupedWord, Words, letters_in, group_in}
 use Rattle.mh_reach_found.specs.code.WordNumbers.{IsNumberOfWord}
 use Rattle.mh_reach_rests.specs.declared.settled.SettledWord.{SettledWord}

@@ -20,6 +20,7 @@ mod waiting;
 
 pub use laws::{gotos_are_found, rests_are_paths};
 pub use numbering::RestBook;
+pub use rows::empty_rows;
 pub use settled::{SettledWord, SettledWords, word_of_goto};
 pub use settling::{RestsFound, search};
 pub use sought::Sought;

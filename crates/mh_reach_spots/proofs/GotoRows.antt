@@ -8,7 +8,7 @@ use Rattle.mh_grammar.proofs.Lists.{at_contains, contains_at, contains_cases, co
 use Rattle.mh_tables_core.specs.Table.{TableData, edge_of}
 use Rattle.mh_tables_core.specs.Facts.{Facts}
 use Rattle.mh_facts.specs.Costs.{cap}
-use Rattle.mh_facts.specs.declared.work.GotoFact.{GotoFact}
+use Rattle.mh_facts.specs.declared.goto_fact.GotoFact.{GotoFact}
 use Rattle.mh_facts.specs.declared.classes.TokenClasses.{TokenClasses}
 use Rattle.mh_facts.specs.code.Queues.{AddsToRow, ListGains, items_of, row_of}
 use Rattle.mh_facts.specs.code.TokenClasses.{place_of, rep_of}

@@ -7,11 +7,11 @@ use Rattle.mh_tables_core.specs.Facts.{Facts}
 use Rattle.mh_facts.specs.Search.{ReachesState}
 use Rattle.mh_facts.specs.Search as rules
 use Rattle.mh_facts.specs.code.BestFirst.{Label, HasNoLaterLabel, LabelOrderLaws, LabelsClosedByGotos, WordOrderLaws, extended_label}
-use Rattle.mh_facts.specs.code.WordAssignment.{WordNoLater}
-use Rattle.mh_facts.proofs.LowerBound.{leading_token_in_range}
+use Rattle.mh_facts.specs.code.WordCosts.{WordNoLater}
+use Rattle.mh_facts.proofs.IsPathEnd.{leading_token_in_range}
 use Rattle.mh_facts.proofs.Sound.{derives_known, reaches_known, shift_known}
 use Rattle.mh_facts.proofs.StackBuilt.{leading_token-derives}
-use Rattle.mh_facts.proofs.WordAssignment.{order_laws}
+use Rattle.mh_facts.proofs.WordCosts.{order_laws}
 use Rattle.mh_reach_found.specs.code.Arrivals.{LabelNoLater}
 use Rattle.mh_reach_found.proofs.LabelOrder.{label_laws}
 use Rattle.mh_reach_rests.specs.code.ClosedRests.{GotoWords}

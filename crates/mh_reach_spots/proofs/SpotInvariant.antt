@@ -11,17 +11,17 @@ use Rattle.mh_tables_core.specs.Facts.{Facts}
 use Rattle.mh_tables_core.specs.Run.{Shifts, run_move_of}
 use Rattle.mh_tables_core.proofs.Reductions.{shifts_from_move}
 use Rattle.mh_facts.specs.Costs.{cap}
-use Rattle.mh_facts.specs.declared.work.GotoFact.{GotoFact}
+use Rattle.mh_facts.specs.declared.goto_fact.GotoFact.{GotoFact}
 use Rattle.mh_facts.specs.declared.classes.TokenClasses.{TokenClasses}
 use Rattle.mh_facts.specs.code.BestFirst.{Label, HasNoLaterLabel, LabelOrderLaws, LabelsClosedByGotos, SoundGoto, SoundLabel, extended_label}
 use Rattle.mh_facts.specs.code.Queues.{QueueGains, Waits}
 use Rattle.mh_facts.specs.code.TokenClasses.{AreTokenClasses, rep_of}
-use Rattle.mh_facts.specs.code.WordAssignment.{WordNoLater}
+use Rattle.mh_facts.specs.code.WordCosts.{WordNoLater}
 use Rattle.mh_facts.proofs.AssociationLists.{at_cases}
 use Rattle.mh_facts.proofs.LeastSentences.{reach_begins, reach_shifts, reached_by_goto}
 use Rattle.mh_facts.proofs.QueueRows.{row_past}
 use Rattle.mh_facts.proofs.Sound.{shift_known}
-use Rattle.mh_facts.proofs.WordAssignment.{capped_both, capped_one, min_cap, no_lower, option_unique}
+use Rattle.mh_facts.proofs.WordCosts.{capped_both, capped_one, min_cap, no_lower, option_unique}
 use Rattle.mh_reach_words.specs.declared.word_parts.LastPart.TheVariants as lasts
 use Rattle.mh_reach_words.specs.code.Words.{Words, IsBook, letters_of}
 use Rattle.mh_reach_found.specs.declared.arrivals.StateAndNext.{StateAndNext}

@@ -5,9 +5,9 @@ use Rattle.std.proofs.lemmas.Bool.{cases_lt}
 use Rattle.mh_tables_core.specs.Table.{TableData}
 use Rattle.mh_facts.specs.Costs.{cap}
 use Rattle.mh_facts.specs.code.BestFirst.{Label}
-use Rattle.mh_facts.specs.code.WordAssignment.{cost_up_to_cap}
+use Rattle.mh_facts.specs.code.WordCosts.{cost_up_to_cap}
 use Rattle.mh_facts.proofs.AssociationLists.{each_more, none_more, put_cases, put_here, put_other}
-use Rattle.mh_facts.proofs.WordAssignment.{no_lower, no_lower_back, option_unique}
+use Rattle.mh_facts.proofs.WordCosts.{no_lower, no_lower_back, option_unique}
 use Rattle.mh_reach_words.specs.declared.word_parts.WordParts.{WordParts}
 use Rattle.mh_reach_words.specs.code.Words.{Words, HasParts}
 use Rattle.mh_reach_words.proofs.LongerBook.{letters_kept, made_below, spelled_kept}

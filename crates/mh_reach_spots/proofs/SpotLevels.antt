@@ -11,7 +11,7 @@ use Rattle.mh_facts.specs.declared.classes.TokenClasses.{TokenClasses}
 use Rattle.mh_facts.specs.code.BestFirst.{Label}
 use Rattle.mh_facts.specs.code.Queues.{IsSameQueueEntry, QueueGains}
 use Rattle.mh_facts.specs.code.TokenClasses.{AreTokenClasses}
-use Rattle.mh_facts.specs.code.WordAssignment.{cost_up_to_cap}
+use Rattle.mh_facts.specs.code.WordCosts.{cost_up_to_cap}
 use Rattle.mh_reach_words.specs.code.Numbering.{AreBelowGroup, IsNumberOf}
 use Rattle.mh_reach_words.specs.code.Sorting.{HaveSameElements, IsSorted}
 use Rattle.mh_reach_words.specs.code.Words.{Words, HasParts, LessAtDifference, letters_of, spelled}
@@ -63,12 +63,6 @@ module _ (t : TableData) (f : Facts t) (c : TokenClasses) (cls : AreTokenClasses
   level_taken mid all good takes =
       let m = moves_taken (IsReachedAlready spots) old mid level all takes in
       invariant_moves t f c cls gotos book spots old level [] good mid level all m.kept_or_done m.back (λ cost o h. good.at_least_level cost o (m.back cost o h)) (omega arith)
-
-  -- The separate list is reordered.
-  level_sorted : (xs ys : List WaitingSpot) → SpotInvariant t c gotos book spots old level xs → HaveSameElements xs ys → SpotInvariant t c gotos book spots old level ys
-  level_sorted xs ys good same =
-      let m = moves_sorted (IsReachedAlready spots) old level xs ys same in
-      invariant_moves t f c cls gotos book spots old level xs good old level ys m.kept_or_done m.back (λ cost o h. good.at_least_level cost o (m.back cost o h)) (omega arith)
 
   -- The next arrival of the separate list is moved to the queue.
   pub level_pushed : (mid : SpotQueue) (r : RankedSpot) (rs : List RankedSpot) → SpotsReady t c gotos book spots old level (r ∷ rs) → QueueGains (IsSameQueueEntry level r.coming) old mid → SpotsInOrder t c gotos book spots mid level r.sentence rs

@@ -13,9 +13,9 @@ use Rattle.mh_tables_core.specs.Table.{TableData}
 use Rattle.mh_tables_core.specs.Failing.{cost_by}
 use Rattle.mh_facts.specs.Costs.{cap}
 use Rattle.mh_facts.specs.code.BestFirst.{Label}
-use Rattle.mh_facts.specs.code.WordAssignment.{cost_up_to_cap, weigh}
+use Rattle.mh_facts.specs.code.WordCosts.{cost_up_to_cap, weigh}
 use Rattle.mh_facts.proofs.OrderLaws.{cost_append}
-use Rattle.mh_facts.proofs.WordAssignment.{weigh_positive}
+use Rattle.mh_facts.proofs.WordCosts.{weigh_positive}
 use Rattle.mh_reach_words.specs.declared.word_parts.WordParts.{WordParts}
 use Rattle.mh_reach_words.specs.code.Words.{Words, HasParts, IsBook, IsProperPrefix, group_of, spelled}
 use Rattle.mh_reach_words.specs.code.Numbering.{AreBelowGroup, ArePrefixFree, IsNumberingOf}

@@ -2,7 +2,7 @@
 -- gets its arrival lowers the number by one or more.
 use Rattle.std.proofs.Common.{◌≡◌, ℕ, ◌<◌, [], ◌∷◌, ◌++◌, None}
 use Rattle.std.specs.Prelude.{◌^◌}
-use Rattle.mh_facts.proofs.Unsettled.{sum_below, total_le, total_less, one_if_absent, bit_le, bit_less, wide, narrow}
+use Rattle.mh_facts.proofs.SumBelow.{sum_below, total_le, total_less, one_if_absent, bit_le, bit_less, wide, narrow}
 use Rattle.mh_reach_found.specs.declared.arrivals.StateAndNext.{StateAndNext}
 use Rattle.mh_reach_found.specs.code.Arrivals.{spot}
 use Rattle.mh_reach_found.proofs.StateAndNextKeys.{spot_keys}

@@ -1,8 +1,7 @@
 //! The goto facts of the first search by their beginnings.
-ghost use Rattle.std.specs.Prelude.{◌≡◌, ℕ, [], ◌∷◌, IfOk, OnOk, length};
+ghost use Rattle.std.specs.Prelude.{◌≡◌, [], ◌∷◌, IfOk, OnOk, length};
 ghost use Rattle.std.specs.List.{Contains};
 ghost use Rattle.mh_reach_rests.specs.declared.waiting.SettledGoto.{SettledGoto};
-ghost use Rattle.mh_facts.specs.code.Queues.{row_of};
 ghost use Rattle.mh_facts.specs.code.TokenClasses.{AreTokenClasses};
 ghost use Rattle.mh_reach_rests.specs.code.RestLevels.{IsRestsResult};
 ghost use Rattle.mh_reach_rests.specs.code.RestRules.{IsGotoInRange};
@@ -12,7 +11,7 @@ ghost use Rattle.mh_reach_spots.specs.code.GotoRows.{FilesGotos, FilesRows, HasG
 use mh_facts::{GotoFact, TokenClasses, class_of};
 use mh_grammar::Memory;
 use mh_reach_found::EMPTY;
-use mh_reach_rests::{RestsFound, SettledGoto, SettledWords, word_of_goto};
+use mh_reach_rests::{RestsFound, SettledGoto, SettledWords, empty_rows, word_of_goto};
 use mh_tables_core::Table;
 use std::alloc::Global;
 
@@ -84,18 +83,6 @@ fn file_each(
     Ok(())
 }
 
-/// An empty row for each class.
-fn no_gotos(alloc: Global, places: u32) -> Result<Vec<Vec<NumberedGoto>>, Memory>
-    ensures rows { IfOk result (λ rows. length rows.items ≡ places) }
-    ensures none { IfOk result (λ rows. (n : ℕ) → row_of rows.items n ≡ []) }
-{
-    let mut rows = Vec::new(alloc);
-    for _ in 0..places {
-        rows.push(Vec::new(alloc))?;
-    }
-    Ok(rows)
-}
-
 /// Files the goto facts of all rows.
 fn file_all(
     table: &Table,
@@ -126,7 +113,7 @@ pub(crate) fn gotos_by_start(
     ensures { IfOk result (λ rows. HasGotos table.now classes.now found.now.words.book rows.items) }
 {
     table.facts();
-    let mut rows = no_gotos(alloc, classes.places)?;
+    let mut rows = empty_rows(alloc, classes.places)?;
     file_all(table, classes, found, &mut rows)?;
     Ok(rows)
 }

@@ -3,8 +3,7 @@ ghost use Rattle.std.specs.Prelude.{◌≡◌, ◌≤◌, ◌<◌, ◌+◌, ℕ,
 ghost use Rattle.std.specs.List.{Contains};
 ghost use Rattle.mh_tables_core.specs.Table.{edge_of};
 ghost use Rattle.mh_facts.specs.Costs.{cap};
-ghost use Rattle.mh_facts.specs.code.Queues.{Among, QueueGains, row_of};
-ghost use Rattle.mh_facts.specs.code.SearchRules.{IsUniqueItem};
+ghost use Rattle.mh_facts.specs.code.Queues.{Among, IsUniqueItem, QueueGains, row_of};
 ghost use Rattle.mh_facts.specs.code.TokenClasses.{AreTokenClasses};
 ghost use Rattle.mh_reach_spots.specs.declared.goto_rows.NumberedGoto.{NumberedGoto};
 ghost use Rattle.mh_reach_spots.specs.code.SpotSteps.{CanStepFrom, FollowsSpot, IsStartArrival, StepsAlong, StepsEdge, StepsOn, StepsOverGoto, StepsShift};

@@ -1,5 +1,5 @@
 -- Lemmas that turn the result of a comparison into the lexicographic order of the two words.
-use Rattle.std.proofs.Common.{◌≡◌, ◌∙◌, ℕ, ◌⊎◌, inl, inr, List, [], ◌∷◌, ◌++◌, refl, sym, arith}
+use Rattle.std.proofs.Common.{◌≡◌, ◌∙◌, ℕ, ◌⊎◌, inl, inr, List, [], ◌∷◌, refl, sym, arith}
 use Rattle.std.specs.declared.cmp.Ordering.{Ordering}
 use Rattle.std.specs.declared.cmp.Ordering.TheVariants.{Less, Equal, Greater}
 use Rattle.mh_grammar.specs.WordOrder.{LexLe}
@@ -9,13 +9,6 @@ use Rattle.mh_reach_words.specs.code.Words.{Words, LessAtDifference, IsProperPre
 use Rattle.mh_reach_words.specs.code.Comparison.{IsComparison}
 use Rattle.mh_reach_words.specs.code.Numbering.{AreDifferent}
 use Rattle.mh_reach_words.specs.code.Sorting.{LexNoLater}
-
--- Two words that differ at a common position stay in order when any words are appended to them.
-pub before_lex : (u v r s : List ℕ) → LessAtDifference u v → LexLe (u ++ r) (v ++ s)
-before_lex [] v r s h = absurd h
-before_lex (x ∷ u) [] r s h = absurd h
-before_lex (x ∷ u) (y ∷ v) r s (inl lt) = inl lt
-before_lex (x ∷ u) (y ∷ v) r s (inr h) = inr (h.0, before_lex u v r s h.1)
 
 pub before_no_later : (u v : List ℕ) → LessAtDifference u v → LexLe u v
 before_no_later [] v h = absurd h

@@ -37,19 +37,10 @@ pub compared_is : (u v a b : List ℕ) (o : Ordering) → u ≡ a → v ≡ b �
 compared_is u v a b o e f h = rw (e, f) h
 
 module _ (words : Words) (old : Rests) where
-  abbrev left_rest : Option LastPart → List ℕ
-  left_rest p = word_of_stack words (old.left.items ++ top_of p)
-
-  abbrev right_rest : Option LastPart → List ℕ
-  right_rest p = word_of_stack words (old.right.items ++ top_of p)
-
   -- The case where one word has ended.
 
   none_left : (ps : List LastPart) → ps ≡ [] → word_of_stack words (ps ++ []) ≡ []
   none_left ps e = rw e refl
-
-  pub both_end : AreTops words old None None → IsComparisonStep words old old None None (Some Equal)
-  both_end tops = none_left old.left.items (tops.left_ends refl) ∙ sym (none_left old.right.items (tops.right_ends refl))
 
   pub left_ends : (x : ℕ) → AreTops words old None (Some (lasts.Token x)) → IsComparisonStep words old old None (Some (lasts.Token x)) (Some Less)
   left_ends x tops = inr (x, word_of_stack words old.right.items, rw (none_left old.left.items (tops.left_ends refl)) (rest_top words old.right.items (lasts.Token x)))

@@ -7,7 +7,7 @@ use Rattle.std.proofs.lemmas.Option.{slice_get_within}
 use Rattle.std.proofs.lemmas.List.Elements.{Contains-append_left}
 use Rattle.indexmap.specs.IndexSet.{insert_key}
 use Rattle.indexmap.proofs.CallerLemmas.{Contains-list_any}
-use Rattle.mh_grammar.proofs.Lists.{get_cases, get_left, get_last, get_unique, get_within, contains_at, at_contains, contains_last, contains_push, contains_none, below_next}
+use Rattle.mh_grammar.proofs.Lists.{get_cases, get_left, get_last, get_unique, get_within, contains_at, at_contains, contains_last, contains_push, below_next}
 use Rattle.mh_reach_words.specs.contracts.word_parts.WordPartsPartialEq.TheImpl.{ghosts}
 use Rattle.mh_reach_words.specs.declared.word_parts.WordParts.{WordParts}
 use Rattle.mh_reach_words.specs.declared.word_parts.WordEntry.{WordEntry}
@@ -50,9 +50,6 @@ pub record OnceSoFar (made : List WordParts) (n : ℕ) (distinct : List WordPart
   pub has : (i : ℕ) (m : WordParts) → i < n → slice_get made i ≡ Some m → Contains distinct m
   pub only : (m : WordParts) → Contains distinct m → Contains made m
 
-pub once_begins : (made distinct : List WordParts) → distinct ≡ [] → OnceSoFar made 0 distinct
-once_begins made distinct none = record { has = λ i m lt at. absurd (omega arith); only = λ m h. absurd (contains_none m (rw none at h)) }
-
 pub once_next : (made : List WordParts) (n : ℕ) (m : WordParts) (old new : List WordParts) → slice_get made n ≡ Some m → OnceSoFar made n old → InsertsOnce old new m → OnceSoFar made (n + 1) new
 once_next made n m old new at h p = record {
   has = λ i o lt there. by i o lt there (below_next i n lt);
@@ -67,9 +64,6 @@ pub once_ends : (made : List WordParts) (n : ℕ) (distinct : List WordParts) �
 once_ends made n distinct le h = record { kept = λ m there. (let at = at_contains made m there in h.has at.0 m (let l = slice_get_within made at.0 m at.1 in omega arith) at.1); only = h.only }
 
 -- Equal neighbours in the sorted list.
-
-pub not_repeated : (words : Words) (made : List WordParts) (place : ℕ) → place ≡ 0 → IsRepeated words made place false
-not_repeated words made place none p m o e at there = absurd (omega arith)
 
 pub repeated_by : (words : Words) (made : List WordParts) (place p : ℕ) (m o : WordParts) (b : Bool) → place ≡ suc p → slice_get made p ≡ Some m → slice_get made place ≡ Some o → IsEqual words m o b → IsRepeated words made place b
 repeated_by words made place p m o true e at there h = (p, m, o, e, at, there, h)
@@ -91,15 +85,6 @@ rises_at R (x ∷ made) (suc i) (suc j) m o lt at there h = rises_at R made i j 
 module _ (entries : List WordEntry) (group : ℕ) (made : List WordParts) where
   abbrev words : Words
   words = words_of entries
-
-  pub numbered_none : (g : PartialNumbering) → g.entries.items ≡ [] → IsNumberedUpTo entries group made 0 g
-  numbered_none g none = record {
-    begun = λ e. none;
-    made = λ j e at. absurd (let y : None ≡ Some e = rw none at at in cc);
-    rising = λ j k d e lt at there. absurd (let y : None ≡ Some d = rw none at at in cc);
-    last = λ p m e at. absurd (omega arith);
-    numbers = λ i m lt at. absurd (omega arith);
-  }
 
   module _ (place : ℕ) (old new : PartialNumbering) (m : WordParts) (at : slice_get made place ≡ Some m) (even : ArePrefixFree words made) (rises : IsSorted (LexNoLater words) made) (gives : IsNumberedUpTo entries group made place old)
       (number : ℕ) (number_is : number ≡ length entries + length new.entries.items) (long : length words ≡ suc (length entries)) (put : (q : WordParts) → number_in new q ≡ cond (ghosts.eq m q) (Some number) (number_in old q)) where

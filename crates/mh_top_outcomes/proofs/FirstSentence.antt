@@ -9,7 +9,7 @@ use Rattle.mh_grammar_decided.proofs.NotLacking.{given, chain}
 use Rattle.mh_tables_core.specs.Table.{TableData}
 use Rattle.mh_tables_core.specs.Facts.{Facts}
 use Rattle.mh_tables_core.specs.Failing.{SentenceAtMost, cost_of_word}
-use Rattle.mh_facts.proofs.WordAssignment.{token_cost_positive}
+use Rattle.mh_facts.proofs.WordCosts.{token_cost_positive}
 use Rattle.mh_top_outcomes.proofs.LeastExample.{Least, least_number, LeastWord, least_word}
 
 -- The first sentence with the property.

@@ -1,20 +1,19 @@
--- Definitions of the best-first search, for any order of words: closure under the rules, soundness, completeness and
--- the invariant. The letters are those of `Search`:
+-- Definitions of the best-first searches, for any order of words: the ends of paths, the laws of the orders, soundness,
+-- closure of the second search under its rules, and candidates. The letters are those of `Search`:
 -- - The key (r, p, d, a, z) is a path from the state r along the first d symbols of the production p; a is its first
 --   token, and z (or y) the next token after it. The state s is the end of the path.
 -- - A complete path of the production q begins in s and ends in e; its goto leads from s to g.
 -- - A goto fact (s, n, y, x, v) says that the word v leads from the state s over the goto on the nonterminal n, where y
 --   is the first token and x the next token after the word.
--- - A shift of the token x leads to j. The letter n is a nonterminal, i is a start, u, v, w and m are words, and k and
---   l are keys or labels.
+-- - A shift of the token x leads to j. The letter n is a nonterminal, i is a start, u, v and w are words, and k, l and m
+--   are keys or labels.
 -- - `rep s z` is the representative of the token z in the state s, `store` has the words by keys, `goto_words` the goto
 --   facts with their words, and `reached` the labels by state and next token.
-use Rattle.std.specs.Prelude.{◌≡◌, ℕ, zero, suc, List, [], ◌∷◌, ◌++◌, length, slice_get, Option, Some, ◌<◌, ◌≤◌, ◌⊎◌, ◌+◌}
+use Rattle.std.specs.Prelude.{◌≡◌, ℕ, zero, suc, List, [], ◌∷◌, ◌++◌, length, slice_get, Option, Some, ◌<◌}
 use Rattle.mh_grammar.specs.declared.types.Symbol.{Symbol}
-use Rattle.mh_grammar.specs.declared.types.Symbol.TheVariants.{T, N}
+use Rattle.mh_grammar.specs.declared.types.Symbol.TheVariants.{N}
 use Rattle.mh_tables_core.specs.Table.{TableData, edge_of}
-use Rattle.mh_grammar.specs.Plain.{production_count, rhs_of, lhs_of}
-use Rattle.mh_tables_core.specs.Facts.{HasGoto}
+use Rattle.mh_grammar.specs.Plain.{rhs_of, lhs_of}
 use Rattle.mh_tables_core.specs.Run.{Refuses, Shifts, Reduces, run_move_of}
 use Rattle.mh_facts.specs.declared.store.FactKey.{FactKey}
 use Rattle.mh_facts.specs.Search.{leading_token, DerivesFact, ReachesState}
@@ -40,30 +39,12 @@ key r p d a z = record { from = r; production = p; dot = d; first = a; next = z 
 abbrev pub HasNoLater : (List ℕ → List ℕ → Type 0) → (FactKey → Option (List ℕ)) → FactKey → List ℕ → Type 0
 HasNoLater Le store k w = (u : List ℕ) × (store k ≡ Some u) × Le u w
 
--- A word that the queue has for the key comes no later than w.
-abbrev pub QueueHasNoLater : (List ℕ → List ℕ → Type 0) → (FactKey → List ℕ → Type 0) → FactKey → List ℕ → Type 0
-QueueHasNoLater Le queue k w = (u : List ℕ) × queue k u × Le u w
-
 -- Tokens with one representative in a state g are interchangeable before g: if a production whose goto leads to g is
 -- reduced on one of the tokens, it is reduced on the others, and they have one representative in the reducing state
 -- too.
 pub record Congruent (t : TableData) (rep : ℕ → ℕ → ℕ) : Type 0 where
   pub reduces : (s q e g y z : ℕ) → IsPathEnd t s q (length (rhs_of t.grammar q)) e → edge_of t s (N (lhs_of t.grammar q)) ≡ Some g → y < t.grammar.tokens → z < t.grammar.tokens → rep g y ≡ rep g z → run_move_of t e (y ∷ []) ≡ Reduces q
       → (run_move_of t e (z ∷ []) ≡ Reduces q) × (rep e y ≡ rep e z)
-
--- Where the premises of a rule are stored, H holds of its conclusion. The tokens of keys are representatives: `first`
--- in the state in which the path begins, `next` in the state in which it ends.
-pub record ClosedBy (t : TableData) (rep : ℕ → ℕ → ℕ) (store : FactKey → Option (List ℕ)) (H : FactKey → List ℕ → Type 0) : Type 0 where
-  pub begins : (r p a : ℕ) → r < length t.states → a < t.grammar.tokens → length t.grammar.starts ≤ p → p < production_count t.grammar → HasGoto t r p → H (key r p 0 (rep r a) (rep r a)) []
-  pub shifts : (r p d a x z s j : ℕ) (v : List ℕ) → store (key r p d a (rep s x)) ≡ Some v → IsPathEnd t r p d s → slice_get (rhs_of t.grammar p) d ≡ Some (T x) → run_move_of t s (x ∷ []) ≡ Shifts j → z < t.grammar.tokens
-      → H (key r p (suc d) a (rep j z)) (v ++ x ∷ [])
-  pub reduces : (r p d a y z q s e g : ℕ) (u v : List ℕ) → store (key r p d a y) ≡ Some u → IsPathEnd t r p d s → slice_get (rhs_of t.grammar p) d ≡ Some (N (lhs_of t.grammar q)) → store (key s q (length (rhs_of t.grammar q)) y (rep e z)) ≡ Some v
-      → IsPathEnd t s q (length (rhs_of t.grammar q)) e → run_move_of t e (z ∷ []) ≡ Reduces q → edge_of t s (N (lhs_of t.grammar q)) ≡ Some g → z < t.grammar.tokens → H (key r p (suc d) a (rep g z)) (u ++ v)
-
--- For each token that the key's `next` represents, v is a word of the key's path.
-abbrev pub SoundFact : TableData → (ℕ → ℕ → ℕ) → FactKey → List ℕ → Type 0
-SoundFact t rep k v = (s z : ℕ) → IsPathEnd t k.from k.production k.dot s → z < t.grammar.tokens → rep s z ≡ k.next
-    → DerivesFact t k.from k.production k.dot (leading_token v z) z v s × (rep k.from (leading_token v z) ≡ k.first)
 
 -- For each token that x represents in g, v is the word of a complete path from s that is reduced to the nonterminal n,
 -- with y as the representative of the first token to come.
@@ -89,12 +70,6 @@ pub record LabelOrderLaws (Le : List ℕ → List ℕ → Type 0) (LeAt : Label 
 abbrev pub HasNoLaterLabel : (Label → Label → Type 0) → (ℕ → ℕ → Option Label) → ℕ → ℕ → Label → Type 0
 HasNoLaterLabel LeAt reached s z l = (k : Label) × (reached s z ≡ Some k) × LeAt k l
 
-pub record LabelsClosedBy (t : TableData) (rep : ℕ → ℕ → ℕ) (store : FactKey → Option (List ℕ)) (reached : ℕ → ℕ → Option Label) (H : ℕ → ℕ → Label → Type 0) : Type 0 where
-  pub begins : (i z : ℕ) → i < length t.grammar.starts → z < t.grammar.tokens → H i (rep i z) (record { start = i; word = [] })
-  pub shifts : (s x z j : ℕ) (l : Label) → reached s (rep s x) ≡ Some l → run_move_of t s (x ∷ []) ≡ Shifts j → z < t.grammar.tokens → H j (rep j z) (extended_label l (x ∷ []))
-  pub reduces : (s y z q e g : ℕ) (l : Label) (v : List ℕ) → reached s y ≡ Some l → store (key s q (length (rhs_of t.grammar q)) y (rep e z)) ≡ Some v → IsPathEnd t s q (length (rhs_of t.grammar q)) e → run_move_of t e (z ∷ []) ≡ Reduces q
-      → edge_of t s (N (lhs_of t.grammar q)) ≡ Some g → z < t.grammar.tokens → H g (rep g z) (extended_label l v)
-
 -- Where the premises of a rule on goto facts hold in the second search, H holds of the conclusion.
 pub record LabelsClosedByGotos (t : TableData) (rep : ℕ → ℕ → ℕ) (goto_words : (from nonterminal first next : ℕ) → List ℕ → Type 0) (reached : ℕ → ℕ → Option Label) (H : ℕ → ℕ → Label → Type 0) : Type 0 where
   pub begins : (i z : ℕ) → i < length t.grammar.starts → z < t.grammar.tokens → H i (rep i z) (record { start = i; word = [] })
@@ -105,55 +80,11 @@ pub record LabelsClosedByGotos (t : TableData) (rep : ℕ → ℕ → ℕ) (goto
 abbrev pub SoundLabel : TableData → (ℕ → ℕ → ℕ) → ℕ → ℕ → Label → Type 0
 SoundLabel t rep s y l = (z : ℕ) → z < t.grammar.tokens → rep s z ≡ y → (l.start < length t.grammar.starts) × ReachesState t l.start s z l.word
 
--- For each word of a fact, the store has a word for the fact's key that comes no later.
-abbrev pub Complete : TableData → (ℕ → ℕ → ℕ) → (List ℕ → List ℕ → Type 0) → (FactKey → Option (List ℕ)) → Type 0
-Complete t rep Le store = (r p d a z : ℕ) (v : List ℕ) (s : ℕ) → r < length t.states → z < t.grammar.tokens → p < production_count t.grammar → DerivesFact t r p d a z v s → HasNoLater Le store (key r p d (rep r a) (rep s z)) v
-
 -- A candidate for the sentence of a state: the state refuses the token z after the word of the label l.
 pub record Candidate (t : TableData) (rep : ℕ → ℕ → ℕ) (reached : ℕ → ℕ → Option Label) (s z : ℕ) (l : Label) : Type 0 where
   pub known : z < t.grammar.tokens
   pub refuses : run_move_of t s (z ∷ []) ≡ Refuses
   pub reached_at : reached s (rep s z) ≡ Some l
-
--- The word w is pending for the key: the store or the queue has a word for the key that comes no later than w.
-abbrev pub IsPending : (List ℕ → List ℕ → Type 0) → (FactKey → Option (List ℕ)) → (FactKey → List ℕ → Type 0) → FactKey → List ℕ → Type 0
-IsPending Le store queue k w = HasNoLater Le store k w ⊎ QueueHasNoLater Le queue k w
-
--- Where the premises of a rule are stored, H holds of its conclusion. Of all complete paths with one goto fact, only
--- one with a least word needs to be kept.
-pub record ClosedByGotos (t : TableData) (rep : ℕ → ℕ → ℕ) (Le : List ℕ → List ℕ → Type 0) (store : FactKey → Option (List ℕ)) (goto_words : (from nonterminal first next : ℕ) → List ℕ → Type 0) (H : FactKey → List ℕ → Type 0) : Type 0 where
-  pub begins : (r p a : ℕ) → r < length t.states → a < t.grammar.tokens → length t.grammar.starts ≤ p → p < production_count t.grammar → HasGoto t r p → H (key r p 0 (rep r a) (rep r a)) []
-  pub shifts : (r p d a x z s j : ℕ) (v : List ℕ) → store (key r p d a (rep s x)) ≡ Some v → IsPathEnd t r p d s → slice_get (rhs_of t.grammar p) d ≡ Some (T x) → run_move_of t s (x ∷ []) ≡ Shifts j → z < t.grammar.tokens
-      → H (key r p (suc d) a (rep j z)) (v ++ x ∷ [])
-  pub complete_paths : (y z q s e g : ℕ) (v : List ℕ) → store (key s q (length (rhs_of t.grammar q)) y (rep e z)) ≡ Some v → IsPathEnd t s q (length (rhs_of t.grammar q)) e → run_move_of t e (z ∷ []) ≡ Reduces q
-      → edge_of t s (N (lhs_of t.grammar q)) ≡ Some g → z < t.grammar.tokens → (u : List ℕ) × goto_words s (lhs_of t.grammar q) y (rep g z) u × Le u v
-  pub joins : (r p d a y s n x : ℕ) (u v : List ℕ) → store (key r p d a y) ≡ Some u → IsPathEnd t r p d s → slice_get (rhs_of t.grammar p) d ≡ Some (N n) → goto_words s n y x v → H (key r p (suc d) a x) (u ++ v)
-
--- The invariant of the best-first search, between two steps.
-pub record SearchInvariant (t : TableData) (rep : ℕ → ℕ → ℕ) (Le : List ℕ → List ℕ → Type 0) (store : FactKey → Option (List ℕ)) (goto_words : (from nonterminal first next : ℕ) → List ℕ → Type 0) (queue : FactKey → List ℕ → Type 0) : Type 0 where
-  pub closed : ClosedByGotos t rep Le store goto_words (IsPending Le store queue)
-  pub stored : (k : FactKey) (u : List ℕ) → store k ≡ Some u → SoundFact t rep k u
-  pub queued : (k : FactKey) (u : List ℕ) → queue k u → SoundFact t rep k u
-  -- Stored words come no later than words in the queue.
-  pub before : (k l : FactKey) (u m : List ℕ) → store k ≡ Some u → queue l m → Le u m
-
--- A step of the search, which settles the key k with the word m. It changes the store from `store` to `new`, the goto
--- facts from `goto_words` to `over`, and the queue from `queue` to `later`.
-pub record SettlingStep (t : TableData) (rep : ℕ → ℕ → ℕ) (Le : List ℕ → List ℕ → Type 0) (store new : FactKey → Option (List ℕ)) (goto_words over : (from nonterminal first next : ℕ) → List ℕ → Type 0) (queue later : FactKey → List ℕ → Type 0) (k : FactKey) (m : List ℕ) : Type 0 where
-  pub only : (other : FactKey) (u : List ℕ) → new other ≡ Some u → (store other ≡ Some u) ⊎ ((other ≡ k) × (u ≡ m))
-  pub kept : (other : FactKey) (u : List ℕ) → store other ≡ Some u → new other ≡ Some u
-  pub settled : new k ≡ Some m
-  pub still_pending : (other : FactKey) (u : List ℕ) → queue other u → later other u ⊎ ((v : List ℕ) × (new other ≡ Some v) × Le v u)
-  pub gotos_kept : (s n y x : ℕ) (v : List ℕ) → goto_words s n y x v → over s n y x v
-  pub shifts : (r p d a x z s j : ℕ) → key r p d a (rep s x) ≡ k → IsPathEnd t r p d s → slice_get (rhs_of t.grammar p) d ≡ Some (T x) → run_move_of t s (x ∷ []) ≡ Shifts j → z < t.grammar.tokens → IsPending Le new later (key r p (suc d) a (rep j z)) (m ++ x ∷ [])
-  pub complete_paths : (y z q s e g : ℕ) → key s q (length (rhs_of t.grammar q)) y (rep e z) ≡ k → IsPathEnd t s q (length (rhs_of t.grammar q)) e → run_move_of t e (z ∷ []) ≡ Reduces q → edge_of t s (N (lhs_of t.grammar q)) ≡ Some g → z < t.grammar.tokens
-      → (u : List ℕ) × over s (lhs_of t.grammar q) y (rep g z) u × Le u m
-  -- The conclusions from k as a path and each goto fact after it.
-  pub path : (r p d a y s n x : ℕ) (v : List ℕ) → key r p d a y ≡ k → IsPathEnd t r p d s → slice_get (rhs_of t.grammar p) d ≡ Some (N n) → over s n y x v → IsPending Le new later (key r p (suc d) a x) (m ++ v)
-  -- The conclusions from each stored path and each new goto fact after it.
-  pub new_gotos : (r p d a y s n x : ℕ) (u v : List ℕ) → store (key r p d a y) ≡ Some u → IsPathEnd t r p d s → slice_get (rhs_of t.grammar p) d ≡ Some (N n) → over s n y x v → goto_words s n y x v ⊎ IsPending Le new later (key r p (suc d) a x) (u ++ v)
-  pub sound : (other : FactKey) (u : List ℕ) → later other u → SoundFact t rep other u
-  pub after : (other : FactKey) (u : List ℕ) → later other u → Le m u
 
 -- For each complete path and its goto: the path's last state e reduces the production on a token exactly if it does so
 -- on the token's representative in the target g of the goto. Then the token and this representative have the same

@@ -22,7 +22,3 @@ pub data SentenceLe (weigh : ℕ → ℕ) (k l : Label) : Type 0 where
   Over : cap ≤ cost_by weigh k.word → cap ≤ cost_by weigh l.word → SentenceLe weigh k l
   Sooner : cost_by weigh k.word ≡ cost_by weigh l.word → k.start < l.start → SentenceLe weigh k l
   Lower : cost_by weigh k.word ≡ cost_by weigh l.word → k.start ≡ l.start → LexLe k.word l.word → SentenceLe weigh k l
-
--- The order of sentences (a start and a word) by cost alone.
-abbrev pub LabelCostLe : (ℕ → ℕ) → Label → Label → Type 0
-LabelCostLe weigh k l = CostLe weigh k.word l.word

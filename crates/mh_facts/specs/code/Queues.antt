@@ -31,6 +31,12 @@ pub record QueueGains {X : Type 0} (P : ℕ → X → Type 0) (old new : List (V
 abbrev pub IsSameQueueEntry : {X : Type 0} → ℕ → X → ℕ → X → Type 0
 IsSameQueueEntry cost i c o = (c ≡ cost) × (o ≡ i)
 
+-- `Some i`: P holds of the item i with the cost `cost`, and of no other item and no other cost. `None`: P holds of no
+-- item with any cost.
+abbrev pub IsUniqueItem : {Y : Type 0} → (ℕ → Y → Type 0) → ℕ → Option Y → Type 0
+IsUniqueItem {Y} P cost None = (c : ℕ) (o : Y) → P c o → ⊥
+IsUniqueItem {Y} P cost (Some i) = P cost i × ((c : ℕ) (o : Y) → P c o → IsSameQueueEntry cost i c o)
+
 -- The item i, which has this cost, is taken out of the queue.
 pub record TakesItem {X : Type 0} (old new : List (Vec X)) (cost : ℕ) (i : X) : Type 0 where
   pub waited : Waits old cost i

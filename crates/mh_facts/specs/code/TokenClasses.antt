@@ -16,8 +16,8 @@ class_in c s z = slice_get (row_of c.rows.items s) z
 unfoldable pub rep_of : TokenClasses → ℕ → ℕ → ℕ
 rep_of c s z = unwrap_or (option_map (λ k. k.representative) (class_in c s z)) z
 
--- The number of a token's class in a state, among the classes of all states. It is the number of the row for paths that
--- end in the state with the token next, and for complete paths that begin there with the token first.
+-- The number of a token's class in a state, among the classes of all states. It is the number of the row for rests of
+-- paths that begin in the state with the token first, and for goto facts that lead to the state with the token next.
 unfoldable pub place_of : TokenClasses → ℕ → ℕ → ℕ
 place_of c s z = unwrap_or (option_map (λ k. k.place) (class_in c s z)) 0
 

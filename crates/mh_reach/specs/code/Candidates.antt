@@ -10,7 +10,7 @@ use Rattle.mh_facts.specs.Costs.{cap}
 use Rattle.mh_facts.specs.declared.classes.TokenClasses.{TokenClasses}
 use Rattle.mh_facts.specs.code.BestFirst.{Label}
 use Rattle.mh_facts.specs.code.TokenClasses.{IsSized, rep_of}
-use Rattle.mh_facts.specs.code.WordAssignment.{cost_up_to_cap, listed}
+use Rattle.mh_facts.specs.code.WordCosts.{cost_up_to_cap, listed}
 use Rattle.mh_reach_words.specs.declared.word_parts.WordParts.{WordParts}
 use Rattle.mh_reach_words.specs.declared.word_parts.LastPart.TheVariants as lasts
 use Rattle.mh_reach_words.specs.code.Sorting.{LexNoLater}

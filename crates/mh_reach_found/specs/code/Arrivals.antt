@@ -3,7 +3,7 @@ use Rattle.std.specs.Prelude.{ℕ, Option, Bool, if◌then◌else◌, nat_eq, �
 use Rattle.mh_tables_core.specs.Table.{TableData}
 use Rattle.mh_facts.specs.code.BestFirst.{Label}
 use Rattle.mh_facts.specs.code.Orders.{SentenceLe}
-use Rattle.mh_facts.specs.code.WordAssignment.{weigh}
+use Rattle.mh_facts.specs.code.WordCosts.{weigh}
 use Rattle.mh_reach_found.specs.declared.arrivals.StateAndNext.{StateAndNext}
 
 -- The order of sentences by cost, then by start, then lexicographically.

@@ -11,7 +11,7 @@ use Rattle.mh_tables_core.specs.Run.{Shifts, Reduces, run_move_of}
 use Rattle.mh_facts.specs.declared.store.FactKey.{FactKey}
 use Rattle.mh_facts.specs.Search.{leading_token, DerivesFact}
 use Rattle.mh_facts.specs.code.BestFirst.{IsPathEnd, SoundGoto, HasNoLater, key}
-use Rattle.mh_facts.specs.code.WordAssignment.{WordNoLater}
+use Rattle.mh_facts.specs.code.WordCosts.{WordNoLater}
 use Rattle.mh_reach_rests.specs.Rests.{DerivesRest}
 
 abbrev pub RestWords : Type 0

@@ -6,12 +6,12 @@ use Rattle.mh_grammar.specs.declared.types.Symbol.TheVariants.{N}
 use Rattle.mh_grammar.specs.Plain.{rhs_of}
 use Rattle.mh_tables_core.specs.Table.{TableData, edge_of}
 use Rattle.mh_facts.specs.declared.store.FactKey.{FactKey}
-use Rattle.mh_facts.specs.declared.work.GotoFact.{GotoFact}
+use Rattle.mh_facts.specs.declared.goto_fact.GotoFact.{GotoFact}
 use Rattle.mh_facts.specs.declared.classes.TokenClasses.{TokenClasses}
 use Rattle.mh_facts.specs.Costs.{cap}
 use Rattle.mh_facts.specs.code.Queues.{AddsToRow, Among, QueueGains, Waits, WaitsOrIsListed}
 use Rattle.mh_facts.specs.code.TokenClasses.{rep_of, place_of}
-use Rattle.mh_facts.specs.code.WordAssignment.{WordNoLater, cost_up_to_cap}
+use Rattle.mh_facts.specs.code.WordCosts.{WordNoLater, cost_up_to_cap}
 use Rattle.mh_reach_words.specs.code.Numbering.{AreBelowGroup}
 use Rattle.mh_reach_found.specs.code.QueueDraws.{DrawsOne, DrawsNone, AppendsUnlessDone, DrawsAll}
 use Rattle.mh_reach_found.specs.code.WordNumbers.{IsNumberOfWord}

@@ -3,10 +3,10 @@ use Rattle.std.specs.Prelude.{◌≡◌, ◌<◌, ◌≤◌, ◌+◌, ◌⊎◌,
 use Rattle.std.specs.List.{Contains}
 use Rattle.mh_tables_core.specs.Table.{TableData, cost_of_token}
 use Rattle.mh_facts.specs.declared.store.FactKey.{FactKey}
-use Rattle.mh_facts.specs.declared.work.GotoFact.{GotoFact}
+use Rattle.mh_facts.specs.declared.goto_fact.GotoFact.{GotoFact}
 use Rattle.mh_facts.specs.Costs.{cap}
 use Rattle.mh_facts.specs.code.Queues.{row_of}
-use Rattle.mh_facts.specs.code.WordAssignment.{cost_up_to_cap, listed}
+use Rattle.mh_facts.specs.code.WordCosts.{cost_up_to_cap, listed}
 use Rattle.mh_reach_words.specs.declared.word_parts.LastPart.TheVariants as lasts
 use Rattle.mh_reach_words.specs.declared.word_parts.WordParts.{WordParts}
 use Rattle.mh_reach_words.specs.code.Words.{Words, IsBook, HasParts, empty_word, letters_of, spelled}

@@ -5,7 +5,7 @@ use Rattle.mh_grammar.specs.declared.types.Symbol.TheVariants.{T, N}
 use Rattle.mh_grammar.specs.Plain.{rhs_of}
 use Rattle.mh_tables_core.specs.Table.{TableData, edge_of}
 use Rattle.mh_tables_core.specs.Run.{Shifts, run_move_of}
-use Rattle.mh_facts.specs.declared.work.GotoFact.{GotoFact}
+use Rattle.mh_facts.specs.declared.goto_fact.GotoFact.{GotoFact}
 use Rattle.mh_facts.specs.code.BestFirst.{key}
 use Rattle.mh_reach_rests.specs.declared.sought.Sought.{Sought}
 use Rattle.mh_reach_rests.specs.declared.sought.Sought.TheVariants as soughts

@@ -3,10 +3,10 @@ use Rattle.std.specs.Prelude.{◌≡◌, ◌<◌, ℕ, List, [], ◌∷◌, ◌+
 use Rattle.std.specs.Map.{lookup}
 use Rattle.mh_tables_core.specs.Table.{TableData}
 use Rattle.mh_facts.specs.declared.store.FactKey.{FactKey}
-use Rattle.mh_facts.specs.declared.work.GotoFact.{GotoFact}
+use Rattle.mh_facts.specs.declared.goto_fact.GotoFact.{GotoFact}
 use Rattle.mh_facts.specs.Stored.{same_fact}
 use Rattle.mh_facts.specs.Costs.{cap}
-use Rattle.mh_facts.specs.code.WordAssignment.{before_dot, cost_up_to_cap}
+use Rattle.mh_facts.specs.code.WordCosts.{before_dot, cost_up_to_cap}
 use Rattle.mh_reach_words.specs.code.Words.{Words}
 use Rattle.mh_reach_found.specs.code.WordNumbers.{IsNumberOfWord}
 use Rattle.mh_reach_rests.specs.declared.settled.SettledWord.{SettledWord}

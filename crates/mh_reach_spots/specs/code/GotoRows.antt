@@ -12,7 +12,7 @@ use Rattle.mh_facts.specs.declared.classes.TokenClasses.{TokenClasses}
 use Rattle.mh_facts.specs.code.BestFirst.{SoundGoto}
 use Rattle.mh_facts.specs.code.Queues.{ListGains, row_of}
 use Rattle.mh_facts.specs.code.TokenClasses.{place_of, rep_of}
-use Rattle.mh_facts.specs.code.WordAssignment.{WordNoLater, cost_up_to_cap}
+use Rattle.mh_facts.specs.code.WordCosts.{WordNoLater, cost_up_to_cap}
 use Rattle.mh_reach_words.specs.code.Words.{Words}
 use Rattle.mh_reach_rests.specs.declared.settled.SettledWord.{SettledWord}
 use Rattle.mh_reach_rests.specs.declared.settled.SettledWords.{SettledWords}

@@ -9,7 +9,7 @@ use Rattle.mh_facts.specs.declared.classes.TokenClasses.{TokenClasses}
 use Rattle.mh_facts.specs.code.BestFirst.{Label, HasNoLaterLabel, LabelsClosedByGotos, SoundLabel}
 use Rattle.mh_facts.specs.code.Queues.{Waits, WaitsOrIsListed}
 use Rattle.mh_facts.specs.code.TokenClasses.{rep_of}
-use Rattle.mh_facts.specs.code.WordAssignment.{cost_up_to_cap}
+use Rattle.mh_facts.specs.code.WordCosts.{cost_up_to_cap}
 use Rattle.mh_reach_words.specs.code.Numbering.{AreBelowGroup}
 use Rattle.mh_reach_words.specs.code.Sorting.{IsSorted}
 use Rattle.mh_reach_words.specs.code.Words.{Words, HasParts, spelled}

@@ -7,7 +7,7 @@ use Rattle.mh_facts.specs.Search.{ReachesState}
 use Rattle.mh_facts.specs.declared.classes.TokenClasses.{TokenClasses}
 use Rattle.mh_facts.specs.code.BestFirst.{Label, HasNoLaterLabel, SoundLabel}
 use Rattle.mh_facts.specs.code.TokenClasses.{rep_of}
-use Rattle.mh_facts.specs.code.WordAssignment.{cost_up_to_cap}
+use Rattle.mh_facts.specs.code.WordCosts.{cost_up_to_cap}
 use Rattle.mh_reach_words.specs.code.Words.{Words, letters_of}
 use Rattle.mh_reach_found.specs.declared.arrivals.StateAndNext.{StateAndNext}
 use Rattle.mh_reach_found.specs.code.Arrivals.{LabelNoLater, labels_at, same_spot, spot}

@@ -1,5 +1,5 @@
 use Rattle.std.proofs.Common.{◌≡◌, ◌∙◌, ◌++◌, ap, arith, List, ℕ}
-use Rattle.mh_facts.specs.code.WordAssignment.{listed}
+use Rattle.mh_facts.specs.code.WordCosts.{listed}
 use Rattle.mh_reach.proofs.SentenceOf.{first_is_start, letters_are, some_letter}
 use Rattle.mh_reach.proofs.sentences.sentence_at.Goals as goal
 

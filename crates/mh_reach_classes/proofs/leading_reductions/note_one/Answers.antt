@@ -1,7 +1,7 @@
 use Rattle.std.proofs.Common.{◌≡◌, refl, ◌∙◌, length}
 use Rattle.mh_grammar.specs.Plain.{rhs_of}
 use Rattle.mh_facts.specs.code.BestFirst.{IsPathEnd}
-use Rattle.mh_facts.proofs.LowerBound.{path_end_unique}
+use Rattle.mh_facts.proofs.IsPathEnd.{path_end_unique}
 use Rattle.mh_reach_classes.specs.declared.leading_reductions.Reduction.{Reduction}
 use Rattle.mh_reach_classes.specs.code.Reductions.{IsReductionBy}
 use Rattle.mh_facts.proofs.ListGains.{collects_by}

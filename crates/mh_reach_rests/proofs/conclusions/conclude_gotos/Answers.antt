@@ -6,7 +6,7 @@ use Rattle.mh_tables_core.specs.Table.{edge_of}
 use Rattle.mh_facts.specs.code.Queues.{Among}
 use Rattle.mh_facts.specs.code.TokenClasses.{representatives_at}
 use Rattle.mh_facts.proofs.QueueGains.{gains_by, gains_none}
-use Rattle.mh_facts.proofs.WordAssignment.{option_unique}
+use Rattle.mh_facts.proofs.WordCosts.{option_unique}
 use Rattle.mh_reach_rests.specs.code.RestRules.{IsConcludedAt, IsGotoOf}
 use Rattle.mh_reach_rests.proofs.conclusions.conclude_gotos.Goals as goal
 

@@ -1,14 +1,10 @@
--- Lemmas on the number of keys that are not stored: each fact that is settled lowers the number.
+-- Lemmas on sums over the numbers below a limit. Such sums count the keys without a value; one more entry lowers the
+-- count.
 use Rattle.std.proofs.Common.{◌≡◌, ℕ, zero, suc, ◌+◌, ◌<◌, ◌≤◌, inl, inr, List, [], ◌∷◌, ◌++◌, Some, None, Option, Bool, refl, arith}
 use Rattle.std.proofs.lemmas.Bool.{cases_lt}
 use Rattle.std.specs.Prelude.{◌^◌}
 use Rattle.std.specs.Map.{lookup}
-use Rattle.mh_facts.specs.declared.store.FactKey.{FactKey}
-use Rattle.mh_facts.specs.declared.store.Fact.{Fact}
-use Rattle.mh_facts.specs.Stored.{StoredFacts, fact_at}
-use Rattle.mh_facts.specs.code.BestFirst.{key}
 use Rattle.mh_facts.proofs.AssociationLists.{AreKeys, at_kept, at_last}
-use Rattle.mh_facts.proofs.FactKeys.{fact_keys}
 
 -- The sum of a function over the numbers below n.
 unfoldable pub sum_below : ℕ → (ℕ → ℕ) → ℕ
@@ -28,7 +24,7 @@ total_less (suc n) j f g h lt less = elim (cases_lt j n) [
   | inr is ↦ (let e : j ≡ n = omega arith in let l : f n < g n = rw (← e) less in let a = total_le n f g h in omega arith)
 ]
 
--- 1 if nothing is stored for a key, else 0.
+-- 1 if a key has no value, else 0.
 unfoldable pub one_if_absent : {V : Type 0} → Option V → ℕ
 one_if_absent None = 1
 one_if_absent (Some v) = 0
@@ -57,16 +53,3 @@ wide = 2 ^ 32
 
 abbrev pub narrow : ℕ
 narrow = 2 ^ 16
-
-unfoldable pub unsettled : StoredFacts → ℕ
-unsettled facts = sum_below wide (λ r. sum_below wide (λ p. sum_below wide (λ d. sum_below narrow (λ a. sum_below narrow (λ z. one_if_absent (fact_at facts (key r p d a z)))))))
-
-module _ (facts : StoredFacts) (k : FactKey) (f : Fact) where
-  pub unsettled_less : fact_at facts k ≡ None → k.from < 2 ^ 32 → k.production < 2 ^ 32 → k.dot < 2 ^ 32 → k.first < 2 ^ 16 → k.next < 2 ^ 16 → unsettled (facts ++ (k, f) ∷ []) < unsettled facts
-  unfolding unsettled
-  unsettled_less fresh r p d a z =
-      total_less wide k.from _ _ (λ r. total_le wide _ _ (λ p. total_le wide _ _ (λ d. total_le narrow _ _ (λ a. total_le narrow _ _ (λ z. bit_le fact_keys facts k f (key r p d a z)))))) r
-      (total_less wide k.production _ _ (λ p. total_le wide _ _ (λ d. total_le narrow _ _ (λ a. total_le narrow _ _ (λ z. bit_le fact_keys facts k f (key k.from p d a z))))) p
-      (total_less wide k.dot _ _ (λ d. total_le narrow _ _ (λ a. total_le narrow _ _ (λ z. bit_le fact_keys facts k f (key k.from k.production d a z)))) d
-      (total_less narrow k.first _ _ (λ a. total_le narrow _ _ (λ z. bit_le fact_keys facts k f (key k.from k.production k.dot a z))) a
-      (total_less narrow k.next _ _ (λ z. bit_le fact_keys facts k f (key k.from k.production k.dot k.first z)) z (bit_less fact_keys facts k f fresh)))))
