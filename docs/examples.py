@@ -1,7 +1,7 @@
 #!/usr/bin/env python3
 """examples.py PROGRAM PAGE.. --pieces PAGE FOLDER..: runs the examples of the pages with a built program, and compares
 the output byte for byte. It also looks up each block of the page after --pieces in the source files of the
-folders; white space at the beginning of lines is ignored.
+folders that have the language of the block; spaces at the beginning of lines are ignored.
 
 An example is a block `sh`. Its only line is `menhir` and the words. If the expected status is not 0, `status=N` follows
 `sh`. The next blocks are `in` (the input), `out` and `err`; an empty one is left out. A block `file NAME` above an
@@ -9,11 +9,16 @@ example is a file in the folder in which the example is run. The script ends wit
 piece is in no source file."""
 import argparse
 import glob
+import itertools
 import os
 import shlex
 import subprocess
 import sys
 import tempfile
+
+
+# The source files of each language.
+SOURCES = {"rust": ["*.rt"], "c": ["*.c", "*.h"], "python": ["*.py"]}
 
 
 def blocks(page):
@@ -62,14 +67,19 @@ def flush_left(text):
     return "".join(line.lstrip(" ") for line in text.splitlines(keepends=True))
 
 
+def sources(language, folders):
+    """The texts of the source files of a language."""
+    for folder, pattern in itertools.product(folders, SOURCES.get(language, [])):
+        for name in sorted(glob.glob(os.path.join(folder, pattern))):
+            with open(name, encoding="utf-8") as source:
+                yield flush_left(source.read())
+
+
 def strays(page, folders):
     """For each piece of code of a page: its position, and a complaint if no source file of the folders has the piece."""
-    sources = []
-    for name in sorted(name for folder in folders for name in glob.glob(os.path.join(folder, "*.rt"))):
-        with open(name, encoding="utf-8") as source:
-            sources.append(flush_left(source.read()))
-    for _, start, text in blocks(page):
-        is_there = any(flush_left(text) in source for source in sources)
+    texts = {language: list(sources(language, folders)) for language in SOURCES}
+    for words, start, text in blocks(page):
+        is_there = any(flush_left(text) in source for language in words[:1] for source in texts.get(language, []))
         yield f"{page}:{start}", [] if is_there else [f"this piece is in no file of {' '.join(folders)}"]
 
 

@@ -1,0 +1,5 @@
+pub mod FieldlessStruct
+pub mod IsRun
+pub mod IsAnswer
+pub mod Answers
+pub mod HoldsErrorList

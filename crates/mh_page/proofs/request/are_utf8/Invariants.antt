@@ -1,0 +1,11 @@
+use Rattle.std.proofs.Common.{length}
+use Rattle.std.specs.List.{AllByRecursion}
+use Rattle.std.specs.Str.{IsUtf8}
+use Rattle.mh_page.specs.Given.{words_given}
+use Rattle.mh_page.proofs.request.are_utf8.Given as goal
+
+abbrev pub invariant-loop-rest : goal.invariant-loop-rest
+invariant-loop-rest l = (AllByRecursion IsUtf8 (words_given l.rest) → AllByRecursion IsUtf8 (words_given l.words)) × (AllByRecursion IsUtf8 (words_given l.words) → AllByRecursion IsUtf8 (words_given l.rest))
+
+abbrev pub decreases-loop-rest : goal.decreases-loop-rest
+decreases-loop-rest l = length l.rest

@@ -1,0 +1,5 @@
+pub mod Given
+pub mod Rooms
+pub mod Devices
+pub mod Answers
+pub mod Headline
