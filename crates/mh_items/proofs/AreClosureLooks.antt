@@ -223,3 +223,7 @@ module _ {W : ℕ} (g : PlainGrammar) (f : Firsts W) (kernel : Kernel) (old s : 
 
   pub are_closure_looks : AreClosureLooks g kernel s
   are_closure_looks = record { exact = λ n b. (h.sound kernel seeds n b, wants_asked n b) }
+
+-- The looks alone decide whether they are those of the closure.
+pub same_closure_looks : {W : ℕ} (g : PlainGrammar) (kernel : Kernel) (old new : PendingLooks W) → new.looks ≡ old.looks → AreClosureLooks g kernel old → AreClosureLooks g kernel new
+same_closure_looks g kernel old new same w = record { exact = λ n b. rw same (w.exact n b) }

@@ -35,7 +35,7 @@ pub(crate) fn added_items<const W: usize>(
 {
     let numbers = added_productions(alloc, grammar, firsts, set)?;
     let starts = grammar.starts.len();
-    let mut items = Vec::new(alloc);
+    let mut items = Vec::with_capacity(alloc, numbers.len())?;
     for number in numbers.as_slice() {
         let production = &grammar.productions[*number as usize - starts];
         items.push(KernelItem {

@@ -57,6 +57,7 @@ pub(crate) fn closure_over<const W: usize>(
 {
     add_kernel_looks(grammar, &firsts.sets, kernel.items.as_slice(), asked)?;
     spread(grammar, firsts, asked)?;
+    asked.sort_visited();
     let added = added_items(alloc, grammar, firsts, asked)?;
     asked.forget();
     merged(alloc, grammar, kernel.items.as_slice(), added.as_slice())

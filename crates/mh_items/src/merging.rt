@@ -24,7 +24,7 @@ pub(crate) fn merged<const W: usize>(
     requires right { IsItemList (plain_of grammar.now) (record { items = right.now }) }
     ensures { IfOk result (λ closed. IsItemUnion (plain_of grammar.now) left.now right.now closed.items) }
 {
-    let mut items = Vec::new(alloc);
+    let mut items = Vec::with_capacity(alloc, left.len().saturating_add(right.len()))?;
     let mut i = 0;
     let mut j = 0;
     'items: while i < left.len() || j < right.len() {

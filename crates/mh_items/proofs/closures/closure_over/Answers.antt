@@ -7,6 +7,7 @@ use Rattle.mh_items.specs.code.PendingLooks.{AddsLooks, AreQueued, AreAllWaiting
 use Rattle.mh_items.specs.code.ClosureLooks.{IsLookOfItems, AreClosureLooks}
 use Rattle.mh_items.proofs.IsKernelLook.{are_kernel_looks, all_waiting}
 use Rattle.mh_items.proofs.AreAddedItems.{closure_of_union}
+use Rattle.mh_items.proofs.AreClosureLooks.{same_closure_looks}
 use Rattle.mh_items.proofs.closures.closure_over.Goals as goal
 
 pub add_kernel_looks-requires : goal.add_kernel_looks-requires
@@ -23,6 +24,9 @@ spread-requires _ c =
     let awake : AreAllWaiting c.add_kernel_looks.new.set = all_waiting g (IsLookOfItems g c.args.kernel.now.items) c.args.asked.now c.add_kernel_looks.new.set c.requires.nothing.empty h in
     (search rules, (search rules, (c.requires.fits.few, (c.requires.firsts, (h.table, (h.size ∙ c.requires.nothing.size, (queued, awake)))))))
 
+pub sort_visited-requires : goal.sort_visited-requires
+sort_visited-requires _ c = (search rules, (c.in_ok-spread.ensures.table, c.in_ok-spread.ensures.none_waits))
+
 pub added_items-requires : goal.added_items-requires
 added_items-requires _ c =
     let g = plain_of c.args.grammar.now in
@@ -30,10 +34,11 @@ added_items-requires _ c =
     let h : AddsLooks (IsLookOfItems g kernel.items) c.args.asked.now c.add_kernel_looks.new.set = rw c.as_slice.ensures at c.in_ok-add_kernel_looks.ensures in
     let size = c.in_ok-spread.ensures.size ∙ h.size ∙ c.requires.nothing.size in
     let w : AreClosureLooks g kernel c.spread.new.set = c.in_ok-spread.ensures.wanted kernel (are_kernel_looks g kernel c.args.asked.now c.add_kernel_looks.new.set c.requires.nothing.empty h) in
-    (search rules, (search rules, (search rules, (c.requires.fits, (c.requires.firsts, (c.in_ok-spread.ensures.table, (size, (kernel, c.requires.kernel, w))))))))
+    let same = c.sort_visited.ensures.looks in
+    (search rules, (search rules, (search rules, (c.requires.fits, (c.requires.firsts, (c.sort_visited.ensures.table, (rw same size, (kernel, c.requires.kernel, same_closure_looks g kernel c.spread.new.set c.sort_visited.new.self same w))))))))
 
 pub forget-requires : goal.forget-requires
-forget-requires _ c = (search rules, (c.requires.fits.few, (c.in_ok-spread.ensures.table, c.in_ok-spread.ensures.none_waits)))
+forget-requires _ c = (search rules, (c.requires.fits.few, (c.sort_visited.ensures.table, λ n w. c.in_ok-spread.ensures.none_waits n (rw c.sort_visited.ensures.waiting at w))))
 
 pub merged-requires : goal.merged-requires
 merged-requires _ c = (search rules, (c.requires.fits, (rw c.as_slice-2.ensures c.requires.kernel, rw c.as_slice-3.ensures.value c.in_ok-added.ensures.kernel)))
@@ -48,12 +53,13 @@ returns-clause-exact _ c =
     let h : AddsLooks (IsLookOfItems g kernel.items) c.args.asked.now c.add_kernel_looks.new.set = rw c.as_slice.ensures at c.in_ok-add_kernel_looks.ensures in
     let w : AreClosureLooks g kernel c.spread.new.set = c.in_ok-spread.ensures.wanted kernel (are_kernel_looks g kernel c.args.asked.now c.add_kernel_looks.new.set c.requires.nothing.empty h) in
     let merged = rw (c.as_slice-2.ensures, c.as_slice-3.ensures.value) at c.merged.ensures in
-    IfOk-weaker c.merged.result _ _ (λ closed u. closure_of_union g kernel c.spread.new.set w c.in_ok-added.added.items closed.items c.in_ok-added.ensures.exact u) merged
+    let sorted = same_closure_looks g kernel c.spread.new.set c.sort_visited.new.self c.sort_visited.ensures.looks w in
+    IfOk-weaker c.merged.result _ _ (λ closed u. closure_of_union g kernel c.sort_visited.new.self sorted c.in_ok-added.added.items closed.items c.in_ok-added.ensures.exact u) merged
 
 pub returns-clause-nothing : goal.returns-clause-nothing
 returns-clause-nothing _ c =
     let g = plain_of c.args.grammar.now in
     let h : AddsLooks (IsLookOfItems g c.args.kernel.now.items) c.args.asked.now c.add_kernel_looks.new.set = rw c.as_slice.ensures at c.in_ok-add_kernel_looks.ensures in
     let size : vec_len c.spread.new.set.looks ≡ length c.args.grammar.now.nonterminals = c.in_ok-spread.ensures.size ∙ h.size ∙ c.requires.nothing.size in
-    let nothing = rw size at c.forget.ensures in
+    let nothing = rw (c.sort_visited.ensures.looks, size) at c.forget.ensures in
     IfOk-weaker c.merged.result _ _ (λ closed u. nothing) c.merged.ensures

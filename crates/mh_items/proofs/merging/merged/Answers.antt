@@ -4,7 +4,7 @@ use Rattle.mh_items.proofs.IsUnionSoFar.{IsUnionSoFar-start, union_of}
 use Rattle.mh_items.proofs.merging.merged.Goals as goal
 
 pub items-init : goal.items-init
-items-init _ c = rw c.new-items.ensures.items (IsUnionSoFar-start (plain_of c.args.grammar.now) c.args.left.now c.args.right.now)
+items-init _ c = rw c.in_ok-items.ensures.items (IsUnionSoFar-start (plain_of c.args.grammar.now) c.args.left.now c.args.right.now)
 
 pub items-preserved : goal.items-preserved
 items-preserved _ c = rw c.in_ok-push.ensures.items (c.next_item-item.ensures.merged c.items.items.items c.items.invariant)
