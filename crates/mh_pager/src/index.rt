@@ -9,6 +9,7 @@ use mh_items_kernels::{ItemWith, Kernel, KernelItem};
 use mh_sets::TokenSet;
 use std::alloc::Global;
 use std::collections::HashMap;
+use std::mem;
 
 /// The states of each core, rising, in groups that are numbered in the order of their creation. A core is a kernel
 /// without looks, so it is a kernel of width 0.
@@ -18,6 +19,8 @@ pub struct CoreIndex {
     pub(crate) places: HashMap<Kernel<0>, usize>,
     /// The states of each group, rising.
     pub(crate) states: Vec<Sequence<u32>>,
+    /// Scratch space for the items of a core.
+    scratch: Vec<KernelItem<0>>,
 }
 
 impl CoreIndex {
@@ -29,6 +32,7 @@ impl CoreIndex {
         CoreIndex {
             places: HashMap::new(alloc),
             states: Vec::new(alloc),
+            scratch: Vec::new(alloc),
         }
     }
 
@@ -43,8 +47,10 @@ impl CoreIndex {
         ensures group { IfOk result (HasGroupNumber self.new.places.entries self.new.states.items (core_of kernel.now)) }
         ensures indexed { OnOk result ((kernels : List KernelOf) → IsCoreIndex kernels self.old.places.entries self.old.states.items → IsCoreIndex kernels self.new.places.entries self.new.states.items) }
     {
-        let core = without_looks(alloc, kernel)?;
+        let scratch = mem::replace(&mut self.scratch, Vec::new(alloc));
+        let core = without_looks(scratch, kernel)?;
         if let Some(at) = self.places.get(&core).copied() {
+            self.scratch = core.items.into_vec();
             return Ok(at);
         }
         let at = self.states.len();
@@ -54,13 +60,17 @@ impl CoreIndex {
     }
 }
 
-/// The core of a kernel.
-fn without_looks<const W: usize>(alloc: Global, kernel: &Kernel<W>) -> Result<Kernel<0>, Memory>
+/// The core of a kernel, in the given memory. What the memory held before is dropped.
+fn without_looks<const W: usize>(
+    scratch: Vec<KernelItem<0>>,
+    kernel: &Kernel<W>,
+) -> Result<Kernel<0>, Memory>
     requires { W ≤ 8 }
     ensures { IfOk result (λ core. core ≡ core_of kernel.now) }
 {
     let items = kernel.items.as_slice();
-    let mut places = Vec::with_capacity(alloc, items.len())?;
+    let mut places = scratch;
+    places.clear();
     for item in items {
         places.push(bare_item(item))?;
     }

@@ -20,7 +20,7 @@ returns-clause-group g c =
     let absent : (n : ℕ) → Contains old.places.entries (core, n) → ⊥ = (λ n h. absent_not_placed c.in_ok-core.core _ old.places.entries n none (λ k. kernel_Decides _ (λ p q. item_Decides _ (λ x y. search rules) p q _ refl) c.in_ok-core.core k _ refl) (rw (← c.in_ok-core.ensures) at h)) in
     let count : c.len-at.result ≡ length old.states.items = c.len-at.ensures ∙ old.states.ok.0 in
     let put : IsPermutation ((core, length old.states.items) ∷ old.places.entries) c.insert.new.self.entries = rw (c.in_ok-core.ensures, count) at (rw (c.in_ok-insert.ensures.old ∙ none) at c.in_ok-insert.ensures.entries) in
-    rw (c.in_ok-push.ensures.items, c.new.ensures, count) (group_new old.places.entries c.insert.new.self.entries old.states.items core c.requires.placed absent put)
+    rw (c.in_ok-push.ensures.items, c.new-2.ensures, count) (group_new old.places.entries c.insert.new.self.entries old.states.items core c.requires.placed absent put)
 
 pub returns-clause-indexed : goal.returns-clause-indexed
 returns-clause-indexed g c =
@@ -30,4 +30,4 @@ returns-clause-indexed g c =
     let absent : (n : ℕ) → Contains old.places.entries (core, n) → ⊥ = (λ n h. absent_not_placed c.in_ok-core.core _ old.places.entries n none (λ k. kernel_Decides _ (λ p q. item_Decides _ (λ x y. search rules) p q _ refl) c.in_ok-core.core k _ refl) (rw (← c.in_ok-core.ensures) at h)) in
     let count : c.len-at.result ≡ length old.states.items = c.len-at.ensures ∙ old.states.ok.0 in
     let put : IsPermutation ((core, length old.states.items) ∷ old.places.entries) c.insert.new.self.entries = rw (c.in_ok-core.ensures, count) at (rw (c.in_ok-insert.ensures.old ∙ none) at c.in_ok-insert.ensures.entries) in
-    rw (c.in_ok-push.ensures.items, c.new.ensures) (indexed_new old.places.entries c.insert.new.self.entries old.states.items core c.requires.placed absent put)
+    rw (c.in_ok-push.ensures.items, c.new-2.ensures) (indexed_new old.places.entries c.insert.new.self.entries old.states.items core c.requires.placed absent put)
