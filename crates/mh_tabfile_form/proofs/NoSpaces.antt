@@ -1,5 +1,5 @@
 -- Proves that numbers, modes and words contain no space and no LF when they are written.
-use Rattle.std.proofs.Common.{◌≡◌, ◌≢◌, ◌<◌, ◌^◌, ◌==◌, ◌&&◌, ℕ, true, false, not, nat_eq, nat_le, List, [], ◌∷◌, refl, sym, ap, ◌∙◌, codes, decimal, arith, true≢false, eq-eqb, leb-true}
+use Rattle.std.proofs.Common.{◌≡◌, ◌≢◌, ◌==◌, ◌&&◌, ℕ, true, not, nat_eq, nat_le, List, [], ◌∷◌, refl, sym, ap, ◌∙◌, codes, decimal, arith, true≢false, eq-eqb, leb-true}
 use Rattle.std.specs.List.{AllByRecursion, list_all}
 use Rattle.std.specs.Str.{all_ascii_digits}
 use Rattle.std.specs.Char.{is_ascii_digit}

@@ -1,4 +1,5 @@
 //! The content of a table file. All symbols are given by name; productions and states are given by number.
+use crate::names::Names;
 use mh_grammar::{Name, Sequence};
 use mh_resolve_cells::Mode;
 use mh_tables_core::{Action, Fallback};
@@ -16,7 +17,7 @@ pub struct RawProduction {
 pub struct RawItem {
     pub production: u32,
     pub dot: u32,
-    pub looks: Sequence<Name>,
+    pub looks: Names,
 }
 
 /// An edge of the automaton: the name of its symbol and the number of its target state.

@@ -1,5 +1,5 @@
 //! Reads table files.
-ghost use Rattle.std.specs.Prelude.{◌≡◌, ◌<◌, ◌≤◌, ◌+◌, ◌^◌, ◌==◌, ℕ, max, map, length, IfOk, Err, Ok, ◌⊎◌, true, false};
+ghost use Rattle.std.specs.Prelude.{◌≡◌, ◌<◌, ◌≤◌, ◌+◌, ◌^◌, ◌==◌, ℕ, max, map, length, IfOk, OnOk, Err, Ok, ◌⊎◌, true, false};
 ghost use Rattle.std.specs.List.{slice_split};
 ghost use Rattle.mh_tabfile_form.specs.declared.types.RawTable.{RawTable as Raw};
 ghost use Rattle.mh_tabfile_form.specs.Form.{IsFileOf};
@@ -86,24 +86,38 @@ fn fresh(alloc: Global) -> Reader
     }
 }
 
-/// Splits the next line into words and reads them.
-fn read_line(alloc: Global, reader: &mut Reader, part: &[u8]) -> Result<(), LineRefusal>
+/// Puts the words of a line into a list, in place of what the list held before.
+fn put_words<'a>(words: &mut Vec<&'a [u8]>, line: &'a [u8]) -> Result<(), AllocError>
+    ensures { OnOk result (map (λ x. x.now) words.new.items ≡ words_of line.now) }
+{
+    words.clear();
+    words.extend(line.split(|byte| *byte == b' '))
+}
+
+/// Splits the next line into words and reads them. The list of words is scratch space, which each line uses again.
+fn read_line<'a>(
+    alloc: Global,
+    reader: &mut Reader,
+    words: &mut Vec<&'a [u8]>,
+    part: &'a [u8],
+) -> Result<(), LineRefusal>
     ensures { AdvancesTo (next reader.old (words_of part.now)) reader.new result }
 {
-    let Ok(words) = cut(alloc, part, b' ') else {
+    let Ok(()) = put_words(words, part) else {
         return Err(LineRefusal::Memory);
     };
     advance(alloc, reader, words.as_slice())
 }
 
 /// Reads the lines with a reader that has read nothing yet.
-fn read_with(alloc: Global, reader: &mut Reader, parts: &[&[u8]]) -> Result<(), TabFault>
+fn read_with<'a>(alloc: Global, reader: &mut Reader, parts: &[&'a [u8]]) -> Result<(), TabFault>
     requires fresh { reader.old ≡ initial_reader }
     requires few { length parts.now < 2 ^ 32 }
     ensures { ReadsLinesInto (lines_in (map (λ x. x.now) parts.now)) reader.new result }
 {
+    let mut words = Vec::new(alloc);
     for (at, part) in parts.iter().enumerate() {
-        match read_line(alloc, reader, part) {
+        match read_line(alloc, reader, &mut words, *part) {
             Ok(()) => {}
             Err(LineRefusal::Unexpected) => {
                 return Err(TabFault::TabShape {

@@ -10,7 +10,7 @@ use crate::numbers::number_of;
 use crate::places::LineKind;
 use mh_grammar::{Memory, Name, Sequence, from_bytes};
 use mh_resolve_cells::Mode;
-use mh_tabfile_form::{RawCell, RawEdge, RawItem, RawProduction};
+use mh_tabfile_form::{Names, RawCell, RawEdge, RawItem, RawProduction};
 use mh_tables_core::{Action, Fallback};
 use std::alloc::Global;
 
@@ -70,9 +70,26 @@ pub(crate) fn names_of(alloc: Global, words: &[&[u8]]) -> Result<Sequence<Name>,
     if !are_names(words) {
         return Err(LineRefusal::Unexpected);
     }
-    let mut names = Sequence::new(alloc);
+    let Ok(room) = Vec::with_capacity(alloc, words.len()) else {
+        return Err(LineRefusal::Memory);
+    };
+    let mut names = Sequence::from_vec(room);
     match put_copies(alloc, &mut names, words) {
         Ok(()) => Ok(names),
+        Err(Memory) => Err(LineRefusal::Memory),
+    }
+}
+
+/// The words as the names of looks, if none of them is empty.
+#[tactic(auto, unfolding(crate::specs::code::Words::names_of))]
+fn looks_of(alloc: Global, words: &[&[u8]]) -> Result<Names, LineRefusal>
+    ensures { AgreesWith (words_read.names_of (map (λ w. w.now) words.now)) result }
+{
+    if !are_names(words) {
+        return Err(LineRefusal::Unexpected);
+    }
+    match Names::from_words(alloc, words) {
+        Ok(names) => Ok(names),
         Err(Memory) => Err(LineRefusal::Memory),
     }
 }
@@ -193,7 +210,7 @@ pub(crate) fn item_of(alloc: Global, words: &[&[u8]]) -> Result<RawItem, LineRef
         [production, dot, looks @ ..] => {
             let production = number(production)?;
             let dot = number(dot)?;
-            let looks = names_of(alloc, looks)?;
+            let looks = looks_of(alloc, looks)?;
             Ok(RawItem {
                 production,
                 dot,

@@ -2,15 +2,16 @@
 use Rattle.std.specs.Prelude.{◌==◌}
 use Rattle.std.proofs.Common.{false, ◌≡◌, ◌↔◌, ◌⊎◌, ◌<◌, ◌≤◌, ◌+◌, ◌-◌, ℕ, zero, suc, List, [], ◌∷◌, ◌++◌, map, take, length, Option, Some, None, get_or, refl, sym, ap, ◌∙◌, subst, arith, inl, inr}
 use Rattle.std.specs.List.{Contains, slice_get}
-use Rattle.std.proofs.lemmas.List.{length-map}
-use Rattle.std.proofs.lemmas.Option.{slice_get-get_or}
+use Rattle.std.specs.Option.{option_map}
+use Rattle.std.proofs.lemmas.List.{length-map, length-take-le, get_or-take}
+use Rattle.std.proofs.lemmas.Option.{slice_get-get_or, slice_get-map, get_or_from_slice_get}
 use Rattle.mh_grammar.specs.declared.types.Look.{Look}
 use Rattle.mh_grammar.specs.declared.types.Look.TheVariants.{Token, End}
 use Rattle.mh_grammar.specs.declared.types.Grammar.{Grammar}
 use Rattle.mh_grammar.specs.declared.types.Production.{Production}
 use Rattle.mh_grammar.specs.Edges.{IsRising, IsLookBefore}
 use Rattle.mh_grammar.specs.Plain.{plain_of, rhs_of, IsLookBelow, production_count}
-use Rattle.mh_grammar.proofs.Lists.{contains_push, contains_last, at_contains, contains_at, get_left, rising-push, rising_same}
+use Rattle.mh_grammar.proofs.Lists.{contains_push, contains_last, at_contains, contains_at, get_left, recursion_contains, rising-push, rising_same}
 use Rattle.mh_grammar.proofs.ProductionNumbers.{rhs_of-ordinary, rhs_of-start}
 use Rattle.mh_sets.specs.Sets.{IsSet}
 use Rattle.mh_grammar.proofs.EdgeOrder.{look_order_asymmetric}
@@ -120,6 +121,20 @@ pub item_looks : (g : Grammar) (raw : RawItem) (item : KernelItem) → IsItemOf 
 item_looks g raw item is =
     let e : raw.looks ≡ map (look_name g) item.looks = ap (λ (r : RawItem). r.looks) is.spelled in
     (record { spelled = e; each = is.kept.looks; rising = is.kept.rising }, (let n = length-map item.looks (look_name g) in let f = ap length e in let s = is.kept.some in omega arith))
+
+-- The looks of an item that was read are those that its line names.
+pub looks_known : (g : Grammar) (raws : List RawItem) (items : List KernelItem) (last : ℕ) (raw : RawItem) (item : KernelItem) → AreItemsOf g (take (length items) raws) items → last < length items → slice_get raws last ≡ Some raw → item ≡ get_or items last item
+    → AreLooksOf g raw.looks item.looks
+looks_known g raws items last raw item h lt at e =
+    let there : slice_get items last ≡ Some item = slice_get-get_or items last item lt ∙ ap Some (sym e) in
+    let line : get_or (take (length items) raws) last raw ≡ raw = get_or-take (length items) raws last raw lt ∙ get_or_from_slice_get raws last raw raw at in
+    let spelled : slice_get (map (raw_item g) items) last ≡ Some (raw_item g item) = slice_get-map (raw_item g) items last ∙ ap (option_map (raw_item g)) there in
+    let same : raw ≡ raw_item g item = sym line ∙ ap (λ (rs : List RawItem). get_or rs last raw) h.spelled ∙ get_or_from_slice_get (map (raw_item g) items) last (raw_item g item) raw spelled in
+    (item_looks g raw item (record { spelled = same; kept = recursion_contains (IsKernelItem (plain_of g)) items h.each item (contains_at items last item there) })).0
+
+-- The number of items that were read is the number of their lines.
+pub count_read : (g : Grammar) (raws : List RawItem) (items : List KernelItem) (i : ℕ) → AreItemsOf g (take i raws) items → i < length raws → length items ≡ i
+count_read g raws items i h lt = sym (length-map items (raw_item g)) ∙ sym (ap length h.spelled) ∙ length-take-le i raws (omega (arith, lt))
 
 -- A start production has length 1, and each other production has the length of the grammar's production.
 

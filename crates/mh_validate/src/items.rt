@@ -1,5 +1,5 @@
 //! Reads kernel items from their lines.
-ghost use Rattle.std.specs.Prelude.{◌≡◌, ◌<◌, ◌≤◌, ◌+◌, ◌↔◌, length, IsTrue, IfOk};
+ghost use Rattle.std.specs.Prelude.{◌≡◌, ◌<◌, ◌≤◌, ◌+◌, ◌↔◌, length, take, IsTrue, IfOk, IfSome};
 ghost use Rattle.mh_grammar.specs.Plain.{plain_of, rhs_of, IsInRange};
 ghost use Rattle.std.specs.List.{Contains};
 ghost use Rattle.mh_grammar.specs.Edges.{IsRising};
@@ -7,14 +7,15 @@ ghost use Rattle.mh_items_kernels.specs.KernelTypes.{KernelItem as ItemOf};
 ghost use Rattle.mh_items_kernels.specs.Kernels.{IsItemBefore};
 ghost use Rattle.mh_msgfile.specs.Sentences.{vocabulary_in, vocabulary_of};
 ghost use Rattle.mh_validate_valid.specs.Valid.{AreTokenNamesDistinct};
-ghost use Rattle.mh_validate.specs.code.LooksAndItems.{FindsOne, IsItemOf, AreItemsOf};
+ghost use Rattle.mh_validate.specs.code.LooksAndItems.{FindsOne, IsItemOf, AreItemsOf, AreLooksOf};
 ghost use Rattle.mh_items.specs.Fitting.{FitsSets};
 
 use crate::looks::looks_of;
 use mh_grammar::{Grammar, Memory, Sequence};
 use mh_items_kernels::KernelItem;
 use mh_msgfile::Lexicon;
-use mh_tabfile_form::RawItem;
+use mh_sets::TokenSet;
+use mh_tabfile_form::{Names, RawItem};
 use std::alloc::Global;
 
 /// The number of symbols on the right side of a production.
@@ -42,24 +43,71 @@ fn is_place(grammar: &Grammar, production: u32, dot: u32) -> bool
     dot as usize <= length_of(grammar, production)
 }
 
+/// The looks of the last item that was read, if its line names the same looks.
+fn known_looks<const W: usize>(
+    grammar: &Grammar,
+    raws: &[RawItem],
+    items: &[KernelItem<W>],
+    names: &Names,
+) -> Option<TokenSet<W>>
+    requires few { W ≤ 8 }
+    requires read { AreItemsOf grammar.now (take (length items.now) raws.now) items.now }
+    ensures { IfSome result (AreLooksOf grammar.now names.now) }
+{
+    // The argument `grammar` is not used at run time; only the contract mentions it.
+    let _grammar = grammar;
+    if items.is_empty() {
+        return None;
+    }
+    let last = items.len() - 1;
+    let Some(line) = raws.get(last) else {
+        return None;
+    };
+    if !line.looks.is_same(names) {
+        return None;
+    }
+    Some(items[last].looks.copied())
+}
+
+/// The looks that the names denote, if each denotes one and they rise. Names with known looks are not looked up.
+fn looks_by<const W: usize>(
+    grammar: &Grammar,
+    lexicon: &Lexicon,
+    known: Option<TokenSet<W>>,
+    names: &Names,
+) -> Option<TokenSet<W>>
+    requires fits { FitsSets W grammar.now }
+    requires distinct_names { AreTokenNamesDistinct grammar.now }
+    requires lexicon { vocabulary_in lexicon.now ≡ vocabulary_of grammar.now }
+    requires known { IfSome known (AreLooksOf grammar.now names.now) }
+    ensures { FindsOne (AreLooksOf grammar.now names.now) result }
+{
+    match known {
+        Some(looks) => Some(looks),
+        None => looks_of(grammar, lexicon, names),
+    }
+}
+
 /// The item that a line spells, if it is a kernel item of the grammar.
 fn item_of<const W: usize>(
     grammar: &Grammar,
     lexicon: &Lexicon,
+    known: Option<TokenSet<W>>,
     raw: &RawItem,
 ) -> Option<KernelItem<W>>
     requires fits { FitsSets W grammar.now }
     requires distinct_names { AreTokenNamesDistinct grammar.now }
     requires lexicon { vocabulary_in lexicon.now ≡ vocabulary_of grammar.now }
+    requires known { IfSome known (AreLooksOf grammar.now raw.now.looks) }
     ensures { FindsOne (IsItemOf grammar.now raw.now) result }
 {
     if !is_place(grammar, raw.production, raw.dot) {
         return None;
     }
-    if raw.looks.is_empty() {
+    if raw.looks.len() == 0 {
         return None;
     }
-    let Some(looks) = looks_of(grammar, lexicon, raw.looks.as_slice()) else {
+    let Some(looks) = looks_by(grammar, lexicon, known, &raw.looks) else {
         return None;
     };
     Some(KernelItem {
@@ -103,7 +151,8 @@ pub(crate) fn items_of<const W: usize>(
 {
     let mut items = Vec::with_capacity(alloc, raws.len())?;
     for raw in raws {
-        let Some(item) = item_of(grammar, lexicon, raw) else {
+        let known = known_looks(grammar, raws, items.as_slice(), &raw.looks);
+        let Some(item) = item_of(grammar, lexicon, known, raw) else {
             return Ok(None);
         };
         if !is_after_all(items.as_slice(), &item) {

@@ -6,11 +6,9 @@ use Rattle.mh_validate.proofs.looks.look_of.Goals as goal
 pub returns-in-Some : goal.returns-in-Some
 returns-in-Some c =
     let same : number_in c.args.lexicon.now.tokens.entries c.args.name.now ≡ number_of (token_names c.args.grammar.now) c.args.name.now = ap (λ (v : Vocabulary). v.token_named c.args.name.now) c.requires.lexicon in
-    let here = rw c.as_slice.ensures at c.token.ensures in
-    token_named c.args.grammar.now c.args.name.now c.in-Some.token (sym same ∙ sym here ∙ c.in-Some.is)
+    token_named c.args.grammar.now c.args.name.now c.in-Some.token (sym same ∙ sym c.token.ensures ∙ c.in-Some.is)
 
 pub returns-in-None : goal.returns-in-None
 returns-in-None c =
     let same : number_in c.args.lexicon.now.tokens.entries c.args.name.now ≡ number_of (token_names c.args.grammar.now) c.args.name.now = ap (λ (v : Vocabulary). v.token_named c.args.name.now) c.requires.lexicon in
-    let here = rw c.as_slice.ensures at c.token.ensures in
-    none_named c.args.grammar.now c.requires.distinct_names c.args.name.now (λ e. true≢false (sym (c.is_named.ensures.1 e) ∙ c.if-is_named.false)) (sym same ∙ sym here ∙ c.in-None.is)
+    none_named c.args.grammar.now c.requires.distinct_names c.args.name.now (λ e. true≢false (sym (c.is_end_name.ensures.1 e) ∙ c.if-is_end_name.false)) (sym same ∙ sym c.token.ensures ∙ c.in-None.is)
