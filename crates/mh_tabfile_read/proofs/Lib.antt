@@ -1,3 +1,4 @@
+mod FirstLine
 pub mod RunComplete
 pub mod SplitLines
 pub mod RunExact

@@ -3,6 +3,7 @@
 
 mod advance;
 mod laws;
+mod lines;
 mod numbers;
 mod places;
 mod reading;

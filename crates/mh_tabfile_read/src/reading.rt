@@ -11,6 +11,7 @@ ghost use Rattle.mh_tabfile_read.specs.code.Lines;
 ghost use Rattle.mh_tabfile_read.specs.code.Lines.{words_of, lines_in, ReadsLines, ReadsLinesInto, IsFinished, is_other_head as is_head_of_other};
 
 use crate::advance::{LineRefusal, advance};
+use crate::lines::split_lines;
 use crate::numbers::number_of;
 use crate::places::{ExpectedLine, Reader};
 use crate::words::{is_word, mode_in};
@@ -246,7 +247,7 @@ pub fn read_tables(alloc: Global, bytes: &[u8]) -> Result<RawTable, TabFault>
     ensures other { IsOtherVersion bytes.now → (result ≡ Err TabFault.Version) ⊎ (result ≡ Err TabFault.Memory) }
     ensures only { (raw : Raw) → IsFileOf bytes.now raw → (result ≡ Ok raw) ⊎ (result ≡ Err TabFault.Memory) }
 {
-    let Ok(parts) = cut(alloc, bytes, b'\n') else {
+    let Ok(parts) = split_lines(alloc, bytes) else {
         return Err(TabFault::Memory);
     };
     read_parts(alloc, bytes, parts.as_slice())
