@@ -47,6 +47,12 @@ called() { if [ -n "$1" ]; then echo canonical; else echo merged; fi; }
 our_states() { "$ours" $1 --show-automaton "${@:2}" 2>err.txt | head -1 | tr -dc 0-9; }
 their_states() { menhir --base g $1 --interpret -la 2 "${@:2}" 2>&1 </dev/null | sed -n 's/^Built an LR(1) automaton with \([0-9]*\) states.*/\1/p'; }
 
+# Compares the warnings of `--check` with Menhir's.
+compare_warnings() { # NAME FILE..
+    python3 "$bench/warnings.py" "$ours" "${@:2}" >warnings.txt || differs "$1, warnings"
+    cat warnings.txt
+}
+
 # Compares on 1,000 random sentences of a real grammar in both modes. Every second sentence has one token changed.
 compare_grammar() {
     local name=$1 sentences=$1.in files file mode seed
@@ -62,6 +68,7 @@ compare_grammar() {
         "$ours" --random-sentence "$seed" --length 100 "${files[@]}" 2>err.txt
     done | cut -d: -f2- >>"$sentences"
     echo "$name: $(wc -w <"$sentences") tokens in $(wc -l <"$sentences") sentences"
+    compare_warnings "$name" "${files[@]}"
     for mode in "" --canonical; do
         compare_states "$name" "$mode" "${files[@]}"
         compare_conflicts "$name" "$mode" "${files[@]}"
@@ -79,6 +86,7 @@ compare_further() { # FILE
     start=$(sed -n 's/^%start \([a-zA-Z_]*\).*/\1/p' plain.txt | head -1)
     python3 "$bench/sentences.py" 1 300 8 <plain.txt | sed "s/^/$start: /" >"$name.in"
     echo "$name: $(wc -w <"$name.in") words in 300 sentences"
+    compare_warnings "$name" "$file"
     compare_conflicts "$name" "" "$file"
     compare_verdicts "$name" "" "$name.in" "$file"
     compare_errors "$name" "" "$file"

@@ -19,6 +19,7 @@ SIGNS = rb"""%{ %} %% %token %start %inline %prec %left %public | : ; , = ? * + 
 GRAMMAR_WORDS = [
     ["--interpret"],
     ["--show-automaton"],
+    ["--check"],
     ["--canonical", "--show-automaton"],
     ["--shortest-sentences"],
     ["--random-sentence", "7", "--length", "50"],
@@ -135,8 +136,8 @@ def main():
             part.fail(f"{what}: its end", ran)
         if ran.seconds > SECONDS or ran.megabytes > MEGABYTES:
             part.fail(f"{what}: time or memory", ran)
-        # The mode that checks a messages file writes what it finds on out.
-        finds = "--check-errors" in words and ran.out.endswith(b"\n") and not ran.err
+        # The modes that check files write what they find on out.
+        finds = words[0] in ("--check", "--check-errors") and ran.out.endswith(b"\n") and not ran.err
         refuses = not ran.out and ran.err.startswith(b"menhir: ") and ran.err.endswith(b"\n")
         if ran.status == 1 and not finds and not refuses:
             part.fail(f"{what}: its texts", ran)

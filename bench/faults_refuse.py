@@ -101,6 +101,7 @@ def jobs():
         yield ["--rebase-errors", messages, file], b""
         yield ["--echo-errors", messages, file], b""
         yield ["--check-errors", messages, file], b""
+        yield ["--check", file], b""
         yield ["--session", file], SESSION % token
         yield ["--show-automaton", file], b""
         yield ["--canonical", "--show-automaton", file], b""

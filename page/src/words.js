@@ -18,6 +18,7 @@ const MODES = [
     options: [] },
   { word: '--echo-errors', text: 'only the sentences of a messages file', group: 'Messages', needs: ['file'],
     options: [] },
+  { word: '--check', text: 'check the grammar files', group: 'Grammar', options: [] },
   { word: '--explain', text: 'explain conflicts', group: 'Automaton', options: [] },
   { word: '--show-automaton', text: 'the automaton as text', group: 'Automaton', options: [] },
   { word: '--write-tables', text: 'write a table file', group: 'Automaton', options: [] },

@@ -105,9 +105,9 @@ function damaged(random, bytes) {
   return changed;
 }
 
-const MODES = ['--interpret', '--interpret', '--interpret-error', '--list-errors', '--check-errors', '--compile-errors',
-  '--rebase-errors', '--update-errors', '--compare-errors', '--echo-errors', '--explain', '--show-automaton',
-  '--write-tables', '--shortest-sentences', '--random-sentence', '--session', '--session'];
+const MODES = ['--interpret', '--interpret', '--interpret-error', '--list-errors', '--check', '--check-errors',
+  '--compile-errors', '--rebase-errors', '--update-errors', '--compare-errors', '--echo-errors', '--explain',
+  '--show-automaton', '--write-tables', '--shortest-sentences', '--random-sentence', '--session', '--session'];
 
 // One run: words, files (each with name and bytes) and input. `listOf` gives the list of errors of a grammar; many of
 // the messages files are made from such a list.

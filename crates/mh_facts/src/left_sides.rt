@@ -23,7 +23,7 @@ fn empty_rows(alloc: Global, table: &Table) -> Result<ByLeftSide, Memory>
     Ok(ByLeftSide { rows })
 }
 
-/// Files the ordinary productions of a table by their left sides. Fails for want of memory alone.
+/// Files the ordinary productions of a table by their left sides. Fails only if memory runs out.
 pub fn by_left_side(alloc: Global, table: &Table) -> Result<ByLeftSide, Memory>
     ensures { IfOk result (IsByLeftSide table.now) }
 {

@@ -62,7 +62,7 @@ impl<K: Eq + Hash, V> OrderedMap<K, V> {
 }
 
 impl<K: Eq + Hash + Copy + Drop, V: Drop> OrderedMap<K, V> {
-    /// Appends an entry whose key has none yet. Fails for want of memory alone; the map then stays as it was.
+    /// Appends an entry whose key has none yet. Fails only if memory runs out; the map then stays as it was.
     pub fn push(&mut self, key: K, value: V) -> Result<(), Memory>
         requires { lookup (K.eq key) self.old ≡ None }
         ensures pushed { OnOk result (self.new ≡ self.old ++ (key, value) ∷ []) }

@@ -20,7 +20,7 @@ pub fn empty_queue<T>(alloc: Global) -> Queue<T>
     }
 }
 
-/// Adds an item with its cost. Fails for want of memory alone.
+/// Adds an item with its cost. Fails only if memory runs out.
 pub fn push<T: Drop>(alloc: Global, queue: &mut Queue<T>, cost: u32, item: T) -> Result<(), Memory>
     ensures { OnOk result (QueueGains (IsSameQueueEntry cost item) queue.old.buckets.items queue.new.buckets.items) }
 {

@@ -116,7 +116,7 @@ impl FactStore {
     }
 
     /// Stores a fact and returns true if the key has none; else changes nothing and returns false. The cost must be at
-    /// least the highest stored cost. Fails for want of memory alone; the store then stays as it was.
+    /// least the highest stored cost. Fails only if memory runs out; the store then stays as it was.
     pub fn settle(&mut self, key: FactKey, cost: u32, back: Back) -> Result<bool, Memory>
         requires { highest_cost self.old ≤ cost }
         ensures fresh { IfOk result (λ stored. (stored ≡ true) ↔ (fact_at self.old key ≡ None)) }

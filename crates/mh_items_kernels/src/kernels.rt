@@ -43,7 +43,7 @@ pub type Automaton<const W: usize> = AutomatonWith<TokenSet<W>>;
 /// The reason why no automaton is returned.
 #[derive(Clone, Copy, PartialEq, Eq)]
 pub enum StatesFault {
-    /// The automaton has more than 200,000 states.
+    /// The construction needs more than 200,000 states at some time.
     TooManyStates,
     /// There was no memory for the automaton.
     Memory,

@@ -12,8 +12,8 @@ use mh_join_parts::{joined, prelude_rules};
 use mh_rules::{Joined, Module, Rule};
 use std::alloc::Global;
 
-/// Joins files whose tables of names are given.
-fn join_named(
+/// Joins files, as `join` does, if the tables of their names and the rules of the prelude are there already.
+pub fn join_named(
     alloc: Global,
     names: &SymbolTables,
     modules: &[Module],
@@ -23,7 +23,8 @@ fn join_named(
     requires named { HasMeanings prelude modules.now names.now }
     requires ready { AreModulesReady modules.now }
     requires from_prelude { from_prelude.now ≡ spec.prelude_rules prelude }
-    ensures { Joins prelude modules.now result }
+    ensures joins { Joins prelude modules.now result }
+    ensures ready { IfOk result IsJoinedReady }
 {
     match check(alloc, names, modules) {
         Ok(()) => match joined(alloc, names, modules, from_prelude) {

@@ -5,7 +5,7 @@ mod checking;
 mod joining;
 mod laws;
 
-pub use joining::join;
+pub use joining::{join, join_named};
 pub use laws::{is_one_fault, is_one_joined, joined_excludes_fault};
 pub use mh_join_names::JoinFault;
 pub use mh_join_parts::prelude_rules;

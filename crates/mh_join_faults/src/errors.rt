@@ -1,4 +1,5 @@
-//! The search for the other faults: no start symbol, the token `error`, unknown levels, too many tokens.
+//! The search for the faults that are reported last: no start symbol, the token `error` (`check_errors`), unknown
+//! levels, too many tokens.
 ghost use Rattle.std.specs.Prelude.{◌≡◌, ◌++◌, length};
 ghost use Rattle.std.specs.List.{flat_map};
 ghost use Rattle.mh_rules.specs.Ready.{AreModulesReady};

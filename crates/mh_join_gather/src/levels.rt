@@ -1,4 +1,4 @@
-//! The levels of names.
+//! The precedence levels of names.
 ghost use Rattle.std.specs.Prelude.{◌≡◌, OnOk};
 ghost use Rattle.std.specs.List.{flat_map, enumerate_from};
 ghost use Rattle.std.specs.Map.{lookup};

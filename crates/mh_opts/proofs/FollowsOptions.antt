@@ -149,6 +149,7 @@ mode_kept rows modes.EchoErrors = refl
 mode_kept rows modes.UpdateErrors = refl
 mode_kept rows modes.RebaseErrors = refl
 mode_kept rows modes.CheckErrors = refl
+mode_kept rows modes.Check = refl
 mode_kept rows modes.Sample = refl
 mode_kept rows modes.ShortestSentences = refl
 mode_kept rows modes.RandomSentence = refl

@@ -143,6 +143,7 @@ job_limits rows modes.EchoErrors = tt
 job_limits rows modes.UpdateErrors = tt
 job_limits rows modes.RebaseErrors = tt
 job_limits rows modes.CheckErrors = tt
+job_limits rows modes.Check = tt
 job_limits rows modes.Sample = tt
 job_limits rows modes.ShortestSentences = tt
 job_limits rows modes.Explain = tt

@@ -26,6 +26,7 @@ mode_of (job.EchoErrors file) = mode.EchoErrors
 mode_of (job.UpdateErrors file) = mode.UpdateErrors
 mode_of (job.RebaseErrors file) = mode.RebaseErrors
 mode_of (job.CheckErrors file) = mode.CheckErrors
+mode_of job.Check = mode.Check
 mode_of (job.Sample number) = mode.Sample
 mode_of job.ShortestSentences = mode.ShortestSentences
 mode_of (job.RandomSentence seed length) = mode.RandomSentence

@@ -32,6 +32,7 @@ options =
     ∷ valued (codes "update-errors") (Some mode.UpdateErrors)
     ∷ valued (codes "rebase-errors") (Some mode.RebaseErrors)
     ∷ valued (codes "check-errors") (Some mode.CheckErrors)
+    ∷ flag (codes "check") (Some mode.Check)
     ∷ valued (codes "sample") (Some mode.Sample)
     ∷ flag (codes "shortest-sentences") (Some mode.ShortestSentences)
     ∷ valued (codes "random-sentence") (Some mode.RandomSentence)

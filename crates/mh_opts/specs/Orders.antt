@@ -76,6 +76,7 @@ job_for rows mode.RandomSentence = job.RandomSentence (unwrap_or (seed_of rows) 
 job_for rows mode.Explain = job.Explain
 job_for rows mode.UpdateErrors = job.UpdateErrors (file_of rows (codes "update-errors"))
 job_for rows mode.RebaseErrors = job.RebaseErrors (file_of rows (codes "rebase-errors"))
+job_for rows mode.Check = job.Check
 job_for rows mode.CheckErrors = job.CheckErrors (file_of rows (codes "check-errors"))
 job_for rows mode.EchoErrors = job.EchoErrors (file_of rows (codes "echo-errors"))
 job_for rows mode.CompareErrors = job.CompareErrors (file_of rows (codes "compare-errors")) (file_of rows (codes "compare-errors-2"))

@@ -80,6 +80,8 @@ pub enum Job {
     RebaseErrors { file: Name },
     /// `--check-errors FILE`: everything that is wrong with a messages file.
     CheckErrors { file: Name },
+    /// `--check`: the faults of the grammar files, or the warnings on an accepted grammar.
+    Check,
     /// `--sample N`: the counts of a sample, that is of a generated grammar.
     Sample { number: u32 },
     /// `--shortest-sentences`: the shortest word of each nonterminal.
@@ -90,7 +92,8 @@ pub enum Job {
     Explain,
 }
 
-/// A job without its files and its number. The table of options holds modes, because a constant cannot own memory.
+/// A mode: a job without its files and its numbers. The table of options has modes in place of jobs, because a constant
+/// cannot own memory.
 #[derive(Clone, Copy)]
 pub enum JobKind {
     Interpret,
@@ -105,6 +108,7 @@ pub enum JobKind {
     UpdateErrors,
     RebaseErrors,
     CheckErrors,
+    Check,
     Sample,
     ShortestSentences,
     RandomSentence,
@@ -149,6 +153,7 @@ pub(crate) fn job_of(alloc: Global, matches: &ArgMatches<'_>, mode: JobKind) -> 
         JobKind::CheckErrors => Ok(Job::CheckErrors {
             file: file_of(alloc, matches, CHECK_ERRORS)?,
         }),
+        JobKind::Check => Ok(Job::Check),
         JobKind::Sample => Ok(Job::Sample {
             number: sample_number(matches),
         }),
@@ -178,7 +183,7 @@ pub struct Need<T> {
     pub needs: T,
 }
 
-const OPTIONS: [Opt<&str>; 26] = [
+const OPTIONS: [Opt<&str>; 27] = [
     Opt {
         name: INTERPRET,
         action: ArgAction::SetTrue,
@@ -243,6 +248,11 @@ const OPTIONS: [Opt<&str>; 26] = [
         name: CHECK_ERRORS,
         action: ArgAction::Set,
         mode: Some(JobKind::CheckErrors),
+    },
+    Opt {
+        name: "check",
+        action: ArgAction::SetTrue,
+        mode: Some(JobKind::Check),
     },
     Opt {
         name: SAMPLE,

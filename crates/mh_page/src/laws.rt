@@ -1,17 +1,11 @@
 //! Laws on the answers to a call over what a caller gives. Each law is the contract of a function that does nothing.
-ghost use Rattle.std.specs.Prelude.{◌≡◌, ◌⊎◌, ℕ, List, Some};
+ghost use Rattle.std.specs.Prelude.{◌≡◌, ◌⊎◌, ℕ};
 ghost use Rattle.mh_grammar.specs.Text.{Text};
-ghost use Rattle.mh_outside.specs.Shelf.{Files};
 ghost use Rattle.mh_page.specs.Answers.{before, after, IsAnswer, IsRun};
 ghost use Rattle.mh_page.specs.Given.{Given};
-ghost use Rattle.mh_top_claims.specs.Claims.{HasNoDeviceFault, MeetsClaims};
-ghost use Rattle.mh_top_claims.specs.CheckedErrors.{ChecksErrorsExactly};
-ghost use Rattle.mh_top_claims.specs.ConflictExplanations.{ExplainsConflictsExactly};
-ghost use Rattle.mh_top_claims.specs.ErrorLists.{ListsErrorsExactly};
-ghost use Rattle.mh_top_claims.specs.Headline.{ListsErrorsOfTable, TakesSoundFiles, GivesMessages};
-ghost use Rattle.mh_top_claims.specs.RebasedFiles.{RebasesSoundly};
+ghost use Rattle.mh_top_claims.specs.Claims.{HasNoDeviceFault};
+ghost use Rattle.mh_top_claims.specs.Promises.{Promises};
 ghost use Rattle.mh_top_claims.specs.Run.{DoesWork};
-ghost use Rattle.mh_top_claims.specs.VerdictClaims.{AcceptIsExact, RejectIsSound, OvershootIsSound, AcceptIsSound, TooDeepIsExact};
 
 /// In a run over what a caller gives no device fails. So the run does the work that the words ask for, unless memory
 /// runs out, and the status is never 4.
@@ -30,27 +24,8 @@ pub fn answers_are_unique()
         (out ≡ out') × (err ≡ err') × (status ≡ status') }
 {}
 
-/// The clauses of `mh_top::menhir` hold of each run over what a caller gives.
-pub fn runs_keep_the_claims()
-    ensures kept { (g : Given) (out err : Text) (status : ℕ) (run : IsRun g out err status) →
-        MeetsClaims g.words (before g) (after g run.left out err) status }
-    ensures errors { (g : Given) (out err : Text) (status : ℕ) (run : IsRun g out err status) →
-        ListsErrorsOfTable g.words (before g) (after g run.left out err) status }
-    ensures takes { (g : Given) (out err : Text) (status : ℕ) (run : IsRun g out err status) →
-        TakesSoundFiles g.words (before g) (after g run.left out err) status }
-    ensures messages { (g : Given) (out err : Text) (status : ℕ) (run : IsRun g out err status) →
-        GivesMessages g.words (before g) (after g run.left out err) status }
-    ensures lists { (g : Given) (out err : Text) (status : ℕ) (run : IsRun g out err status) →
-        ListsErrorsExactly g.words (before g) (after g run.left out err) status }
-    ensures rebases { (g : Given) (out err : Text) (status : ℕ) (run : IsRun g out err status) →
-        RebasesSoundly g.words (before g) (after g run.left out err) status }
-    ensures explains { (g : Given) (out err : Text) (status : ℕ) (run : IsRun g out err status) →
-        ExplainsConflictsExactly g.words (before g) (after g run.left out err) status }
-    ensures checks { (g : Given) (out err : Text) (status : ℕ) (run : IsRun g out err status) →
-        ChecksErrorsExactly g.words (before g) (after g run.left out err) status }
-    ensures exact { (words : List Text) (files : Files) → AcceptIsExact words (Some files) }
-    ensures rejects { (words : List Text) (files : Files) → RejectIsSound words (Some files) }
-    ensures overshoots { (words : List Text) (files : Files) → OvershootIsSound words (Some files) }
-    ensures accepts { (words : List Text) (files : Files) → AcceptIsSound words (Some files) }
-    ensures too_deep { (words : List Text) (files : Files) → TooDeepIsExact words (Some files) }
+/// Each run over what a caller gives keeps the promises of `mh_top::menhir`.
+pub fn runs_keep_the_promises()
+    ensures { (g : Given) (out err : Text) (status : ℕ) (run : IsRun g out err status) →
+        Promises g.words (before g) (after g run.left out err) status }
 {}

@@ -11,5 +11,5 @@ mod rooms;
 mod whole_text;
 
 pub use call::run_in_memory;
-pub use laws::{answers_are_unique, no_device_fails, runs_keep_the_claims};
+pub use laws::{answers_are_unique, no_device_fails, runs_keep_the_promises};
 pub use request::{PageFile, Request};

@@ -34,6 +34,7 @@ pub fn merged<const W: usize>(alloc: Global, grammar: &Grammar) -> Result<Automa
     ensures paths { IfOk result (CoversPaths (plain_of grammar.now)) }
     // The merged automaton has a conflict exactly if the canonical automaton has one.
     ensures clashes { IfOk result (λ a. (c : AutomatonOf) → IsCanonical (plain_of grammar.now) c → AutomatonHasConflict (plain_of grammar.now) a ↔ AutomatonHasConflict (plain_of grammar.now) c) }
+    // The same for all conflicts together, of which end-of-stream conflicts are a part.
     ensures faults { IfOk result (λ a. (c : AutomatonOf) → IsCanonical (plain_of grammar.now) c → AutomatonHasAnyConflict (plain_of grammar.now) a ↔ AutomatonHasAnyConflict (plain_of grammar.now) c) }
 {
     let mut worklist = Worklist::new(alloc);

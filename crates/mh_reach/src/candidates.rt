@@ -168,8 +168,8 @@ fn all_best(
     Ok(all)
 }
 
-/// Chooses the best candidates, and keeps the classes and the arrivals, which spell sentences. Fails for want of memory
-/// alone.
+/// Chooses the best candidates, and keeps the classes and the arrivals, which spell sentences. Fails only if memory
+/// runs out.
 pub(crate) fn reach_by<'t>(
     alloc: Global,
     table: &'t Halting,

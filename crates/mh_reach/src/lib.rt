@@ -6,9 +6,10 @@
 //!
 //! A *path* is a state with the first symbols of a production's right side. A *fact* is a path with a word, and with a
 //! first and a next token: with the word and then the next token to come, a run follows the path and shifts the word.
-//! The first token is the first of the word and the next token. A path is *complete* if it has all symbols of the right
-//! side. If the state in which it ends reduces on the next token, the fact gives a *goto fact*: the run goes from the
-//! first state of the path along the goto of the production's left side. The rules are in `mh_facts/specs/Search`.
+//! The first token is the first of the tokens of the word with the next token after them. A path is *complete* if it has
+//! all symbols of the right side. If the state in which it ends reduces on the next token, the fact gives a *goto fact*:
+//! the run goes from the first state of the path along the goto of the production's left side. The rules are in
+//! `mh_facts/specs/Search`.
 //!
 //! 1. `mh_reach_classes`: in each state, the tokens that all reductions leading to the state treat alike form a class.
 //!    Both searches use one token of each class, its representative.

@@ -25,7 +25,7 @@ fn searched(alloc: Global, table: &Table, classes: &TokenClasses) -> Result<Spot
 /// Finds, for each state of a table, whether a sentence fails there, and the first sentence that does; and for each
 /// token, whether a sentence comes to the state with this token next, and the first that does. The contract names only
 /// the table of the result; what was found is in the invariant of `Reach`, from which its calls promise their results.
-/// Fails for want of memory alone.
+/// Fails only if memory runs out.
 pub fn reach<'t>(alloc: Global, table: &'t Halting) -> Result<Reach<'t>, Memory>
     ensures { IfOk result (λ reach. reach ≡ table.now) }
 {

@@ -112,7 +112,7 @@ impl<'t> Reach<'t> {
     }
 
     /// The first of the sentences that fail in a state: by cost, then by start, then by the numbers of the tokens in
-    /// lexicographic order. A sentence that costs at most 1,000,000 must fail there. Fails for want of memory alone.
+    /// lexicographic order. A sentence that costs at most 1,000,000 must fail there. Fails only if memory runs out.
     pub fn sentence_of(&self, alloc: Global, state: u32) -> Result<Sentence, Memory>
         requires state { state < length self.now.states }
         requires within_max_cost { FailsWithinMaxCost self.now state }
@@ -141,7 +141,7 @@ impl<'t> Reach<'t> {
 
     /// The first of the sentences that come to a state with this token next, without this token: by cost, then by
     /// start, then by the numbers of the tokens in lexicographic order. A sentence that costs at most 1,000,000 must
-    /// come there. Fails for want of memory alone.
+    /// come there. Fails only if memory runs out.
     pub fn sentence_to(&self, alloc: Global, state: u32, token: Token) -> Result<Sentence, Memory>
         requires state { state < length self.now.states }
         requires token { token < self.now.grammar.tokens }

@@ -132,7 +132,7 @@ fn note_in(
     Ok(())
 }
 
-/// Returns all reductions that lead to states. Fails for want of memory alone.
+/// Returns all reductions that lead to states. Fails only if memory runs out.
 pub fn reductions_to_states(
     alloc: Global,
     table: &Table,

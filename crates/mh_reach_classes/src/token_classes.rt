@@ -475,7 +475,7 @@ fn tested_classes(
 }
 
 /// Token classes that all reductions treat alike. If the refined classes fail the test, each token has its own class.
-/// Fails for want of memory alone.
+/// Fails only if memory runs out.
 pub fn classes_of(alloc: Global, table: &Table) -> Result<TokenClasses, Memory>
     ensures { IfOk result (AreTokenClasses table.now) }
 {

@@ -110,7 +110,7 @@ fn begin_all(
     Ok(queue)
 }
 
-/// The working data at the beginning of the search. Fails for want of memory alone.
+/// The working data at the beginning of the search. Fails only if memory runs out.
 pub(crate) fn begin(
     alloc: Global,
     table: &Table,

@@ -35,7 +35,7 @@ fn tokens_by_cost(alloc: Global, table: &Table) -> Result<Queue<Token>, Memory>
     Ok(queue)
 }
 
-/// The book before the search, which has the empty word alone. Fails for want of memory alone.
+/// The book before the search, which has the empty word alone. Fails only if memory runs out.
 pub(crate) fn fresh_book(alloc: Global, table: &Table) -> Result<RestBook, Memory>
     ensures { IfOk result (IsFreshBook table.now) }
 {
@@ -207,7 +207,7 @@ fn no_numbers(alloc: Global, items: &[WaitingWord]) -> Result<Vec<usize>, Memory
 }
 
 /// Numbers the words of items of one cost, and the tokens of this cost. Returns the number of each item's word. Fails
-/// for want of memory alone.
+/// only if memory runs out.
 pub(crate) fn numbers_of(
     alloc: Global,
     table: &Table,

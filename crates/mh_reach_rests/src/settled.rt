@@ -56,7 +56,7 @@ pub(crate) fn word_of(settled: &SettledWords, sought: Sought) -> Option<SettledW
     }
 }
 
-/// Stores the word of a rest that has none. Fails for want of memory alone.
+/// Stores the word of a rest that has none. Fails only if memory runs out.
 fn settle_rest(settled: &mut SettledWords, key: FactKey, word: SettledWord) -> Result<(), Memory>
     requires { rest_at settled.old.rests key ≡ None }
     ensures rests { OnOk result (settled.new.rests ≡ settled.old.rests ++ (key, word) ∷ []) }
@@ -66,7 +66,7 @@ fn settle_rest(settled: &mut SettledWords, key: FactKey, word: SettledWord) -> R
     Ok(())
 }
 
-/// Stores the word of a goto fact that has none. Fails for want of memory alone.
+/// Stores the word of a goto fact that has none. Fails only if memory runs out.
 fn settle_goto(settled: &mut SettledWords, fact: GotoFact, word: SettledWord) -> Result<(), Memory>
     requires { goto_at settled.old.gotos fact ≡ None }
     ensures rests { OnOk result (settled.new.rests ≡ settled.old.rests) }
@@ -76,7 +76,7 @@ fn settle_goto(settled: &mut SettledWords, fact: GotoFact, word: SettledWord) ->
     Ok(())
 }
 
-/// Stores the word of what has none. Fails for want of memory alone.
+/// Stores the word of what has none. Fails only if memory runs out.
 pub(crate) fn settle(
     settled: &mut SettledWords,
     sought: Sought,

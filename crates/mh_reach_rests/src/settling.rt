@@ -139,7 +139,8 @@ fn expand(
     }
 }
 
-/// Settles one word of a level, and the words of the same cost that follow from it; these are the same word.
+/// Settles the first word of a level, and what follows from it at the same cost: no token was added, so it has the same
+/// word. The word is queued again, so that one loop settles all of these.
 fn settle_one(
     alloc: Global,
     table: &Table,
@@ -292,7 +293,7 @@ fn is_done(found: &RestsFound, cost: u32) -> bool
 }
 
 /// Finds, for each goto fact of a table, the least cost of its words, and the lexicographically first word of that
-/// cost. Fails for want of memory alone.
+/// cost. Fails only if memory runs out.
 pub fn search(alloc: Global, table: &Table, classes: &TokenClasses) -> Result<RestsFound, Memory>
     requires { AreTokenClasses table.now classes.now }
     ensures { IfOk result (IsRestsResult table.now classes.now) }

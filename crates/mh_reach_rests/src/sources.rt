@@ -28,7 +28,7 @@ fn file_edges(rows: &mut Vec<Vec<u32>>, state: u32, edges: &[Edge]) -> Result<()
     Ok(())
 }
 
-/// For each state, the states from which an edge leads to it. Fails for want of memory alone.
+/// For each state, the states from which an edge leads to it. Fails only if memory runs out.
 pub(crate) fn sources_of(alloc: Global, table: &Table) -> Result<Vec<Vec<u32>>, Memory>
     ensures { IfOk result (λ rows. AreSources table.now rows.items) }
 {

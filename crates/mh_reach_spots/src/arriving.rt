@@ -91,7 +91,7 @@ fn book_of(words: RestBook) -> Book
 }
 
 /// Finds, for each state and next token that a run reaches, the first of the sentences of least cost: by start and then
-/// lexicographically. Fails for want of memory alone.
+/// lexicographically. Fails only if memory runs out.
 pub fn arrive(
     alloc: Global,
     table: &Table,

@@ -101,7 +101,7 @@ fn file_all(
     Ok(())
 }
 
-/// The goto facts, by the class of the first token in the state where they begin. Fails for want of memory alone.
+/// The goto facts, by the class of the first token in the state where they begin. Fails only if memory runs out.
 pub(crate) fn gotos_by_start(
     alloc: Global,
     table: &Table,

@@ -30,7 +30,7 @@ fn no_numbers(alloc: Global, all: &[WaitingSpot]) -> Result<Vec<usize>, Memory>
 }
 
 /// Numbers the sentences of arrivals of one cost as one group of the book; those of the highest cost are not
-/// distinguished. Returns the number of each. Fails for want of memory alone.
+/// distinguished. Returns the number of each. Fails only if memory runs out.
 pub(crate) fn numbers_of(
     alloc: Global,
     book: &mut Book,
@@ -65,7 +65,7 @@ fn paired(alloc: Global, all: &[WaitingSpot], numbers: &[usize]) -> Result<Vec<R
     Ok(pairs)
 }
 
-/// Sorts arrivals by the numbers of their sentences. Fails for want of memory alone.
+/// Sorts arrivals by the numbers of their sentences. Fails only if memory runs out.
 pub(crate) fn in_order(
     alloc: Global,
     all: &[WaitingSpot],

@@ -29,7 +29,7 @@ pub fn arrival_at(spots: &Spots, spot: StateAndNext) -> Option<SpotArrival>
     spots.spots.get(&spot).copied()
 }
 
-/// Stores the arrival at a spot that was not reached before. Fails for want of memory alone.
+/// Stores the arrival at a spot that was not reached before. Fails only if memory runs out.
 pub(crate) fn arrive_at(
     spots: &mut Spots,
     spot: StateAndNext,

@@ -48,8 +48,8 @@ impl Book {
         let _entries = &self.entries;
     }
 
-    /// Adds words as a new group above all others and returns the number of each; equal words get one number. Fails for
-    /// want of memory alone; the book then stays as it was.
+    /// Adds words as a new group above all others and returns the number of each; equal words get one number. Fails
+    /// only if memory runs out; the book then stays as it was.
     pub fn number_all(
         &mut self,
         alloc: Global,
@@ -67,8 +67,8 @@ impl Book {
         Ok(numbered.numbers)
     }
 
-    /// Compares two words by their parts lexicographically. The stacks are scratch space. Fails for want of memory
-    /// alone.
+    /// Compares two words by their parts lexicographically. The stacks are scratch space. Fails only if memory
+    /// runs out.
     pub fn compare(
         &self,
         rests: &mut Rests,
@@ -82,7 +82,7 @@ impl Book {
         compare(self.entries.as_slice(), rests, left, right)
     }
 
-    /// The tokens of the word of a number. Fails for want of memory alone.
+    /// The tokens of the word of a number. Fails only if memory runs out.
     pub fn spell(&self, alloc: Global, number: usize) -> Result<Vec<Token>, Memory>
         requires { number < length self.now }
         ensures { IfOk result (λ letters. letters.items ≡ letters_of self.now number) }

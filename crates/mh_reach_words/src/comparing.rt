@@ -9,7 +9,8 @@ use mh_grammar::{Memory, Token};
 use std::alloc::Global;
 use std::cmp::Ordering;
 
-/// The parts of two words that are still to be compared, as two stacks with the first part on top.
+/// The parts of two words that are still to be compared, as two stacks with the first part on top. (They are not rests
+/// of paths as in `mh_reach_rests`.)
 #[derive(Drop)]
 pub struct Rests {
     pub left: Vec<LastPart>,
@@ -252,8 +253,8 @@ pub(crate) fn take_top(parts: &mut Vec<LastPart>) -> Option<LastPart>
     parts.pop()
 }
 
-/// Compares two words lexicographically. The stacks are scratch space and are cleared first. Fails for want of memory
-/// alone.
+/// Compares two words lexicographically. The stacks are scratch space and are cleared first. Fails only if memory
+/// runs out.
 pub fn compare(
     entries: &[WordEntry],
     rests: &mut Rests,

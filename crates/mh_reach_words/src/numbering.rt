@@ -233,7 +233,7 @@ fn number_ordered(
 }
 
 /// Numbers words as one group: equal words get one number, and the numbers rise with the words in lexicographic order.
-/// Fails for want of memory alone.
+/// Fails only if memory runs out.
 pub fn number_words(
     alloc: Global,
     entries: &[WordEntry],

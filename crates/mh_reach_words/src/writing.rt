@@ -28,7 +28,7 @@ fn write_part(
     }
 }
 
-/// The tokens of the word of a number. Fails for want of memory alone.
+/// The tokens of the word of a number. Fails only if memory runs out.
 pub fn spell(alloc: Global, entries: &[WordEntry], number: usize) -> Result<Vec<Token>, Memory>
     requires sound { AreSoundEntries entries.now }
     requires known { number < length (words_of entries.now) }

@@ -55,8 +55,8 @@ pub record ReadsPlaced (bytes : List ℕ) (found : PlacedModule) : Type 0 where
   pub lexemes : List Lexeme
   pub lexes : Lexes bytes lexemes None
   pub file : File no_module (file_tokens bytes lexemes) found.module
-  pub mentions : found.mentions.items ≡ map (mention_of (seen bytes lexemes)) (in_file file)
-  pub bad : found.bad_costs.items ≡ bad_costs bytes lexemes
+  pub mentions : found.mentions ≡ map (mention_of (seen bytes lexemes)) (in_file file)
+  pub bad : found.bad_costs ≡ bad_costs bytes lexemes
 
 -- If the result is a syntax fault, these lexemes spell no module and the position is that of the fault.
 abbrev pub ReportsLexedPlace : List ℕ → List Lexeme → Result PlacedModule PlacedFault → Type 0

@@ -17,7 +17,7 @@ ghost use Rattle.mh_reader_places.specs.code.Walks as walks;
 
 use crate::mentions::{Mention, Role};
 use crate::scan::Scan;
-use mh_grammar::{Memory, from_bytes};
+use mh_grammar::{Memory, Sequence, from_bytes};
 use mh_lex::{Lexeme, PlacedFault, lex_placed, lexemes_are_unique};
 use mh_reader_parser::{TokenKind, content_of, cost_of, read_lexemes, token_kind_of};
 use mh_rules::{Module, Ref};
@@ -28,9 +28,9 @@ use std::alloc::Global;
 pub struct PlacedModule {
     pub module: Module,
     /// The names and strings of the module, in the order of the text.
-    pub mentions: Vec<Mention>,
+    pub mentions: Sequence<Mention>,
     /// The positions of the attributes that begin with `[@cost` and give no cost, in order.
-    pub bad_costs: Vec<usize>,
+    pub bad_costs: Sequence<usize>,
 }
 
 /// The places of the lexemes so far.
@@ -208,8 +208,8 @@ fn with_places(
     match places_of(alloc, bytes, lexemes) {
         Ok(places) => Ok(PlacedModule {
             module: made,
-            mentions: places.mentions,
-            bad_costs: places.bad_costs,
+            mentions: Sequence::from_vec(places.mentions),
+            bad_costs: Sequence::from_vec(places.bad_costs),
         }),
         Err(Memory) => Err(PlacedFault::Memory),
     }

@@ -1,4 +1,4 @@
-//! Modes of automata and kinds of conflicts.
+//! Modes of automata (merged, canonical), which are no modes of the program, and kinds of conflicts.
 
 /// The kind of the automaton from which a table is made. In canonical mode a state has a default only if it has the
 /// same action at the end of the stream.

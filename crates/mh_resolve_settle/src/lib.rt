@@ -13,4 +13,5 @@ pub use cells::cell_of;
 pub use counting::{shifts_of, tallies_of};
 pub use errors::on_error_production;
 pub use holes::holes_of;
+pub use levels::{compare_on, length_of};
 pub use row::{cells_of, default_of, is_stream_conflict};

@@ -1,5 +1,6 @@
-//! A look at the libraries for what is written and read: the list of errors, messages files, table files, and texts for
-//! readers. The grammar is that of `mh_surface`, and each compared value was worked out by hand.
+//! A look at the libraries for what is written and read: the list of errors, messages files, table files, texts for
+//! readers, and the lines on grammar files. The grammar is mostly that of `mh_surface`, and each compared value was
+//! worked out by hand.
 #![tactic(auto)]
 
 #[cfg(test)]
@@ -8,6 +9,8 @@ mod catalogue_and_messages;
 mod chapters;
 #[cfg(test)]
 mod conflicts;
+#[cfg(test)]
+mod examined_grammars;
 #[cfg(test)]
 mod table_files;
 #[cfg(test)]

@@ -12,7 +12,7 @@ pub enum Action {
     Refuse,
 }
 
-/// The default of a state: an action that does not ask for a token.
+/// The default of a state (`fallback` in the code): an action that does not ask for a token.
 #[derive(Clone, Copy, Debug, PartialEq, Eq)]
 pub enum Fallback {
     /// Accept.

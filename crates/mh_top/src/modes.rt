@@ -79,5 +79,7 @@ pub(crate) fn run_mode<F: Shelf, I: Source, O: Sink, const W: usize>(
         Job::CheckErrors { file } => {
             check_errors(alloc, prepared, shelf, file.as_slice(), input, out)
         }
+        // The top call does the work of this mode before there is a grammar.
+        Job::Check => unreachable!(),
     }
 }

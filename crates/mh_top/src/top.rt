@@ -1,16 +1,17 @@
 //! The top call: the whole tool as one function.
-ghost use Rattle.std.specs.Prelude.{◌≡◌, ◌≤◌, List, length, map, string_bytes};
+ghost use Rattle.std.specs.Prelude.{◌≡◌, ◌≢◌, ◌≤◌, List, length, map, string_bytes};
+ghost use Rattle.std.specs.List.{All};
 ghost use Rattle.mh_grammar.specs.Plain.{plain_of, IsInRange};
+ghost use Rattle.mh_opts.specs.Orders.{IsWithinLimits};
+ghost use Rattle.mh_opts.specs.declared.jobs.Job.TheVariants.{Check};
+ghost use Rattle.mh_top_load.specs.Modules.{grammar_files};
+ghost use Rattle.mh_top_load.specs.Order.{staged_order};
+ghost use Rattle.mh_top_plans.specs.Files.{files_of_mode};
+ghost use Rattle.mh_top_tables.specs.MayAskForTables.{MayAskForTables};
 ghost use Rattle.mh_grammar.specs.Text.{Text};
 ghost use Rattle.mh_top_drive.specs.StageResults.{Go};
-ghost use Rattle.mh_top_claims.specs.Claims.{MeetsClaims};
-ghost use Rattle.mh_top_claims.specs.CheckedErrors.{ChecksErrorsExactly};
-ghost use Rattle.mh_top_claims.specs.ErrorLists.{ListsErrorsExactly};
-ghost use Rattle.mh_top_claims.specs.Headline.{ListsErrorsOfTable, TakesSoundFiles, GivesMessages};
-ghost use Rattle.mh_top_claims.specs.RebasedFiles.{RebasesSoundly};
-ghost use Rattle.mh_top_claims.specs.ConflictExplanations.{ExplainsConflictsExactly};
-ghost use Rattle.mh_top_claims.specs.VerdictClaims.{AcceptIsExact, RejectIsSound, OvershootIsSound, AcceptIsSound, TooDeepIsExact};
 ghost use Rattle.mh_top_claims.specs.MayAskForFiles.{MayAskForFiles};
+ghost use Rattle.mh_top_claims.specs.Promises.{Promises};
 ghost use Rattle.mh_top_claims.specs.Run.{world, Ran};
 ghost use Rattle.mh_top_claims.specs.code.WorkBeforeLastLine.{IsWorkBeforeLastLine};
 ghost use Rattle.mh_top.specs.code.Premises.{AllowsWork, MayRunMode};
@@ -21,10 +22,12 @@ ghost use Rattle.mh_top_drive.specs.code.MayWriteAfter.{MayWriteAfter};
 ghost use Rattle.mh_rules.specs.Limits.{max_tokens};
 
 use crate::following::run_unless_refused;
+use mh_opts::{Job, Order};
 use mh_outside::{Shelf, Sink, Source};
 use mh_sets::with_width;
+use mh_top_check::check_grammar;
 use mh_top_drive::{Stop, status};
-use mh_top_load::front_of;
+use mh_top_load::{order_in, with_grammar};
 use mh_top_prepare::prepare;
 use mh_top_types::{OrderAndGrammar, Prepared};
 use mh_top_warnings::{report, warn};
@@ -117,6 +120,38 @@ fn work_at_width<F: Shelf, I: Source, O: Sink, E: Sink>(
     with_width!(front.grammar.tokens.len(); work_on; F, I, O, E; alloc, front, shelf, input, out, err)
 }
 
+/// Does the work after the order for every mode but `--check`: makes the grammar, and then the table.
+fn work_on_order<F: Shelf, I: Source, O: Sink, E: Sink>(
+    alloc: Global,
+    order: Order,
+    shelf: &mut F,
+    input: &mut I,
+    out: &mut O,
+    err: &mut E,
+) -> Result<(), Stop>
+    requires job { order.job ≢ Check }
+    requires limits { IsWithinLimits order.job }
+    requires grammars { All (F.MayAsk shelf.old) (grammar_files order) }
+    requires tables { MayAskForTables order (F.MayAsk shelf.old) }
+    requires asked { All (F.MayAsk shelf.old) (files_of_mode order) }
+    requires may_read { I.MayRead input.old }
+    requires may_write { O.MayWrite out.old }
+    requires may_warn { E.MayWrite err.old }
+    ensures kept { F.files shelf.new ≡ F.files shelf.old }
+    ensures ran { (words : List Text) → staged_order words ≡ Go order → IsWorkBeforeLastLine words
+        (world F.files F.faults I.left I.faults O.written O.faults E.written E.faults
+        shelf.old input.old out.old err.old)
+        (world F.files F.faults I.left I.faults O.written O.faults E.written E.faults
+        shelf.new input.new out.new err.new)
+        result }
+    ensures may_warn_on { MayWriteAfter (E.MayWrite err.new) result }
+{
+    match with_grammar(alloc, order, shelf) {
+        Ok(front) => work_at_width(alloc, front, shelf, input, out, err),
+        Err(stop) => Err(stop),
+    }
+}
+
 /// Does all of the work but its last line on err.
 fn work<F: Shelf, I: Source, O: Sink, E: Sink>(
     alloc: Global,
@@ -139,8 +174,11 @@ fn work<F: Shelf, I: Source, O: Sink, E: Sink>(
         result }
     ensures may_warn_on { MayWriteAfter (E.MayWrite err.new) result }
 {
-    match front_of(alloc, words, shelf) {
-        Ok(front) => work_at_width(alloc, front, shelf, input, out, err),
+    match order_in(alloc, words) {
+        Ok(order) => match order.job {
+            Job::Check => check_grammar(alloc, order, shelf, input, out),
+            _ => work_on_order(alloc, order, shelf, input, out, err),
+        },
         Err(stop) => Err(stop),
     }
 }
@@ -187,66 +225,18 @@ pub fn menhir<F: Shelf, I: Source, O: Sink, E: Sink>(
     requires may_read { I.MayRead input.old }
     requires may_write { O.MayWrite out.old }
     requires may_warn { E.MayWrite err.old }
-    // The full contract: how each run ends. Most of the other clauses follow from it.
+    // The full contract: how each run ends.
     ensures ran { Ran (map string_bytes words.now)
         (world F.files F.faults I.left I.faults O.written O.faults E.written E.faults
         shelf.old input.old out.old err.old)
         (world F.files F.faults I.left I.faults O.written O.faults E.written E.faults
         shelf.new input.new out.new err.new) result }
-    ensures kept { MeetsClaims (map string_bytes words.now)
+    // What follows from it: the headline and all other promises, each with its name in the record `Promises`.
+    ensures promises { Promises (map string_bytes words.now)
         (world F.files F.faults I.left I.faults O.written O.faults E.written E.faults
         shelf.old input.old out.old err.old)
         (world F.files F.faults I.left I.faults O.written O.faults E.written E.faults
         shelf.new input.new out.new err.new) result }
-    // The headline, in three clauses that speak of success alone. A list of errors has an entry for a state exactly if
-    // some sentence is refused in this state.
-    ensures errors { ListsErrorsOfTable (map string_bytes words.now)
-        (world F.files F.faults I.left I.faults O.written O.faults E.written E.faults
-        shelf.old input.old out.old err.old)
-        (world F.files F.faults I.left I.faults O.written O.faults E.written E.faults
-        shelf.new input.new out.new err.new) result }
-    // A messages file compiles exactly if each of its sentences is refused at its last token, no two in one state.
-    ensures takes { TakesSoundFiles (map string_bytes words.now)
-        (world F.files F.faults I.left I.faults O.written O.faults E.written E.faults
-        shelf.old input.old out.old err.old)
-        (world F.files F.faults I.left I.faults O.written O.faults E.written E.faults
-        shelf.new input.new out.new err.new) result }
-    // A line that is refused is answered with the message of its state, if the messages file names the state.
-    ensures messages { GivesMessages (map string_bytes words.now)
-        (world F.files F.faults I.left I.faults O.written O.faults E.written E.faults
-        shelf.old input.old out.old err.old)
-        (world F.files F.faults I.left I.faults O.written O.faults E.written E.faults
-        shelf.new input.new out.new err.new) result }
-    // Each accepted grammar has a list of errors, or a state in which only sentences of too high a cost fail.
-    ensures lists { ListsErrorsExactly (map string_bytes words.now)
-        (world F.files F.faults I.left I.faults O.written O.faults E.written E.faults
-        shelf.old input.old out.old err.old)
-        (world F.files F.faults I.left I.faults O.written O.faults E.written E.faults
-        shelf.new input.new out.new err.new) result }
-    // A rebased messages file is sound and complete, and has the old messages of the kept sentences.
-    ensures rebases { RebasesSoundly (map string_bytes words.now)
-        (world F.files F.faults I.left I.faults O.written O.faults E.written E.faults
-        shelf.old input.old out.old err.old)
-        (world F.files F.faults I.left I.faults O.written O.faults E.written E.faults
-        shelf.new input.new out.new err.new) result }
-    // The explanations of conflicts are complete, each with the first sentence.
-    ensures explains { ExplainsConflictsExactly (map string_bytes words.now)
-        (world F.files F.faults I.left I.faults O.written O.faults E.written E.faults
-        shelf.old input.old out.old err.old)
-        (world F.files F.faults I.left I.faults O.written O.faults E.written E.faults
-        shelf.new input.new out.new err.new) result }
-    // out says exactly what is wrong with a messages file: nothing if the file is sound and complete.
-    ensures checks { ChecksErrorsExactly (map string_bytes words.now)
-        (world F.files F.faults I.left I.faults O.written O.faults E.written E.faults
-        shelf.old input.old out.old err.old)
-        (world F.files F.faults I.left I.faults O.written O.faults E.written E.faults
-        shelf.new input.new out.new err.new) result }
-    // The answers to sentence lines, compared with the sentences of the grammar.
-    ensures exact { AcceptIsExact (map string_bytes words.now) (F.files shelf.old) }
-    ensures rejects { RejectIsSound (map string_bytes words.now) (F.files shelf.old) }
-    ensures overshoots { OvershootIsSound (map string_bytes words.now) (F.files shelf.old) }
-    ensures accepts { AcceptIsSound (map string_bytes words.now) (F.files shelf.old) }
-    ensures too_deep { TooDeepIsExact (map string_bytes words.now) (F.files shelf.old) }
     // No file is changed.
     ensures files { F.files shelf.new ≡ F.files shelf.old }
 {

@@ -1,12 +1,12 @@
 -- Proves that the program accepts its own random sentences.
-use Rattle.std.proofs.Common.{◌≡◌, ◌≤◌, ◌⊎◌, ℕ, List, Option, false, inl, inr, length, sym, subst, arith}
+use Rattle.std.proofs.Common.{ℕ, List, Option, false, inl, inr, length, sym, subst, arith}
 use Rattle.std.proofs.lemmas.List.{take_all}
 use Rattle.mh_grammar.specs.Plain.{PlainGrammar, IsSentence, plain_of}
 use Rattle.mh_grammar.specs.Text.{Text}
 use Rattle.mh_outside.specs.Shelf.{Files}
 use Rattle.mh_run_exact.specs.Exactness.{IsPrefixSentence}
 use Rattle.mh_sample_random.proofs.RandomIsSentence.{random_is_sentence}
-use Rattle.mh_top_claims.specs.VerdictClaims.{IsAcceptText, AcceptsRandom, IsTooDeepText}
+use Rattle.mh_top_claims.specs.VerdictClaims.{AcceptsRandom}
 use Rattle.mh_top_claims.proofs.VerdictClaims.{accepts_exactly}
 
 -- A sentence is a prefix of itself.

@@ -1,5 +1,5 @@
--- Lemmas on the answer to each line in a text for several lines. Also proves that for each result of the preparation
--- there is some work that the definitions allow.
+-- Lemmas on the answer to each line in a text for several lines. Also proves that for each result of the preparation,
+-- and of the examination of grammar files, there is some work that the definitions allow.
 use Rattle.std.proofs.Common.{◌≡◌, Bool, true, false, ◌&&◌, List, [], ◌∷◌, ◌++◌, Option, refl, sym, ◌∙◌, ap, subst, append_assoc}
 use Rattle.mh_outside.specs.Shelf.{Files}
 use Rattle.mh_grammar.specs.Text.{Text}
@@ -8,12 +8,17 @@ use Rattle.mh_top_plans.specs.Verdicts.{VerdictContext}
 use Rattle.mh_top_plans.specs.Plan.{Plan, Judges, Answers, plan_behavior}
 use Rattle.mh_top_drive.specs.ModeBehavior.{AnswersAll}
 use Rattle.mh_top_claims.specs.AnswerAtLine.{IsAnsweredAt, HasVerdictAt}
-use Rattle.mh_top_claims.specs.Work.{Work, IsPlanUnlessRefused, IsWork, IsWorkOf}
+use Rattle.mh_top_claims.specs.Work.{Examining, NeedsTable, WithTable, Work, IsPlanUnlessRefused, IsWork, IsWorkOf}
 use Rattle.mh_top_warnings.specs.Warnings.{has_warning}
 use Rattle.mh_top_claims.specs.Preparing.{IsPrepared}
 use Rattle.mh_top_types.specs.Shapes.{Prepared}
 use Rattle.mh_top_plans.proofs.FilesOfMode.{PreparedFacts}
 use Rattle.mh_top_claims.proofs.EachMode.{mode_facts}
+use Rattle.mh_top_claims.proofs.PreparedWork.{job_needs}
+use Rattle.mh_opts.specs.declared.jobs.Job.TheVariants.{Check}
+use Rattle.mh_opts.specs.declared.order.Order.{Order}
+use Rattle.mh_top_check.specs.Examination.{AreExamined, Examined, plan_of_check}
+use Rattle.mh_top_load.specs.Order.{staged_order}
 use Rattle.mh_top_claims.proofs.VerdictClaims.{prepared_runs}
 
 pub answered_at : (plan last : Plan) (before : List Text) (line : Text) (after : List Text) (text : Text) → AnswersAll plan_behavior plan (before ++ line ∷ after) text last → IsAnsweredAt plan before line after text last
@@ -49,13 +54,16 @@ verdict_at by last before line after text all =
       text_is = at.text_is;
     }
 
-plan_unless : (refused : Bool) (files : Option Files) (p : Prepared) → PreparedFacts p → (plan : Plan) × IsPlanUnlessRefused refused files p plan
-plan_unless true files p runs = (_, refl)
-plan_unless false files p runs = (mode_facts p.order.job p).some files runs
+plan_unless : (refused : Bool) (files : Option Files) (p : Prepared) → (p.order.job ≡ Check → ⊥) → PreparedFacts p → (plan : Plan) × IsPlanUnlessRefused refused files p plan
+plan_unless true files p other runs = (_, refl)
+plan_unless false files p other runs = (mode_facts p.order.job other p).some files runs
 
-work_of : (words : List Text) (files : Option Files) (s : StageResult Prepared) → IsPrepared words files s → (w : Work) × IsWorkOf files s w
-work_of words files (Go p) is = let plan = plan_unless (p.order.strict && has_warning p.tabled.conflicts) files p (prepared_runs words files p is) in (record { warnings = _; plan = plan.0 }, (refl, plan.1))
-work_of words files (Halt cause) is = (_, refl)
+work_of : (words : List Text) (files : Option Files) → NeedsTable words → (s : StageResult Prepared) → IsPrepared words files s → (w : Work) × IsWorkOf files s w
+work_of words files needs (Go p) is = let plan = plan_unless (p.order.strict && has_warning p.tabled.conflicts) files p (job_needs words files p is needs) (prepared_runs words files p is) in (record { warnings = _; plan = plan.0 }, (refl, plan.1))
+work_of words files needs (Halt cause) is = (_, refl)
 
-pub some_work : (words : List Text) (files : Option Files) (s : StageResult Prepared) → IsPrepared words files s → (w : Work) × IsWork words files w
-some_work words files s is = let w = work_of words files s is in (w.0, (s, is, w.1))
+pub some_work : (words : List Text) (files : Option Files) → NeedsTable words → (s : StageResult Prepared) → IsPrepared words files s → (w : Work) × IsWork words files w
+some_work words files needs s is = let w = work_of words files needs s is in (w.0, WithTable needs (s, is, w.1))
+
+pub some_check_work : (words : List Text) (files : Option Files) (order : Order) (s : StageResult Examined) → staged_order words ≡ Go order → order.job ≡ Check → AreExamined files order s → (w : Work) × IsWork words files w
+some_check_work words files order s on job are = (record { warnings = []; plan = plan_of_check order s }, Examining order on job (record { warnings = refl; plan = (s, are, refl) }))

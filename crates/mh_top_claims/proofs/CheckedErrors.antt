@@ -1,5 +1,5 @@
 -- Proves the claim on examined messages files from the definition of a run.
-use Rattle.std.proofs.Common.{◌≡◌, ◌⊎◌, inl, inr, ℕ, Bool, true, false, ◌&&◌, List, [], ◌∷◌, ◌++◌, Option, None, Some, refl, sym, ◌∙◌, ap, subst}
+use Rattle.std.proofs.Common.{◌≡◌, ◌⊎◌, inl, inr, ℕ, Bool, true, false, ◌&&◌, List, [], ◌∷◌, ◌++◌, Option, Some, refl, sym, ◌∙◌, ap, subst}
 use Rattle.std.proofs.lemmas.List.{append-nil}
 use Rattle.std.specs.Io.KnownBytes.{Appends}
 use Rattle.mh_grammar.specs.Text.{Text}
@@ -27,6 +27,7 @@ use Rattle.mh_top_warnings.specs.Warnings.{has_warning, warnings_of}
 use Rattle.mh_top_claims.proofs.Claims.{does_work_without_fault}
 use Rattle.mh_top_claims.proofs.FinalOutputOutcome.{yields_end}
 use Rattle.mh_top_claims.proofs.PreparedUnique.{prepared_once}
+use Rattle.mh_top_claims.proofs.PreparedWork.{prepared_work}
 
 -- Lines add nothing to err.
 no_last_line : (lines : Text) → last_line_of (cause_of_lines lines) ≡ []
@@ -56,7 +57,9 @@ module _ (words : List Text) (files : Files) (p : Prepared) (name bytes : Text) 
   work_at (Halt cause) w same is = absurd (cc)
 
   work_is : (w : Work) → IsWork words (Some files) w → (w.warnings ≡ warnings_of p) × (w.plan ≡ plan)
-  work_is w is = work_at is.0 w (prepared_once words files is.0 (Go p) is.1 asks.prepared) is.2
+  work_is w asked =
+      let is = prepared_work words (Some files) p asks.prepared (λ e. (let never = sym asks.job ∙ e in cc)) w asked in
+      work_at is.0 w (prepared_once words files is.0 (Go p) is.1 asks.prepared) is.2
 
   module _ (b a : World) (status : ℕ) where
     outcome : (cause : Option Cause) (out : Text) → ChecksErrors p.grammar p.tabled.halting name blocks cause out → status ≡ status_of cause → Appends b.out a.out out → Appends b.err a.err (warnings_of p ++ last_line_of cause) → CheckedErrorsOutcome p name bytes blocks b a status

@@ -1,6 +1,6 @@
 -- Proves that the end of examining a messages file is unique: the end is either the lines, or a refusal that names one
 -- state.
-use Rattle.std.proofs.Common.{◌≡◌, ℕ, List, [], ◌∷◌, Option, None, Some, sym, ◌∙◌, ap, subst}
+use Rattle.std.proofs.Common.{◌≡◌, ℕ, [], ◌∷◌, Option, None, Some, sym, ◌∙◌, ap, subst}
 use Rattle.mh_grammar.specs.declared.types.Grammar.{Grammar}
 use Rattle.mh_grammar.specs.Text.{Text}
 use Rattle.mh_tables_core.specs.Table.{TableData}

@@ -144,7 +144,7 @@ module _ (words : List Text) (b a : World) where
 
   done_part : (P : Text → Type 0) → DoneSoFar words b a P → WritesOutputPrefix words b a
   done_part P (Nothing still at) = still_part still
-  done_part P (Warned p is still at) = still_part still
+  done_part P (Warned needs p is still at) = still_part still
   done_part P (Begun h) = behind_part _ P (λ w at. want_part w.plan b.left a.left b.out a.out at) h
 
   ended_part : (cause : Option Cause) (w : Work) → ModeEnded b a cause w → (text : Text) × Appends b.out a.out text × IsOutputPrefix w.plan b.left text

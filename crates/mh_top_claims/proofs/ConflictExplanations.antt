@@ -23,7 +23,7 @@ use Rattle.mh_top_claims.proofs.VerdictClaims.{prepared_fit}
 module _ (words : List Text) (b a : World) (status : ℕ) where
   done : (files : Files) → b.files ≡ Some files → (p : Prepared) → AsksForExplanations words (Some files) p → DoesWork words b a status → ConflictsAreExplained p b a status
   done files known p asks does =
-      let work = work_is words files p Explain (Conflicts p) (λ plan is. is) asks.prepared asks.job asks.accepted does.work (subst (λ (x : Option Files). IsWork words x does.work) known does.is_asked) in
+      let work = work_is words files p Explain (Conflicts p) (λ plan is. is) asks.prepared asks.job asks.accepted (λ e. cc) does.work (subst (λ (x : Option Files). IsWork words x does.work) known does.is_asked) in
       let yields : HasOutcome plan_behavior (Ends (Conflicts p)) b.left does.outcome = subst (λ (l : Plan). HasOutcome plan_behavior l b.left does.outcome) work.1 does.yields in
       let made : IsFinalOutput (Conflicts p) (record { cause = does.outcome.cause; out = does.outcome.out }) = yields_end (Conflicts p) b.left does.outcome yields in
       let on_err : Appends b.err a.err (warnings_of p ++ last_line_of does.outcome.cause) = subst (λ (t : Text). Appends b.err a.err (t ++ last_line_of does.outcome.cause)) work.0 does.on_err in

@@ -1,9 +1,12 @@
 -- All lemmas that have one case for each job, for each end and for each plan.
 use Rattle.std.proofs.Common.{◌≡◌, ◌∷◌, ℕ, List, Option, None, Some, [], sym, ◌∙◌, ap, subst, refl}
 use Rattle.std.specs.Bool.{⊤}
+use Rattle.std.specs.Prelude.{Bool, true, false, if◌then◌else◌}
+use Rattle.mh_lint_findings.specs.Lines.{Line}
+use Rattle.mh_top_plans.specs.GrammarChecked.{cause_of_findings}
 use Rattle.mh_grammar.specs.declared.types.Grammar.{Grammar}
 use Rattle.mh_opts.specs.declared.jobs.Job.{Job}
-use Rattle.mh_opts.specs.declared.jobs.Job.TheVariants.{Interpret, InterpretError, Session, ShowAutomaton, WriteTables, ListErrors, CompareErrors, CompileErrors, EchoErrors, UpdateErrors, RebaseErrors, CheckErrors, Sample, ShortestSentences, RandomSentence, Explain}
+use Rattle.mh_opts.specs.declared.jobs.Job.TheVariants.{Interpret, InterpretError, Session, ShowAutomaton, WriteTables, ListErrors, CompareErrors, CompileErrors, EchoErrors, UpdateErrors, RebaseErrors, Check, CheckErrors, Sample, ShortestSentences, RandomSentence, Explain}
 use Rattle.mh_outside.specs.Shelf.{Files, FileFound}
 use Rattle.mh_report.proofs.OneAutomatonText.{text_once}
 use Rattle.mh_session_branches.proofs.OneAnswer.{answer_once as line_once}
@@ -12,7 +15,6 @@ use Rattle.mh_tables_core.specs.Table.{TableData}
 use Rattle.mh_check.specs.Compiling.{missing}
 use Rattle.mh_check.specs.Texts.{compiled_text}
 use Rattle.mh_msgfile.specs.FileTexts.{echo_text}
-use Rattle.mh_msgfile.specs.declared.loose.LooseFile.{LooseFile}
 use Rattle.mh_explain.proofs.ExplanationsUnique.{explanations_once}
 use Rattle.mh_sample.proofs.ShortestTextUnique.{shortest_text_once}
 use Rattle.mh_grammar.specs.Text.{Text}
@@ -30,7 +32,7 @@ use Rattle.mh_top_plans.specs.Listing.{ListsErrors, Lists, TooLong, too_long}
 use Rattle.mh_top_plans.specs.MessagesFiles.{AreMessagesOfBoth, AreMessages, AreLooseBlocks, IsLooseFile, IsMessagesFile, IsUpdatedFile, Messages}
 use Rattle.mh_top_plans.proofs.FileBlocks.{blocks_facts, some_blocks}
 use Rattle.mh_top_plans.proofs.LooseFiles.{loose_facts, some_loose}
-use Rattle.mh_top_plans.specs.Plan.{Answers, Automaton, FinalOutput, Ends, IsFinalOutput, EndsWith, Errors, Explains, IsPlanOfJob, Judges, Known, AreOptionalMessages, Plan, Serves, halts, judging_plan, plan_of_stage, table_file_text, writing_plan, Checked, Rebased, Sampled, Shortest, Random, Conflicts}
+use Rattle.mh_top_plans.specs.Plan.{Answers, Automaton, FinalOutput, Ends, IsFinalOutput, EndsWith, Errors, Explains, IsPlanOfJob, Judges, Known, AreOptionalMessages, Plan, Serves, halts, judging_plan, plan_of_stage, table_file_text, writing_plan, Checked, Findings, Rebased, Sampled, Shortest, Random, Conflicts}
 use Rattle.mh_top_plans.specs.Verdicts.{VerdictContext}
 use Rattle.mh_top_plans.specs.declared.at_end.FinalText.{FinalText}
 use Rattle.mh_top_plans.specs.declared.at_end.FinalText.TheVariants.{Written, Refusal}
@@ -133,25 +135,27 @@ module _ (p : Prepared) where
 one_checked : (p : Prepared) (file : Text) → ReadFacts p (file ∷ []) (λ files. IsFileContent files (AreMessages p.grammar p.tabled.halting) file)
 one_checked p file = one_file p file (AreMessages p.grammar p.tabled.halting) (messages_facts p.grammar p.tabled.halting) (λ runs. some_checked p.grammar p.tabled.halting runs.halts runs.consistent.table.grammar)
 
-pub mode_facts : (job : Job) (p : Prepared) → ModeFacts p (files_of_job job p.order) (λ files. IsPlanOfJob job files p)
-mode_facts Interpret p = judging p p.order.messages
-mode_facts InterpretError p = fixed p (Explains p []) (λ by is. cc) (λ Right. tt)
-mode_facts Session p = fixed p (Serves p.grammar p.tabled.halting []) (λ by is. cc) (λ Right. tt)
-mode_facts ShowAutomaton p = fixed p (Ends (Automaton p)) (λ by is. cc) (λ Right. tt)
-mode_facts WriteTables p = fixed p (writing_plan (Written (table_file_text p))) (λ by is. cc) (λ Right. tt)
-mode_facts ListErrors p = fixed p (Ends (Errors p)) (λ by is. cc) (λ Right. tt)
-mode_facts (Sample number) p = fixed p (Ends (Sampled number p)) (λ by is. cc) (λ Right. tt)
-mode_facts ShortestSentences p = fixed p (Ends (Shortest p)) (λ by is. cc) (λ Right. tt)
-mode_facts (RandomSentence seed n) p = fixed p (Ends (Random seed n p)) (λ by is. cc) (λ Right. tt)
-mode_facts Explain p = fixed p (Ends (Conflicts p)) (λ by is. cc) (λ Right. tt)
-mode_facts (CompileErrors file) p = reading p (file ∷ []) (λ files. IsFileContent files (AreMessages p.grammar p.tabled.halting) file) (one_checked p file) (λ messages. writing_plan (Written (compiled_text messages))) (λ messages by is. cc) (λ Right may messages. tt)
-mode_facts (EchoErrors file) p =
+pub mode_facts : (job : Job) → (job ≡ Check → ⊥) → (p : Prepared) → ModeFacts p (files_of_job job p.order) (λ files. IsPlanOfJob job files p)
+mode_facts Interpret other p = judging p p.order.messages
+mode_facts InterpretError other p = fixed p (Explains p []) (λ by is. cc) (λ Right. tt)
+mode_facts Session other p = fixed p (Serves p.grammar p.tabled.halting []) (λ by is. cc) (λ Right. tt)
+mode_facts ShowAutomaton other p = fixed p (Ends (Automaton p)) (λ by is. cc) (λ Right. tt)
+mode_facts WriteTables other p = fixed p (writing_plan (Written (table_file_text p))) (λ by is. cc) (λ Right. tt)
+mode_facts ListErrors other p = fixed p (Ends (Errors p)) (λ by is. cc) (λ Right. tt)
+mode_facts (Sample number) other p = fixed p (Ends (Sampled number p)) (λ by is. cc) (λ Right. tt)
+mode_facts ShortestSentences other p = fixed p (Ends (Shortest p)) (λ by is. cc) (λ Right. tt)
+mode_facts (RandomSentence seed n) other p = fixed p (Ends (Random seed n p)) (λ by is. cc) (λ Right. tt)
+mode_facts Explain other p = fixed p (Ends (Conflicts p)) (λ by is. cc) (λ Right. tt)
+mode_facts (CompileErrors file) other p = reading p (file ∷ []) (λ files. IsFileContent files (AreMessages p.grammar p.tabled.halting) file) (one_checked p file) (λ messages. writing_plan (Written (compiled_text messages))) (λ messages by is. cc) (λ Right may messages. tt)
+mode_facts (EchoErrors file) other p =
     reading p (file ∷ []) (λ files. IsFileContent files (IsMessagesFile p.grammar) file) (one_file p file (IsMessagesFile p.grammar) (messages_file_facts p.grammar) (λ runs name bytes short. some_spelled p.grammar name bytes)) (λ spelled. writing_plan (Written (echo_text p.grammar spelled))) (λ spelled by is. cc)
     (λ Right may spelled. tt)
-mode_facts (UpdateErrors file) p = reading p (file ∷ []) (λ files. IsUpdatedFile files p file) (one_updated p file) (λ text. writing_plan (Written text)) (λ text by is. cc) (λ Right may text. tt)
-mode_facts (RebaseErrors file) p = reading p (file ∷ []) (λ files. IsFileContent files IsLooseFile file) (one_file p file IsLooseFile loose_facts (λ runs name bytes short. some_loose name bytes)) (λ loose. Ends (Rebased loose p)) (λ loose by is. cc) (λ Right may loose. tt)
-mode_facts (CheckErrors file) p = reading p (file ∷ []) (λ files. IsFileContent files AreLooseBlocks file) (one_file p file AreLooseBlocks blocks_facts (λ runs name bytes short. some_blocks name bytes)) (λ blocks. Ends (Checked file blocks p)) (λ blocks by is. cc) (λ Right may blocks. tt)
-mode_facts (CompareErrors first second) p =
+mode_facts (UpdateErrors file) other p = reading p (file ∷ []) (λ files. IsUpdatedFile files p file) (one_updated p file) (λ text. writing_plan (Written text)) (λ text by is. cc) (λ Right may text. tt)
+mode_facts (RebaseErrors file) other p = reading p (file ∷ []) (λ files. IsFileContent files IsLooseFile file) (one_file p file IsLooseFile loose_facts (λ runs name bytes short. some_loose name bytes)) (λ loose. Ends (Rebased loose p)) (λ loose by is. cc) (λ Right may loose. tt)
+mode_facts (CheckErrors file) other p = reading p (file ∷ []) (λ files. IsFileContent files AreLooseBlocks file) (one_file p file AreLooseBlocks blocks_facts (λ runs name bytes short. some_blocks name bytes)) (λ blocks. Ends (Checked file blocks p)) (λ blocks by is. cc) (λ Right may blocks. tt)
+-- The mode that examines grammar files has no plan after the warnings.
+mode_facts Check other p = absurd (other refl)
+mode_facts (CompareErrors first second) other p =
     reading p (first ∷ second ∷ []) (λ files. AreMessagesOfBoth files p first second) (two_files p first second) (λ both. writing_plan (comparison_result first second (missing both.0 both.1))) (λ both by is. cc) (λ Right may both. final_right Right may (comparison_result first second (missing both.0 both.1)))
 
 -- ---- The end of a mode that asks for no line is unique.
@@ -167,6 +171,15 @@ list_right p Right may e (TooLong s long cause out) = subst (IsAllowed Right) (s
 
 random_once : (p : Prepared) (seed n : ℕ) (x y : ModeEnd) → IsFinalOutput (Random seed n p) x → IsFinalOutput (Random seed n p) y → x ≡ y
 random_once p seed n x y is so = is.2 ∙ ap end_of_final_text (drawn_once p.grammar seed n is.0 so.0 is.1 so.1) ∙ sym so.2
+
+if_strict_right : (Right : Cause → Type 0) → ((line : Text) → Right (Refused line)) → (strict : Bool) → IsAllowed Right (if strict then Some (Refused []) else None)
+if_strict_right Right may true = may []
+if_strict_right Right may false = tt
+
+findings_right : (Right : Cause → Type 0) → ((line : Text) → Right (Refused line)) → (strict faulty : Bool) (lines : List Line) → IsAllowed Right (cause_of_findings strict faulty lines)
+findings_right Right may strict true lines = may []
+findings_right Right may strict false [] = tt
+findings_right Right may strict false (x ∷ xs) = if_strict_right Right may strict
 
 pub end_facts : (end : FinalOutput) → EndFacts end
 end_facts (Known end) = record {
@@ -193,6 +206,11 @@ end_facts (Checked name blocks p) = record {
   cause = λ x y is so. checked_cause_once p.grammar p.tabled.halting name blocks x.cause y.cause x.out y.out is so;
   out = λ x y is so. checked_out_once p.grammar p.tabled.halting name blocks x.cause y.cause x.out y.out is so;
   allowed = λ Right may e right is. checked_cause_allowed p.grammar p.tabled.halting name blocks (IsAllowed Right) may tt e.cause e.out is;
+}
+end_facts (Findings found strict faulty lines) = record {
+  cause = λ x y is so. is.cause_is ∙ sym so.cause_is;
+  out = λ x y is so. is.written ∙ sym so.written;
+  allowed = λ Right may e right is. subst (IsAllowed Right) (sym is.cause_is) (findings_right Right may strict faulty lines);
 }
 end_facts (Sampled number p) = record {
   cause = λ x y is so. counts_cause_once p.grammar p.tabled.halting number x.cause y.cause x.out y.out is so;

@@ -31,7 +31,7 @@ module _ (p : Prepared) (b a : World) (status : ℕ) where
 module _ (words : List Text) (b a : World) (status : ℕ) where
   done : (files : Files) → b.files ≡ Some files → (p : Prepared) → AsksForErrorList words (Some files) p → DoesWork words b a status → ErrorListOutcome p b a status
   done files told p asks does =
-      let work = work_is words files p ListErrors (Errors p) (λ plan is. is) asks.prepared asks.job asks.accepted does.work (subst (λ (x : Option Files). IsWork words x does.work) told does.is_asked) in
+      let work = work_is words files p ListErrors (Errors p) (λ plan is. is) asks.prepared asks.job asks.accepted (λ e. cc) does.work (subst (λ (x : Option Files). IsWork words x does.work) told does.is_asked) in
       let yields : HasOutcome plan_behavior (Ends (Errors p)) b.left does.outcome = subst (λ (l : Plan). HasOutcome plan_behavior l b.left does.outcome) work.1 does.yields in
       let list : ListsErrors p.order.comment_expected p.grammar p.tabled.automaton p.tabled.halting does.outcome.cause does.outcome.out = yields_end (Errors p) b.left does.outcome yields in
       listed p b a status does.outcome.cause does.outcome.out list does.status_is does.on_out (subst (λ (t : Text). Appends b.err a.err (t ++ last_line_of does.outcome.cause)) work.0 does.on_err)

@@ -13,7 +13,7 @@ use Rattle.mh_items_kernels.specs.KernelTypes.{Automaton}
 use Rattle.mh_outside.specs.Shelf.{Files, Bytes}
 use Rattle.mh_opts.specs.Orders.{order_of}
 use Rattle.mh_opts.specs.declared.jobs.Job.{Job}
-use Rattle.mh_opts.specs.declared.jobs.Job.TheVariants.{CompileErrors, Interpret, ListErrors}
+use Rattle.mh_opts.specs.declared.jobs.Job.TheVariants.{Check, CompileErrors, Interpret, ListErrors}
 use Rattle.mh_opts.specs.declared.order.Order.{Order}
 use Rattle.mh_tables_core.specs.Table.{TableData}
 use Rattle.mh_tables_core.specs.Run.{Ending as Ended, Accepted, Overshot, Rejected, VerdictOf}
@@ -21,7 +21,7 @@ use Rattle.mh_tables_core.specs.TreeRuns.{TreeEnding, AcceptedTree, OvershotTree
 use Rattle.mh_tables_core.specs.Failing.{Catalogue, CatalogueRow, Fails, FailsFirst}
 use Rattle.mh_tables_core.proofs.OneTreeEnding.{one_verdict}
 use Rattle.mh_tables_core.proofs.RefusalIsCut.{verdict_cut}
-use Rattle.mh_msgfile.specs.Sentences.{LineResult, IsSentence, sentence_in, vocabulary_of}
+use Rattle.mh_msgfile.specs.Sentences.{LineResult}
 use Rattle.mh_msgfile.specs.declared.messages.MsgFile.{MsgFile}
 use Rattle.mh_msgfile.proofs.MsgSpells.{spelled_has_no_fault, spelled_once}
 use Rattle.mh_check.specs.Checks.{IsMessage, Sound, sentences_of}
@@ -40,6 +40,7 @@ use Rattle.mh_top_drive.specs.declared.driving.Asks.TheVariants.{EachLine}
 use Rattle.mh_top_drive.specs.declared.stop.Cause.{Cause}
 use Rattle.mh_top_drive.specs.declared.stop.Cause.TheVariants.{Refused, Misused, Missing, LongFile, LongInput}
 use Rattle.mh_top_load.specs.Modules.{sample_of}
+use Rattle.mh_top_load.specs.Order.{order_result}
 use Rattle.mh_top_plans.specs.FinalText.{end_of_final_text}
 use Rattle.mh_top_plans.specs.Listing.{ListsErrors, Lists, TooLong}
 use Rattle.mh_top_plans.specs.MessagesFiles.{AreMessages, AreMessagesOf, IsMessagesFile, Messages}
@@ -53,12 +54,13 @@ use Rattle.mh_top_claims.specs.Headline.{GivesMessages, HasMessage, IsRefusedIn,
 use Rattle.mh_top_claims.specs.Preparing.{IsPrepared}
 use Rattle.mh_top_claims.specs.Run.{World, DoesWork}
 use Rattle.mh_top_claims.specs.Run as runs
-use Rattle.mh_top_claims.specs.Work.{Work, IsPlanUnlessRefused, IsWork, IsWorkOf}
+use Rattle.mh_top_claims.specs.Work.{Work, IsPlanUnlessRefused, IsPreparedWork, IsWork, IsWorkOf}
 use Rattle.mh_top_claims.proofs.Claims.{does_work_without_fault, done_if_status_without_fault}
 use Rattle.mh_top_claims.proofs.FinalOutputOutcome.{yields_end}
 use Rattle.mh_top_claims.proofs.GivesTable.{accepted, accepted_prepared, prepared_gives}
 use Rattle.mh_top_claims.proofs.PreparationStages.{found_bytes, stages}
 use Rattle.mh_top_claims.proofs.PreparedUnique.{prepared_once}
+use Rattle.mh_top_claims.proofs.PreparedWork.{order_needs, prepared_work, tabled_work}
 
 -- ---- States in which some sentence is refused.
 
@@ -240,8 +242,8 @@ module _ (words : List Text) (b a : World) (status : ℕ) where
     on_out : Appends b.out a.out outcome.out
 
   module _ (ran : runs.Ran words b a status) where
-    done : (order : Order) → order_of words ≡ Ok order → status ≡ 0 → IsDone order
-    done order asked is = at (done_if_status_without_fault words b a status ran (inl is)).1
+    done : (order : Order) → order_of words ≡ Ok order → (order.job ≡ Check → ⊥) → status ≡ 0 → IsDone order
+    done order asked other is = at (done_if_status_without_fault words b a status ran (inl is)).1
       where
         of_plan : (refused : Bool) (p : Prepared) (plan : Plan) (o : Outcome) → IsPlanUnlessRefused refused b.files p plan → HasOutcome plan_behavior plan b.left o → o.cause ≡ None → IsPlanOfJob p.order.job b.files p plan
         of_plan true p plan o is_plan yields none = absurd (has_cause (Refused []) plan b.left o is_plan yields none)
@@ -265,7 +267,10 @@ module _ (words : List Text) (b a : World) (status : ℕ) where
         of_stage does none (Halt cause) prepared work = absurd (has_cause cause does.work.plan b.left does.outcome (ap (λ (w : Work). w.plan) work) does.yields none)
 
         at : DoesWork words b a status → IsDone order
-        at does = of_stage does (no_cause does.outcome.cause (sym does.status_is ∙ is)) does.is_asked.0 does.is_asked.1 does.is_asked.2
+        at does =
+            let needs = order_needs words order (ap order_result asked) other in
+            let of : IsPreparedWork words b.files does.work = tabled_work words b.files needs does.work does.is_asked in
+            of_stage does (no_cause does.outcome.cause (sym does.status_is ∙ is)) of.0 of.1 of.2
 
     -- The table of this work is the one that the words and the files give.
     gives : (order : Order) (d : IsDone order) → sample_of order.job ≡ None → GivesTable words b.files order d.p.grammar d.p.tabled.automaton d.p.tabled.halting
@@ -281,7 +286,7 @@ module _ (words : List Text) (b a : World) (status : ℕ) where
 
     pub lists_errors : ListsErrorsOfTable words b a status
     lists_errors order asked job is =
-        let d = done order asked is in
+        let d = done order asked (λ e. (let never = sym job ∙ e in cc)) is in
         let ends : d.plan ≡ Ends (Errors d.p) = plan_of order ListErrors job d in
         let list : ListsErrors d.p.order.comment_expected d.p.grammar d.p.tabled.automaton d.p.tabled.halting d.outcome.cause d.outcome.out = yields_end (Errors d.p) b.left d.outcome (subst (λ (l : Plan). HasOutcome plan_behavior l b.left d.outcome) ends d.yields) in (
           d.p.grammar,
@@ -324,8 +329,9 @@ module _ (words : List Text) (b a : World) (status : ℕ) where
 
       takes_done : DoesWork words b a status → status ≡ 0
       takes_done does =
-          let asked : IsWork words (Some files) does.work = subst (λ (f : Option Files). IsWork words f does.work) known does.is_asked in
-          let one : asked.0 ≡ Go subject = prepared_once words files asked.0 (Go subject) asked.1 (accepted_prepared words (Some files) order g automaton t is (ap sample_of job)) in
+          let prepared = accepted_prepared words (Some files) order g automaton t is (ap sample_of job) in
+          let asked = prepared_work words (Some files) subject prepared (λ e. (let never = sym job ∙ e in cc)) does.work (subst (λ (f : Option Files). IsWork words f does.work) known does.is_asked) in
+          let one : asked.0 ≡ Go subject = prepared_once words files asked.0 (Go subject) asked.1 prepared in
           does.status_is ∙ ap status_of (compiles does.work.plan does.outcome (work_to_compile asked.0 does.work one asked.2) does.yields)
 
       takes : (status ≡ 6) ⊎ DoesWork words b a status → (status ≡ 0) ⊎ (status ≡ 6)
@@ -334,7 +340,7 @@ module _ (words : List Text) (b a : World) (status : ℕ) where
 
     pub takes_sound_files : TakesSoundFiles words b a status
     takes_sound_files order name asked job = (
-      (λ is. let d = done order asked is in (d.p.grammar, d.p.tabled.automaton, d.p.tabled.halting, gives order d (ap sample_of job), taken order name d (plan_of order (CompileErrors name) job d))),
+      (λ is. let d = done order asked (λ e. (let never = sym job ∙ e in cc)) is in (d.p.grammar, d.p.tabled.automaton, d.p.tabled.halting, gives order d (ap sample_of job), taken order name d (plan_of order (CompileErrors name) job d))),
       (λ calm files known g automaton t file is sound. takes order name job files known g automaton t file is sound (does_work_without_fault words b a status ran calm)),
     )
 
@@ -367,6 +373,6 @@ module _ (words : List Text) (b a : World) (status : ℕ) where
 
     pub gives_messages : GivesMessages words b a status
     gives_messages order name input asked job named bare known is =
-        let d = done order asked is in
+        let d = done order asked (λ e. (let never = sym job ∙ e in cc)) is in
         let r = answered order name input named bare known d (plan_of order Interpret job d) in
         (d.p.grammar, d.p.tabled.automaton, d.p.tabled.halting, r.0, gives order d (ap sample_of job), r.1, r.2)

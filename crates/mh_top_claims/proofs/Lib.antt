@@ -12,7 +12,9 @@ pub mod HasFileNames
 pub mod IsGrammarReady
 pub mod OrderAndGrammarUnique
 pub mod TableUnique
+pub mod ExaminedUnique
 pub mod PreparedSource
+pub mod PreparedWork
 pub mod PreparedUnique
 pub mod WorkUnique
 pub mod CausesOfOutcomes
@@ -30,7 +32,9 @@ pub mod Ran
 pub mod AcceptsRandom
 pub mod RebasedFiles
 pub mod CheckedErrors
+pub mod CheckedGrammars
 pub mod HasRoundTrips
 pub mod PreparationStages
 pub mod GivesTable
 pub mod Headline
+pub mod Promises

@@ -1,12 +1,12 @@
 -- The result of the stages up to the grammar is unique over known files.
-use Rattle.std.proofs.Common.{◌≡◌, ℕ, Bool, List, [], ◌∷◌, Option, None, Some, sym, ◌∙◌, ap}
+use Rattle.std.proofs.Common.{ℕ, Bool, List, [], ◌∷◌, Option, None, Some, sym, ◌∙◌, ap}
 use Rattle.mh_outside.specs.Shelf.{Files}
 use Rattle.mh_front.proofs.GrammarUnique.{one_grammar, one_fault, not_grammar_and_fault}
 use Rattle.mh_rules.specs.declared.modules.Module.{Module}
 use Rattle.mh_sample.specs.Texts.{grammar_text}
 use Rattle.mh_reader_parser.proofs.SyntaxLine.{syntax_line_unique, spelled_module_unique}
 use Rattle.mh_grammar.specs.Text.{Text}
-use Rattle.mh_top_drive.specs.StageResults.{Go, Halt, Then, Gives}
+use Rattle.mh_top_drive.specs.StageResults.{StageResult, Go, Halt, Then, Gives}
 use Rattle.mh_top_drive.specs.declared.stop.Cause.TheVariants.{Refused}
 use Rattle.mh_top_drive.proofs.Then.{IsOne, on_once, then_once}
 use Rattle.mh_top_drive.specs.FileContents.{AreFileContents, IsFileContent, IsLoaded}
@@ -27,18 +27,19 @@ module_once name bytes (Halt cause) (Go m) p q = absurd (p.spelled m q)
 module_once name bytes (Halt cause) (Halt cause') p q =
     ap Halt (p.cause_is ∙ ap (λ (l : ℕ). Refused (syntax_error name l)) (syntax_line_unique bytes p.line q.line p.stops q.stops) ∙ sym q.cause_is)
 
--- A known file has one module, or stops the work with one cause.
-file_once : (files : Files) (name : Text) → IsOne (IsFileContent (Some files) IsModule name)
-file_once files name = then_once (IsLoaded (Some files) name) (IsModule name) (loaded_once files name) (module_once name)
+-- If the content of each file is unique, so are the contents of known files.
+module _ {A : Type 0} (Spelled : Text → Text → StageResult A → Type 0) (once : (name bytes : Text) → IsOne (Spelled name bytes)) (files : Files) where
+  content_once : (name : Text) → IsOne (IsFileContent (Some files) Spelled name)
+  content_once name = then_once (IsLoaded (Some files) name) (Spelled name) (loaded_once files name) (once name)
 
-files_once : (files : Files) (names : List Text) → IsOne (AreFileContents (Some files) IsModule names)
-files_once files [] = gives_once []
-files_once files (name ∷ names) =
-    then_once (IsFileContent (Some files) IsModule name) (λ x. Then (AreFileContents (Some files) IsModule names) (λ xs. Gives (x ∷ xs))) (file_once files name)
-    (λ x. then_once (AreFileContents (Some files) IsModule names) (λ xs. Gives (x ∷ xs)) (files_once files names) (λ xs. gives_once (x ∷ xs)))
+  pub contents_once : (names : List Text) → IsOne (AreFileContents (Some files) Spelled names)
+  contents_once [] = gives_once []
+  contents_once (name ∷ names) =
+      then_once (IsFileContent (Some files) Spelled name) (λ x. Then (AreFileContents (Some files) Spelled names) (λ xs. Gives (x ∷ xs))) (content_once name)
+      (λ x. then_once (AreFileContents (Some files) Spelled names) (λ xs. Gives (x ∷ xs)) (contents_once names) (λ xs. gives_once (x ∷ xs)))
 
 modules_once : (files : Files) (sample : Option ℕ) (names : List Text) → IsOne (AreModulesBy sample (Some files) names)
-modules_once files None names = files_once files names
+modules_once files None names = contents_once IsModule module_once files names
 modules_once files (Some number) names = then_once (IsModule sample_file (grammar_text number)) (λ m. Gives (m ∷ [])) (module_once sample_file (grammar_text number)) (λ m. gives_once (m ∷ []))
 
 -- ---- The modules determine the grammar, or the cause of the refusal.

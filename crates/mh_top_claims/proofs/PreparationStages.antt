@@ -1,5 +1,5 @@
 -- The stages of the work that lead to a prepared table, each with its success.
-use Rattle.std.proofs.Common.{◌≡◌, ℕ, List, [], ◌∷◌, Option, None, Some, Result, Ok, Err, refl, sym, ap, subst}
+use Rattle.std.proofs.Common.{◌≡◌, ℕ, List, [], ◌∷◌, Option, None, Result, Ok, Err, refl, sym, ap, subst}
 use Rattle.std.specs.List.{AllZip}
 use Rattle.mh_grammar.specs.Text.{Text}
 use Rattle.mh_grammar.specs.declared.types.Grammar.{Grammar}

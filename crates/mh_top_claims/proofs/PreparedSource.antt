@@ -21,6 +21,7 @@ use Rattle.mh_top_tables.proofs.HasNumberedStates.{source_built, source_numbered
 module _ (words : List Text) (files : Option Files) where
   -- The source of the automaton, and the invariants of the grammar.
   pub record IsMade (p : Prepared) : Type 0 where
+    pub order : staged_order words ≡ Go p.order
     pub source : AutomatonSource
     pub numbered : HasNumberedStates source
     pub built : ((order : Order) → staged_order words ≡ Go order → order.tables ≡ None) → IsBuilt source
@@ -37,6 +38,7 @@ module _ (words : List Text) (files : Option Files) where
       of_table front here source from (Go x) stage same =
           let one : p ≡ record { order = front.order; grammar = front.grammar; tabled = x } = cc in
           subst IsMade (sym one) (record {
+            order = front_order words files front here;
             source = source;
             numbered = source_numbered files front.order.tables front.order.canonical source from;
             built = λ none. source_built files front.order.tables front.order.canonical source (none front.order (front_order words files front here)) from;

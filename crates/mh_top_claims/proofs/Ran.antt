@@ -1,14 +1,14 @@
 -- A run of the program, from the work before its last line and the writing of this line.
-use Rattle.std.proofs.Common.{◌≡◌, inl, inr, ℕ, List, [], ◌++◌, Option, refl, sym, ◌∙◌, ap, subst, append_assoc}
+use Rattle.std.proofs.Common.{◌≡◌, inl, inr, ℕ, List, [], ◌++◌, Option, sym, ◌∙◌, ap, subst}
 use Rattle.std.proofs.lemmas.List.{append-nil}
-use Rattle.std.specs.Prelude.{Ok, Err, Result}
+use Rattle.std.specs.Prelude.{Ok, Err}
 use Rattle.std.specs.Io.KnownBytes.{Appends}
 use Rattle.mh_outside.specs.Faults.{HasRisen}
 use Rattle.mh_outside.specs.Sink.{AppendsPrefix}
 use Rattle.mh_outside.proofs.Consumes.{Appends-append}
 use Rattle.mh_grammar.specs.Text.{Text}
 use Rattle.mh_top_drive.specs.Text.{cannot_read, cannot_read_input, out_of_memory}
-use Rattle.mh_top_drive.specs.Statuses.{status_of_cause, line_of_cause, last_line_of, status_of}
+use Rattle.mh_top_drive.specs.Statuses.{line_of_cause, last_line_of, status_of}
 use Rattle.mh_top_claims.specs.Work.{Work}
 use Rattle.mh_top_warnings.specs.Warnings.{warnings_of}
 use Rattle.mh_top_claims.specs.Run.{World, Ran, Finished, CannotReadFile, CannotReadInput, CannotWarn, CannotWrite, CannotSay, NoMemory, AfterWarnings, AppendsThenPrefix, DoneSoFar, Nothing, Warned, Begun, OfCause, OfFile, OfInput, OfMemory, KeepsFaultCounts}
@@ -30,7 +30,7 @@ module _ (words : List Text) (b m : World) (err : Option Text) (n result : ℕ) 
 
   done_on : (P Q : Text → Type 0) → ((front : Text) → P front → Q front) → DoneSoFar words b m P → DoneSoFar words b a Q
   done_on P Q on (Nothing still at) = Nothing (record { out = still.out; left = still.left; input_faults = still.input_faults; out_faults = still.out_faults }) (on [] at)
-  done_on P Q on (Warned p is still at) = Warned p is (record { out = still.out; left = still.left; input_faults = still.input_faults; out_faults = still.out_faults }) (on _ at)
+  done_on P Q on (Warned needs p is still at) = Warned needs p is (record { out = still.out; left = still.left; input_faults = still.input_faults; out_faults = still.out_faults }) (on _ at)
   done_on P Q on (Begun h) = Begun (AfterWarnings-weaker words b _ P Q on h)
 
   lined : (line : Text) → Appends m.err err line → (front : Text) → Appends b.err m.err front → Appends b.err err (front ++ line)
@@ -85,6 +85,7 @@ module _ (words : List Text) (b m : World) (err : Option Text) (n result : ℕ) 
       CannotSay four worked.1.out (rose_later b.err_faults m.err_faults n worked.1.err rose) (OfInput (AfterWarnings-weaker words b _ _ _ (cut cannot_read_input (subst (λ (t : Text). AppendsPrefix m.err err t) last.1 app)) worked.2))
   ran WriteFailed worked (Said line last app calm) = absurd last
   ran WriteFailed (inl h) (Silent is four same calm) = CannotWarn four (subst (λ (k : ℕ). HasRisen b.err_faults k) (sym calm) h.0) (record {
+    needs = h.1.needs;
     prepared = h.1.prepared;
     is_asked = h.1.is_asked;
     unchanged = record { out = h.1.unchanged.out; left = h.1.unchanged.left; input_faults = h.1.unchanged.input_faults; out_faults = h.1.unchanged.out_faults };

@@ -1,5 +1,5 @@
 -- Proves the claim on rebased messages files from the definition of a run.
-use Rattle.std.proofs.Common.{◌≡◌, ◌⊎◌, inl, inr, ℕ, Bool, true, false, ◌&&◌, List, [], ◌++◌, Option, None, Some, refl, sym, ◌∙◌, ap, subst}
+use Rattle.std.proofs.Common.{◌≡◌, ◌⊎◌, inl, inr, ℕ, Bool, true, false, ◌&&◌, List, [], ◌++◌, Option, Some, refl, sym, ◌∙◌, ap, subst}
 use Rattle.std.proofs.lemmas.List.{append-nil}
 use Rattle.std.specs.Io.KnownBytes.{Appends}
 use Rattle.mh_grammar.specs.Text.{Text}
@@ -30,6 +30,7 @@ use Rattle.mh_top_claims.proofs.FinalOutputOutcome.{yields_end}
 use Rattle.mh_top_claims.proofs.HasFileNames.{without_line_ends}
 use Rattle.mh_top_claims.proofs.PreparedSource.{made}
 use Rattle.mh_top_claims.proofs.PreparedUnique.{prepared_once}
+use Rattle.mh_top_claims.proofs.PreparedWork.{prepared_work}
 use Rattle.mh_top_claims.proofs.VerdictClaims.{prepared_runs}
 
 module _ (words : List Text) (files : Files) (p : Prepared) (file : LooseFile) (asks : AsksForRebasedFile words files p file) where
@@ -55,7 +56,9 @@ module _ (words : List Text) (files : Files) (p : Prepared) (file : LooseFile) (
   work_at (Halt cause) w same is = absurd (cc)
 
   work_is : (w : Work) → IsWork words (Some files) w → (w.warnings ≡ warnings_of p) × (w.plan ≡ plan)
-  work_is w is = work_at is.0 w (prepared_once words files is.0 (Go p) is.1 asks.prepared) is.2
+  work_is w asked =
+      let is = prepared_work words (Some files) p asks.prepared (λ e. (let never = sym asks.job ∙ e in cc)) w asked in
+      work_at is.0 w (prepared_once words files is.0 (Go p) is.1 asks.prepared) is.2
 
   module _ (b a : World) (status : ℕ) (free : HasNoCr file) where
     outcome : (cause : Option Cause) (out : Text) → RebasesFile p.order.comment_expected p.grammar p.tabled.automaton p.tabled.halting file cause out → status ≡ status_of cause → Appends b.out a.out out → Appends b.err a.err (warnings_of p ++ last_line_of cause) → RebasedOutcome p file b a status

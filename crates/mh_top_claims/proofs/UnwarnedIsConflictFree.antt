@@ -2,7 +2,7 @@
 use Rattle.std.proofs.Common.{◌≡◌, ℕ, zero, suc, ◌<◌, List, [], ◌∷◌, Option, Some, None, refl, ap, sym, ◌∙◌, subst, arith, inl, inr}
 use Rattle.std.specs.List.{slice_get}
 use Rattle.std.specs.Option.{option_and_then}
-use Rattle.std.proofs.lemmas.Bool.{cases_eq, cases_lt}
+use Rattle.std.proofs.lemmas.Bool.{cases_lt}
 use Rattle.std.proofs.lemmas.Option.{slice_get_within, get_or_from_slice_get}
 use Rattle.mh_grammar.specs.declared.types.Grammar.{Grammar}
 use Rattle.mh_grammar.specs.declared.types.Level.{Level}
@@ -11,7 +11,6 @@ use Rattle.mh_grammar.specs.declared.types.Look.{Look}
 use Rattle.mh_grammar.specs.declared.types.Look.TheVariants.{Token, End}
 use Rattle.mh_grammar.specs.ItemSets.{ItemSet}
 use Rattle.mh_items_kernels.specs.KernelTypes.{Automaton}
-use Rattle.mh_resolve_cells.specs.Names.{look_name}
 use Rattle.mh_report_notation.specs.Warnings.{warning_title, warning_line}
 use Rattle.mh_report.specs.Warnings.{warning_lines}
 use Rattle.mh_tables_core.specs.declared.parts.Action.{Action}

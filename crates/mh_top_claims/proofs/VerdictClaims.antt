@@ -1,5 +1,5 @@
 -- Proves the claims on the answers to sentence lines from the laws on runs and automata.
-use Rattle.std.proofs.Common.{◌≡◌, ◌⊎◌, ◌↔◌, ℕ, ◌+◌, ◌<◌, ◌≤◌, List, [], ◌∷◌, ◌++◌, length, take, get_or, Bool, true, false, ◌&&◌, Option, sym, ◌∙◌, ap, subst, arith, inl, inr, refl, append_assoc}
+use Rattle.std.proofs.Common.{◌≡◌, ◌⊎◌, ◌↔◌, ℕ, ◌+◌, ◌<◌, ◌≤◌, List, [], ◌++◌, length, take, get_or, Bool, true, false, ◌&&◌, Option, sym, ◌∙◌, ap, subst, arith, inl, inr, append_assoc}
 use Rattle.std.specs.Prelude.{codes}
 use Rattle.std.proofs.lemmas.Bool.{cases_lt}
 use Rattle.std.proofs.lemmas.Option.{slice_get_within, slice_get-get_or}
@@ -34,9 +34,8 @@ use Rattle.mh_grammar.specs.Trees.{SyntaxTree, IsTreeFor, tree_text}
 use Rattle.mh_run_exact.proofs.AcceptedSentence.{accepted_sentence}
 use Rattle.mh_run_exact.proofs.ExactnessLaws.{overshoots, tells_prefix, tells_refused}
 use Rattle.mh_outside.specs.Shelf.{Files}
-use Rattle.std.proofs.lemmas.List.Elements.{All-cons, All-head, All-nil}
 use Rattle.mh_grammar.specs.Text.{Text}
-use Rattle.mh_top_drive.specs.StageResults.{StageResult, Go, Halt, AfterStage, Then, Gives}
+use Rattle.mh_top_drive.specs.StageResults.{StageResult, Go, Halt, AfterStage}
 use Rattle.mh_top_tables.specs.TableStage.{IsAutomatonStage, mode_of}
 use Rattle.mh_top_tables.specs.ResolvedStage.{IsResolvedStage}
 use Rattle.mh_top_tables.specs.code.SourceFacts.{IsBuilt, HasNumberedStates}
@@ -48,7 +47,8 @@ use Rattle.mh_msgfile.proofs.SentenceBounds.{sentence_start}
 use Rattle.mh_top_plans.specs.Verdicts.{VerdictContext, IsAnswerToFound, IsSentenceAnswer, IsAnswerWithTrees, IsRefusalWithTokens, IsEndingText, IsTreeText, text_after_refusal, expected_line}
 use Rattle.mh_top_plans.specs.MessagesFiles.{Messages}
 use Rattle.mh_top_plans.specs.Plan.{Judges, halts}
-use Rattle.mh_top_claims.specs.Work.{Work, IsPlanUnlessRefused, IsWork, IsWorkOf}
+use Rattle.mh_top_check.specs.Examination.{Examined, plan_of_check}
+use Rattle.mh_top_claims.specs.Work.{Examining, WithTable, Work, IsPlanUnlessRefused, IsWork, IsWorkOf}
 use Rattle.mh_top_warnings.specs.Warnings.{has_warning, warnings_of}
 use Rattle.mh_top_claims.specs.Preparing.{IsPrepared}
 use Rattle.mh_top_claims.specs.VerdictClaims.{IsConflictFree, IsConflictFreeTable, IsLR1Grammar, NamesNoTableFile, AnswersSentence, IsAcceptText, IsRejectText, IsTooDeepText, ShowsTree, AcceptIsExact, RejectIsSound, OvershootIsSound, AcceptIsSound, TooDeepIsExact, HasNoLevels, UnwarnedIsConflictFree}
@@ -59,7 +59,9 @@ use Rattle.mh_top_tables.specs.declared.sources.AutomatonSource.{AutomatonSource
 use Rattle.mh_top_tables.specs.declared.sources.AutomatonSource.TheVariants.{Canonical, File, Merged}
 use Rattle.mh_tables_core.specs.Halting.{AlwaysHalts}
 use Rattle.mh_top_plans.proofs.FilesOfMode.{PreparedFacts}
+use Rattle.mh_opts.specs.declared.jobs.Job.TheVariants.{Check}
 use Rattle.mh_top_claims.proofs.EachMode.{mode_facts as job_facts}
+use Rattle.mh_top_claims.proofs.PreparedWork.{job_needs}
 
 -- ---- The grammar and the table for verdicts.
 
@@ -94,18 +96,23 @@ module _ (warnings : Text) (trees expected : Bool) (g : Grammar) (t : TableData)
   abbrev work : Work
   work = record { warnings = warnings; plan = Judges (by trees expected g t messages) }
 
-  of_plan : (words : List Text) (refused : Bool) (files : Option Files) (p : Prepared) → IsTabled words p.grammar p.tabled.halting → IsPlanUnlessRefused refused files p (Judges (by trees expected g t messages)) → IsTabled words g t
-  of_plan words true files p has is = absurd (cc)
-  of_plan words false files p has is = (job_facts p.order.job p).judged (IsTabled words) files (by trees expected g t messages) has is
+  of_plan : (words : List Text) (refused : Bool) (files : Option Files) (p : Prepared) → (p.order.job ≡ Check → ⊥) → IsTabled words p.grammar p.tabled.halting → IsPlanUnlessRefused refused files p (Judges (by trees expected g t messages)) → IsTabled words g t
+  of_plan words true files p other has is = absurd (cc)
+  of_plan words false files p other has is = (job_facts p.order.job other p).judged (IsTabled words) files (by trees expected g t messages) has is
 
   pub asked_tabled : (words : List Text) (files : Option Files) → IsWork words files work → IsTabled words g t
-  asked_tabled words files asked = at asked.0 asked.1 asked.2
+  asked_tabled words files (Examining order on job is) = absurd (no_check is.plan.0 is.plan.2)
+    where
+      no_check : (s : StageResult Examined) → Judges (by trees expected g t messages) ≡ plan_of_check order s → ⊥
+      no_check (Go x) e = cc
+      no_check (Halt cause) e = cc
+  asked_tabled words files (WithTable needs asked) = at asked.0 asked.1 asked.2
     where
       no_halt : (cause : Cause) → work ≡ record { warnings = []; plan = halts cause } → ⊥
       no_halt cause e = let same : Judges (by trees expected g t messages) ≡ halts cause = ap (λ (w : Work). w.plan) e in absurd (cc)
 
       at : (s : StageResult Prepared) → IsPrepared words files s → IsWorkOf files s work → IsTabled words g t
-      at (Go p) prepared is = of_plan words (p.order.strict && has_warning p.tabled.conflicts) files p (prepared_tabled words files p prepared) is.1
+      at (Go p) prepared is = of_plan words (p.order.strict && has_warning p.tabled.conflicts) files p (job_needs words files p prepared needs) (prepared_tabled words files p prepared) is.1
       at (Halt cause) prepared is = absurd (no_halt cause is)
 
 -- ---- The automaton of the table is an automaton of the grammar.
@@ -363,18 +370,23 @@ module _ (warnings : Text) (trees expected : Bool) (g : Grammar) (t : TableData)
   abbrev IsClearUnleveled : Grammar → TableData → Type 0
   IsClearUnleveled h u = HasNoLevels h → IsConflictFreeTable h u
 
-  unwarned_plan : (refused : Bool) (files : Option Files) (p : Prepared) → IsClearUnleveled p.grammar p.tabled.halting → IsPlanUnlessRefused refused files p (Judges (by trees expected g t messages)) → IsClearUnleveled g t
-  unwarned_plan true files p has is = absurd (cc)
-  unwarned_plan false files p has is = (job_facts p.order.job p).judged IsClearUnleveled files (by trees expected g t messages) has is
+  unwarned_plan : (refused : Bool) (files : Option Files) (p : Prepared) → (p.order.job ≡ Check → ⊥) → IsClearUnleveled p.grammar p.tabled.halting → IsPlanUnlessRefused refused files p (Judges (by trees expected g t messages)) → IsClearUnleveled g t
+  unwarned_plan true files p other has is = absurd (cc)
+  unwarned_plan false files p other has is = (job_facts p.order.job other p).judged IsClearUnleveled files (by trees expected g t messages) has is
 
   unwarned_work : (words : List Text) (files : Option Files) → IsWork words files (work warnings trees expected g t messages) → IsClearUnleveled g t
-  unwarned_work words files asked = at asked.0 asked.1 asked.2
+  unwarned_work words files (Examining order on job is) = absurd (no_check is.plan.0 is.plan.2)
+    where
+      no_check : (s : StageResult Examined) → Judges (by trees expected g t messages) ≡ plan_of_check order s → ⊥
+      no_check (Go x) e = cc
+      no_check (Halt cause) e = cc
+  unwarned_work words files (WithTable needs asked) = at asked.0 asked.1 asked.2
     where
       no_halt : (cause : Cause) → work warnings trees expected g t messages ≡ record { warnings = []; plan = halts cause } → ⊥
       no_halt cause e = let same : Judges (by trees expected g t messages) ≡ halts cause = ap (λ (w : Work). w.plan) e in absurd (cc)
 
       at : (s : StageResult Prepared) → IsPrepared words files s → IsWorkOf files s (work warnings trees expected g t messages) → IsClearUnleveled g t
-      at (Go p) prepared is = unwarned_plan (p.order.strict && has_warning p.tabled.conflicts) files p (λ none. prepared_has_no_conflict words files p prepared none (sym is.0 ∙ silent)) is.1
+      at (Go p) prepared is = unwarned_plan (p.order.strict && has_warning p.tabled.conflicts) files p (job_needs words files p prepared needs) (λ none. prepared_has_no_conflict words files p prepared none (sym is.0 ∙ silent)) is.1
       at (Halt cause) prepared is = absurd (no_halt cause is)
 
 pub conflict_free_if_unwarned : (words : List Text) (files : Option Files) → UnwarnedIsConflictFree words files

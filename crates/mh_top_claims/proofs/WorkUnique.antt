@@ -1,11 +1,14 @@
 -- The work that the words ask for is unique over known files, and its outcome is unique on a known input.
-use Rattle.std.proofs.Common.{◌≡◌, ◌≤◌, ℕ, Bool, true, false, ◌&&◌, List, [], ◌∷◌, ◌++◌, Option, Some, sym, ◌∙◌, ap, ap₂, subst, arith}
+use Rattle.std.proofs.Common.{◌≡◌, Bool, true, false, ◌&&◌, List, [], ◌∷◌, ◌++◌, Option, Some, sym, ◌∙◌, ap, ap₂, subst}
 use Rattle.mh_outside.specs.Shelf.{Files}
 use Rattle.mh_grammar.specs.Text.{Text}
 use Rattle.mh_top_drive.specs.StageResults.{StageResult, Go, Halt}
+use Rattle.mh_opts.specs.declared.jobs.Job.TheVariants.{Check}
+use Rattle.mh_opts.specs.declared.order.Order.{Order}
+use Rattle.mh_top_check.specs.Examination.{plan_of_check}
 use Rattle.mh_top_plans.specs.Plan.{Plan, asks_of, plan_behavior}
 use Rattle.mh_top_drive.specs.ModeBehavior.{AnswersAll, AreAskedLines, EndsAfterAnswers, Outcome, HasOutcome, input_left}
-use Rattle.mh_top_claims.specs.Work.{Work, IsPlanUnlessRefused, IsWork, IsWorkOf}
+use Rattle.mh_top_claims.specs.Work.{Examining, IsCheckWork, NeedsTable, WithTable, Work, IsPlanUnlessRefused, IsWork, IsWorkOf}
 use Rattle.mh_top_warnings.specs.Warnings.{has_warning}
 use Rattle.mh_top_claims.specs.Preparing.{IsPrepared}
 use Rattle.mh_top_drive.specs.declared.driving.Asks.{Asks}
@@ -14,25 +17,39 @@ use Rattle.mh_top_types.specs.Shapes.{Prepared}
 use Rattle.mh_top_drive.specs.declared.stop.Cause.{Cause}
 use Rattle.mh_top_drive.proofs.Then.{IsOne}
 use Rattle.mh_top_claims.proofs.PreparedUnique.{prepared_once}
+use Rattle.mh_top_claims.proofs.PreparedWork.{job_needs}
+use Rattle.mh_top_claims.proofs.ExaminedUnique.{examined_once}
 use Rattle.mh_top_claims.proofs.EachMode.{answer_once, cause_once, out_once, mode_facts}
 
 -- ---- The words and the files determine the work.
 
-plan_once : (refused : Bool) (files : Files) (p : Prepared) → IsOne (IsPlanUnlessRefused refused (Some files) p)
-plan_once true files p x y is so = is ∙ sym so
-plan_once false files p x y is so = (mode_facts p.order.job p).unique files x y is so
+plan_once : (refused : Bool) (files : Files) (p : Prepared) → (p.order.job ≡ Check → ⊥) → IsOne (IsPlanUnlessRefused refused (Some files) p)
+plan_once true files p other x y is so = is ∙ sym so
+plan_once false files p other x y is so = (mode_facts p.order.job other p).unique files x y is so
 
-work_of_once : (files : Files) (s : StageResult Prepared) → IsOne (IsWorkOf (Some files) s)
-work_of_once files (Go p) w v is so =
+work_of_once : (words : List Text) (files : Files) → NeedsTable words → (s : StageResult Prepared) → IsPrepared words (Some files) s → IsOne (IsWorkOf (Some files) s)
+work_of_once words files needs (Go p) prepared w v is so =
     let warnings : w.warnings ≡ v.warnings = is.0 ∙ sym so.0 in
-    let plan : w.plan ≡ v.plan = plan_once (p.order.strict && has_warning p.tabled.conflicts) files p w.plan v.plan is.1 so.1 in
+    let plan : w.plan ≡ v.plan = plan_once (p.order.strict && has_warning p.tabled.conflicts) files p (job_needs words (Some files) p prepared needs) w.plan v.plan is.1 so.1 in
     λ i. record { warnings = warnings i; plan = plan i }
-work_of_once files (Halt cause) w v is so = is ∙ sym so
+work_of_once words files needs (Halt cause) prepared w v is so = is ∙ sym so
+
+check_work_once : (order : Order) (files : Files) (w v : Work) → IsCheckWork order (Some files) w → IsCheckWork order (Some files) v → w ≡ v
+check_work_once order files w v p q =
+    let warnings : w.warnings ≡ v.warnings = p.warnings ∙ sym q.warnings in
+    let plan : w.plan ≡ v.plan = p.plan.2 ∙ ap (plan_of_check order) (examined_once order files p.plan.0 q.plan.0 p.plan.1 q.plan.1) ∙ sym q.plan.2 in
+    λ i. record { warnings = warnings i; plan = plan i }
 
 -- The work that the words ask for over known files is unique.
 pub work_once : (words : List Text) (files : Files) (w v : Work) → IsWork words (Some files) w → IsWork words (Some files) v → w ≡ v
-work_once words files w v p q =
-    let same : q.0 ≡ p.0 = prepared_once words files q.0 p.0 q.1 p.1 in work_of_once files p.0 w v p.2 (subst (λ (s : StageResult Prepared). IsWorkOf (Some files) s v) same q.2)
+work_once words files w v (WithTable needs p) (WithTable other q) =
+    let same : q.0 ≡ p.0 = prepared_once words files q.0 p.0 q.1 p.1 in work_of_once words files needs p.0 p.1 w v p.2 (subst (λ (s : StageResult Prepared). IsWorkOf (Some files) s v) same q.2)
+work_once words files w v (WithTable needs p) (Examining order on job is) = absurd (needs order on job)
+work_once words files w v (Examining order on job is) (WithTable needs q) = absurd (needs order on job)
+work_once words files w v (Examining order on job is) (Examining other so too are) =
+    let same : Go order ≡ Go other = sym on ∙ so in
+    let one : order ≡ other = cc in
+    check_work_once order files w v is (subst (λ (x : Order). IsCheckWork x (Some files) v) (sym one) are)
 
 -- ---- The work and the input determine the outcome.
 

@@ -1,7 +1,7 @@
 -- The claim on examined messages files: out has a line for each thing that is wrong with the file, and nothing exactly
 -- if the file is sound and complete and all its messages are written (this project's own; sound and complete files:
 -- Pottier 2016).
-use Rattle.std.specs.Prelude.{◌≡◌, ◌⊎◌, ◌↔◌, ◌&&◌, ℕ, false, List, [], ◌++◌, Option, None, Some}
+use Rattle.std.specs.Prelude.{◌≡◌, ◌⊎◌, ◌↔◌, ◌&&◌, ℕ, false, List, [], ◌++◌, Some}
 use Rattle.std.specs.Io.KnownBytes.{Appends}
 use Rattle.mh_opts.specs.declared.jobs.Job.TheVariants.{CheckErrors}
 use Rattle.mh_outside.specs.Shelf.{Files, Bytes}

@@ -7,7 +7,7 @@ use Rattle.mh_outside.specs.Shelf.{Files, FileFound, NoFile, Long}
 use Rattle.mh_grammar.specs.Text.{Text}
 use Rattle.mh_top_drive.specs.Text.{cannot_read, cannot_read_input, out_of_memory}
 use Rattle.mh_top_drive.specs.InputLines.{lines_of_input, are_within_limits}
-use Rattle.mh_top_drive.specs.StageResults.{Go, Halt}
+use Rattle.mh_top_drive.specs.StageResults.{Halt}
 use Rattle.mh_top_load.specs.Order.{staged_order}
 use Rattle.mh_top_drive.specs.FileContents.{IsFound}
 use Rattle.mh_top_plans.specs.Plan.{Plan, asks_of, plan_behavior}
@@ -16,7 +16,6 @@ use Rattle.mh_top_drive.specs.Limits.{line_limit}
 use Rattle.mh_top_drive.specs.ModeBehavior.{max_lines, requested_lines}
 use Rattle.mh_top_drive.specs.ModeRuns.{IsEndPrefix, IsAnswerPrefix, HasAnswered}
 use Rattle.mh_top_claims.specs.Run.{World, AfterWarnings, NoWriteFailed, OutWriteFailed, AppendsThenPrefix, WarningWriteFailed, DoesWork, DoneSoFar, InputReadFailed, IsNextToRead, KeepsFaultCounts, LeavesInputAndOut, HasLastLine}
-use Rattle.mh_opts.specs.declared.order.Order.{Order}
 use Rattle.mh_top_drive.specs.declared.driving.Asks.{Asks}
 use Rattle.mh_top_drive.specs.declared.driving.Asks.TheVariants.{NoLine}
 use Rattle.mh_top_drive.specs.declared.stop.Cause.TheVariants.{Misused}

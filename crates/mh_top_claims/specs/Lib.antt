@@ -11,6 +11,8 @@ pub mod Headline
 pub mod ErrorLists
 pub mod RebasedFiles
 pub mod CheckedErrors
+pub mod CheckedGrammars
 pub mod RoundTrips
 pub mod VerdictClaims
+pub mod Promises
 pub mod code

@@ -1,6 +1,6 @@
 -- The claim on rebased messages files: the text on out is a messages file that is sound and complete for the new
 -- grammar, and has the old messages of the kept sentences (this project's own; sound and complete files: Pottier 2016).
-use Rattle.std.specs.Prelude.{◌≡◌, ◌⊎◌, ◌&&◌, ℕ, false, List, [], ◌++◌, Option, Some}
+use Rattle.std.specs.Prelude.{◌≡◌, ◌⊎◌, ◌&&◌, ℕ, false, List, [], ◌++◌, Some}
 use Rattle.std.specs.Io.KnownBytes.{Appends}
 use Rattle.mh_opts.specs.declared.jobs.Job.TheVariants.{RebaseErrors}
 use Rattle.mh_outside.specs.Shelf.{Files, Bytes}

@@ -9,13 +9,15 @@ use Rattle.mh_grammar.specs.Text.{Text}
 use Rattle.mh_top_drive.specs.Text.{cannot_read, cannot_read_input, out_of_memory}
 use Rattle.mh_top_drive.specs.StageResults.{Go}
 use Rattle.mh_top_drive.specs.Statuses.{status_of, line_of_cause, last_line_of}
+use Rattle.mh_opts.specs.declared.jobs.Job.TheVariants.{Check}
+use Rattle.mh_top_check.specs.Examination.{IsNextOfCheck}
 use Rattle.mh_top_load.specs.Order.{staged_order}
 use Rattle.mh_top_load.specs.GrammarFile.{IsModule}
 use Rattle.mh_top_load.specs.Modules.{grammar_files}
 use Rattle.mh_top_drive.specs.NextFile.{IsNextFile}
 use Rattle.mh_top_claims.specs.NextTableFile.{IsTableFileNext}
 use Rattle.mh_top_drive.specs.ModeBehavior.{Outcome, HasOutcome}
-use Rattle.mh_top_claims.specs.Work.{Work, IsWork}
+use Rattle.mh_top_claims.specs.Work.{IsWork, NeedsTable, Work}
 use Rattle.mh_top_warnings.specs.Warnings.{has_warning, warnings_of}
 use Rattle.mh_top_claims.specs.Preparing.{IsPrepared}
 use Rattle.mh_top_plans.specs.Files.{IsNextFileOfJob}
@@ -61,12 +63,13 @@ IsNextUnlessRefused false files p name = IsNextFileOfJob p.order.job files p nam
 abbrev pub IsNextAfterWarnings : Option Files → Prepared → Text → Type 0
 IsNextAfterWarnings files p name = IsNextUnlessRefused (p.order.strict && has_warning p.tabled.conflicts) files p name
 
--- This file is the next to be read, and `err_text` is the text on err before: of the grammar files of the order; or its
--- table file; or, after the warnings, of the files that the mode reads.
+-- This file is the next to be read, and `err_text` is the text on err before: of the grammar files of the order, which
+-- are read as modules or to be examined; or its table file; or, after the warnings, of the files that the mode reads.
 pub data IsNextToRead (words : List Text) (files : Option Files) (err_text name : Text) : Type 0 where
-  OfGrammar : (order : Order) → staged_order words ≡ Go order → IsNextFile files IsModule (grammar_files order) name → err_text ≡ [] → IsNextToRead words files err_text name
-  OfTables : IsTableFileNext words files name → err_text ≡ [] → IsNextToRead words files err_text name
-  OfMode : (p : Prepared) → IsPrepared words files (Go p) → IsNextAfterWarnings files p name → err_text ≡ warnings_of p → IsNextToRead words files err_text name
+  OfGrammar : NeedsTable words → (order : Order) → staged_order words ≡ Go order → IsNextFile files IsModule (grammar_files order) name → err_text ≡ [] → IsNextToRead words files err_text name
+  OfTables : NeedsTable words → IsTableFileNext words files name → err_text ≡ [] → IsNextToRead words files err_text name
+  OfMode : NeedsTable words → (p : Prepared) → IsPrepared words files (Go p) → IsNextAfterWarnings files p name → err_text ≡ warnings_of p → IsNextToRead words files err_text name
+  OfCheck : (order : Order) → staged_order words ≡ Go order → order.job ≡ Check → IsNextOfCheck order files name → err_text ≡ [] → IsNextToRead words files err_text name
 
 -- The input and out are unchanged.
 pub record LeavesInputAndOut (before now : World) : Type 0 where
@@ -86,7 +89,7 @@ pub record AfterWarnings (words : List Text) (before : World) (At : Work → Typ
 -- `OnErr` is true of the text on err before.
 pub data DoneSoFar (words : List Text) (before now : World) (OnErr : Text → Type 0) : Type 0 where
   Nothing : LeavesInputAndOut before now → OnErr [] → DoneSoFar words before now OnErr
-  Warned : (p : Prepared) → IsPrepared words before.files (Go p) → LeavesInputAndOut before now → OnErr (warnings_of p) → DoneSoFar words before now OnErr
+  Warned : NeedsTable words → (p : Prepared) → IsPrepared words before.files (Go p) → LeavesInputAndOut before now → OnErr (warnings_of p) → DoneSoFar words before now OnErr
   Begun : AfterWarnings words before (λ w. IsPartialRun plan_behavior w.plan before.left before.out now.out (LacksMemoryAt plan_behavior w.plan before.left now.left)) OnErr → DoneSoFar words before now OnErr
 
 -- ---- The work before its last line on err.
@@ -129,6 +132,7 @@ OutWriteFailed before now w = IsPartialRun plan_behavior w.plan before.left befo
 
 -- A write of the warnings failed. Nothing was read from the input or written on out.
 pub record WarningWriteFailed (words : List Text) (before now : World) : Type 0 where
+  pub needs : NeedsTable words
   pub prepared : Prepared
   pub is_asked : IsPrepared words before.files (Go prepared)
   pub unchanged : LeavesInputAndOut before now

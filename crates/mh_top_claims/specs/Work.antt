@@ -1,9 +1,14 @@
--- The work that the words of the command line ask for over files: the warnings and then the mode.
+-- The work that the words of the command line ask for over files: the warnings and then the mode; or the examination of
+-- the grammar files.
 use Rattle.std.specs.Prelude.{◌≡◌, Bool, true, false, ◌&&◌, List, [], Option}
 use Rattle.mh_outside.specs.Shelf.{Files}
 use Rattle.mh_grammar.specs.Text.{Text}
 use Rattle.mh_top_drive.specs.StageResults.{StageResult, Go, Halt}
 use Rattle.mh_top_drive.specs.declared.stop.Cause.TheVariants.{Refused}
+use Rattle.mh_opts.specs.declared.jobs.Job.TheVariants.{Check}
+use Rattle.mh_opts.specs.declared.order.Order.{Order}
+use Rattle.mh_top_check.specs.Examination.{IsPlanOfCheck}
+use Rattle.mh_top_load.specs.Order.{staged_order}
 use Rattle.mh_top_claims.specs.Preparing.{IsPrepared}
 use Rattle.mh_top_types.specs.Shapes.{Prepared}
 use Rattle.mh_top_warnings.specs.Warnings.{has_warning, warnings_of}
@@ -30,6 +35,20 @@ abbrev pub IsWorkOf : Option Files → StageResult Prepared → Work → Type 0
 IsWorkOf files (Go p) w = (w.warnings ≡ warnings_of p) × IsPlanOf files p w.plan
 IsWorkOf files (Halt cause) w = w ≡ record { warnings = []; plan = halts cause }
 
+-- The work after all stages before the warnings, for each mode that needs a table.
+abbrev pub IsPreparedWork : List Text → Option Files → Work → Type 0
+IsPreparedWork words files w = (s : StageResult Prepared) × IsPrepared words files s × IsWorkOf files s w
+
+-- If the words spell an order, its mode needs a table: the mode is another than the examination of grammar files.
+abbrev pub NeedsTable : List Text → Type 0
+NeedsTable words = (order : Order) → staged_order words ≡ Go order → order.job ≡ Check → ⊥
+
+-- The plan that examines the grammar files of the order, and writes the lines. There are no warnings before.
+pub record IsCheckWork (order : Order) (files : Option Files) (w : Work) : Type 0 where
+  pub warnings : w.warnings ≡ []
+  pub plan : IsPlanOfCheck order files w.plan
+
 -- The work that the words ask for over these files. If the files are not known, they may be any.
-abbrev pub IsWork : List Text → Option Files → Work → Type 0
-IsWork words files w = (s : StageResult Prepared) × IsPrepared words files s × IsWorkOf files s w
+pub data IsWork (words : List Text) (files : Option Files) (w : Work) : Type 0 where
+  WithTable : NeedsTable words → IsPreparedWork words files w → IsWork words files w
+  Examining : (order : Order) → staged_order words ≡ Go order → order.job ≡ Check → IsCheckWork order files w → IsWork words files w

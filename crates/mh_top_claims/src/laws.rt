@@ -10,7 +10,11 @@ ghost use Rattle.mh_top_plans.specs.Plan.{Plan, Judges, plan_behavior};
 ghost use Rattle.mh_top_drive.specs.ModeBehavior.{AnswersAll, Outcome, HasOutcome};
 ghost use Rattle.mh_grammar.specs.Text.{Text};
 ghost use Rattle.mh_top_plans.specs.Verdicts.{VerdictContext};
-ghost use Rattle.mh_top_claims.specs.Work.{Work, IsWork};
+ghost use Rattle.mh_top_claims.specs.Work.{Work, IsWork, NeedsTable};
+ghost use Rattle.mh_opts.specs.declared.jobs.Job.TheVariants.{Check};
+ghost use Rattle.mh_opts.specs.declared.order.Order.{Order};
+ghost use Rattle.mh_top_check.specs.Examination.{AreExamined, Examined};
+ghost use Rattle.mh_top_load.specs.Order.{staged_order};
 ghost use Rattle.mh_top_claims.specs.Preparing.{IsPrepared};
 ghost use Rattle.mh_top_types.specs.Shapes.{Prepared};
 
@@ -31,9 +35,13 @@ pub fn runs_are_equal()
         IsWork words (Some files) w → HasOutcome plan_behavior w.plan (Some input) p → (v ≡ w) × (o ≡ p) }
 {}
 
-/// The words always ask for some work, for each result of the stages before the warnings.
+/// The words always ask for some work: in each mode that needs a table, for each result of the stages before the
+/// warnings; and for each result of the examination of grammar files.
 pub fn some_work_is_asked()
-    ensures { (words : List Text) (files : Option Files) (before : StageResult Prepared) → IsPrepared words files before →
+    ensures tables { (words : List Text) (files : Option Files) (before : StageResult Prepared) →
+        NeedsTable words → IsPrepared words files before → (w : Work) × IsWork words files w }
+    ensures check { (words : List Text) (files : Option Files) (order : Order) (result : StageResult Examined) →
+        staged_order words ≡ Go order → order.job ≡ Check → AreExamined files order result →
         (w : Work) × IsWork words files w }
 {}
 

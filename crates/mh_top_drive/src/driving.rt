@@ -38,8 +38,8 @@ impl Asks {
     }
 }
 
-/// A mode between two lines of the input. Contracts describe the mode by plans, which are plain data of the type
-/// `State`; one value may have several plans.
+/// A mode of the program at work, between two lines of the input. Contracts describe by a plan what the mode will still
+/// do; a plan is plain data of the type `State` (not a state of an automaton), and one value may have several plans.
 pub trait Mode {
     /// The type of the plans of a mode between two lines.
     ghost State: { Type 0 };

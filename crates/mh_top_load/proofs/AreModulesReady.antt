@@ -75,7 +75,7 @@ capitals_in : (ts : List TokenDecl) → AllByRecursion FitsToken ts → AllByRec
 capitals_in [] h = tt
 capitals_in (t ∷ ts) h = (h.0.capital, capitals_in ts h.1)
 
-spelled_capitals : (bytes : Text) (m : Module) → Spells bytes m → HasCapitalTokens m
+pub spelled_capitals : (bytes : Text) (m : Module) → Spells bytes m → HasCapitalTokens m
 spelled_capitals bytes m s =
     let fitting = FitsModule-spelled s.2 (lexemes_fit bytes s.0 (lexemes_spelled bytes s.0 _ s.1)) in
     All-from_recursion IsCapital m.tokens (capitals_in m.tokens fitting.tokens)
@@ -100,7 +100,7 @@ word_of kind t (texts.LexemeText.cost ds h) e = absurd (cc)
 text_is_word : (t : Text) → LexemeText kinds.Word t → is_word t ≡ true
 text_is_word t is = word_of kinds.Word t is refl
 
-spelled_words : (bytes : Text) (m : Module) → Spells bytes m → HasWordsAsNames m
+pub spelled_words : (bytes : Text) (m : Module) → Spells bytes m → HasWordsAsNames m
 spelled_words bytes m s =
     let fitting = FitsModule-spelled s.2 (lexemes_fit bytes s.0 (lexemes_spelled bytes s.0 _ s.1)) in
     record {

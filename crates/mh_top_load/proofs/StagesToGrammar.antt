@@ -18,22 +18,40 @@ use Rattle.mh_top_load.specs.GrammarFile.{IsModule}
 use Rattle.mh_top_load.specs.Modules.{AreModules, grammar_files}
 use Rattle.mh_top_load.specs.code.NextGrammarFile.{IsNextGrammarFile}
 use Rattle.mh_top_load.specs.GrammarStage.{IsGrammarStage}
-use Rattle.mh_top_load.specs.OrderAndGrammar.{IsOrderAndGrammar}
+use Rattle.mh_top_load.specs.OrderAndGrammar.{IsOrderAndGrammar, IsWithGrammar}
 use Rattle.mh_top_types.specs.declared.front.OrderAndGrammar.{OrderAndGrammar}
 
+-- The grammar of an order.
+module _ (files : Option Files) (order : Order) where
+  abbrev DueOf : Text → Type 0
+  DueOf = IsNextFile files IsModule (grammar_files order)
+
+  abbrev AfterModules : List Module → StageResult OrderAndGrammar → Type 0
+  AfterModules modules = Then (IsGrammarStage order.stdlib modules) (λ grammar. Gives (record { order = order; grammar = grammar }))
+
+  pub files_stop : (stop : Stop) → FileStageGives {A = List Module} (AreModules files order) DueOf (Err stop) → FileStageGives {A = OrderAndGrammar} (IsWithGrammar order files) DueOf (Err stop)
+  files_stop stop has = then_stops (AreModules files order) AfterModules DueOf stop has
+
+  pub grammar_stops : (modules : List Module) (stop : Stop) → AreModules files order (Go modules) → StageGives (IsGrammarStage order.stdlib modules) (Err stop) → FileStageGives {A = OrderAndGrammar} (IsWithGrammar order files) DueOf (Err stop)
+  grammar_stops modules stop are has =
+      then_on (AreModules files order) AfterModules DueOf modules (Err stop) are
+      (then_stops (IsGrammarStage order.stdlib modules) (λ grammar. Gives (record { order = order; grammar = grammar })) DueOf stop (no_names (IsGrammarStage order.stdlib modules) DueOf (Err stop) has))
+
+  pub front_made : (modules : List Module) (grammar : Grammar) → AreModules files order (Go modules) → IsGrammarStage order.stdlib modules (Go grammar) → IsWithGrammar order files (Go (record { order = order; grammar = grammar }))
+  front_made modules grammar are is = (Go modules, are, (Go grammar, is, refl))
+
+-- The grammar of the order that words spell.
 module _ (words : List Text) (files : Option Files) where
   abbrev Due : Text → Type 0
   Due = IsNextGrammarFile words files
 
-  abbrev AfterModules : Order → List Module → StageResult OrderAndGrammar → Type 0
-  AfterModules order modules = Then (IsGrammarStage order.stdlib modules) (λ grammar. Gives (record { order = order; grammar = grammar }))
-
   abbrev AfterOrder : Order → StageResult OrderAndGrammar → Type 0
-  AfterOrder order = Then (AreModules files order) (AfterModules order)
+  AfterOrder order = IsWithGrammar order files
 
   -- If the words spell the order, the result of the later stages is one of all stages.
-  behind : (order : Order) (r : Result OrderAndGrammar Stop) → staged_order words ≡ Go order → FileStageGives (AfterOrder order) Due r → FileStageGives (IsOrderAndGrammar words files) Due r
-  behind order r on has = subst (λ (o : StageResult Order). FileStageGives (λ s. AfterStage o AfterOrder s) Due r) (sym on) has
+  pub of_words : (order : Order) (r : Result OrderAndGrammar Stop) → staged_order words ≡ Go order → FileStageGives (AfterOrder order) (IsNextFile files IsModule (grammar_files order)) r → FileStageGives (IsOrderAndGrammar words files) Due r
+  of_words order r on has =
+      subst (λ (o : StageResult Order). FileStageGives (λ s. AfterStage o AfterOrder s) Due r) (sym on) (names_wider (AfterOrder order) (IsNextFile files IsModule (grammar_files order)) Due r (λ name turn. (order, on, turn)) has)
 
   halts_first : (cause : Cause) → staged_order words ≡ Halt cause → IsOrderAndGrammar words files (Halt cause)
   halts_first cause is = subst (λ (o : StageResult Order). AfterStage o AfterOrder (Halt cause)) (sym is) refl
@@ -44,17 +62,3 @@ module _ (words : List Text) (files : Option Files) where
   order_stops OutOfMemory has = tt
   order_stops InputFailed has = absurd has
   order_stops WriteFailed has = absurd has
-
-  pub files_stop : (order : Order) (stop : Stop) → staged_order words ≡ Go order → FileStageGives {A = List Module} (AreModules files order) (IsNextFile files IsModule (grammar_files order)) (Err stop) → FileStageGives {A = OrderAndGrammar} (IsOrderAndGrammar words files) Due (Err stop)
-  files_stop order stop on has =
-      behind order (Err stop) on
-      (then_stops (AreModules files order) (AfterModules order) Due stop (names_wider (AreModules files order) (IsNextFile files IsModule (grammar_files order)) Due (Err stop) (λ name turn. (order, on, turn)) has))
-
-  pub grammar_stops : (order : Order) (modules : List Module) (stop : Stop) → staged_order words ≡ Go order → AreModules files order (Go modules) → StageGives (IsGrammarStage order.stdlib modules) (Err stop) → FileStageGives {A = OrderAndGrammar} (IsOrderAndGrammar words files) Due (Err stop)
-  grammar_stops order modules stop on are has =
-      behind order (Err stop) on
-      (then_on (AreModules files order) (AfterModules order) Due modules (Err stop) are
-      (then_stops (IsGrammarStage order.stdlib modules) (λ grammar. Gives (record { order = order; grammar = grammar })) Due stop (no_names (IsGrammarStage order.stdlib modules) Due (Err stop) has)))
-
-  pub front_made : (order : Order) (modules : List Module) (grammar : Grammar) → staged_order words ≡ Go order → AreModules files order (Go modules) → IsGrammarStage order.stdlib modules (Go grammar) → IsOrderAndGrammar words files (Go (record { order = order; grammar = grammar }))
-  front_made order modules grammar on are is = behind order (Ok (record { order = order; grammar = grammar })) on (Go modules, are, (Go grammar, is, refl))

@@ -1,36 +1,38 @@
-//! From the words of the command line to the grammar: the order that the words spell, its modules, and their grammar.
+//! From an order to its grammar: its modules, and their grammar.
 //! Nothing is written, and nothing of the input is read.
-ghost use Rattle.std.specs.Prelude.{◌≡◌, ◌<◌, ◌≤◌, List, ℕ, length, map, string_bytes, IfOk};
+ghost use Rattle.std.specs.Prelude.{◌≡◌, ◌<◌, ◌≤◌, List, ℕ, length, IfOk};
+ghost use Rattle.std.specs.List.{All};
 ghost use Rattle.mh_grammar.specs.Costs.{HaveCosts};
 ghost use Rattle.mh_grammar.specs.Plain.{plain_of, IsInRange};
 ghost use Rattle.mh_opts.specs.Orders.{IsWithinLimits};
-ghost use Rattle.mh_top_drive.specs.StageResults.{Go};
+ghost use Rattle.mh_top_drive.specs.NextFile.{IsNextFile};
 ghost use Rattle.mh_top_load.specs.GrammarNames.{HasFileNames};
-ghost use Rattle.mh_top_load.specs.OrderAndGrammar.{IsOrderAndGrammar};
-ghost use Rattle.mh_top_load.specs.code.NextGrammarFile.{MayAskForGrammars, IsNextGrammarFile};
-ghost use Rattle.mh_top_load.specs.Order.{staged_order};
 ghost use Rattle.mh_top_drive.specs.code.StageCalls.{FileStageGives, StageShelfCounts};
+ghost use Rattle.mh_top_load.specs.GrammarFile.{IsModule};
+ghost use Rattle.mh_top_load.specs.Modules.{grammar_files};
+ghost use Rattle.mh_top_load.specs.OrderAndGrammar.{IsWithGrammar};
 ghost use Rattle.mh_validate_valid.specs.Valid.{AreTokenNamesDistinct};
 ghost use Rattle.mh_rules.specs.Limits.{max_tokens};
 
 use crate::grammar::grammar_in;
 use crate::modules::modules_of;
-use crate::order::order_in;
+use mh_opts::Order;
 use mh_outside::Shelf;
 use mh_top_drive::Stop;
 use mh_top_types::OrderAndGrammar;
 use std::alloc::Global;
 
-/// Gives the order that the words spell, with its grammar. Reads the grammar files of the order.
-pub fn front_of<F: Shelf>(
+/// Gives an order with its grammar. Reads the grammar files of the order.
+pub fn with_grammar<F: Shelf>(
     alloc: Global,
-    words: &[String],
+    order: Order,
     shelf: &mut F,
 ) -> Result<OrderAndGrammar, Stop>
-    requires asked { MayAskForGrammars (map string_bytes words.now) (F.MayAsk shelf.old) }
-    ensures front { FileStageGives (IsOrderAndGrammar (map string_bytes words.now) (F.files shelf.old))
-        (IsNextGrammarFile (map string_bytes words.now) (F.files shelf.old)) result }
-    ensures order { IfOk result (λ front. staged_order (map string_bytes words.now) ≡ Go front.order) }
+    requires asked { All (F.MayAsk shelf.old) (grammar_files order) }
+    requires limits { IsWithinLimits order.job }
+    ensures front { FileStageGives (IsWithGrammar order (F.files shelf.old))
+        (IsNextFile (F.files shelf.old) IsModule (grammar_files order)) result }
+    ensures order { IfOk result (λ front. order ≡ front.order) }
     ensures range { IfOk result (λ front. IsInRange (plain_of front.grammar)) }
     ensures start { IfOk result (λ front. 0 < length front.grammar.starts) }
     ensures limits { IfOk result (λ front. IsWithinLimits front.order.job) }
@@ -42,10 +44,6 @@ pub fn front_of<F: Shelf>(
     ensures kept { F.files shelf.new ≡ F.files shelf.old }
     ensures counts { StageShelfCounts (F.faults shelf.old) (F.faults shelf.new) result }
 {
-    let order = match order_in(alloc, words) {
-        Ok(order) => order,
-        Err(stop) => return Err(stop),
-    };
     let modules = match modules_of(alloc, shelf, &order) {
         Ok(modules) => modules,
         Err(stop) => return Err(stop),

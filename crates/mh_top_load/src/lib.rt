@@ -7,4 +7,5 @@ mod grammar_file;
 mod modules;
 mod order;
 
-pub use front::front_of;
+pub use front::with_grammar;
+pub use order::order_in;

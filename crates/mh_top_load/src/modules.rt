@@ -1,5 +1,5 @@
-//! Gives the modules of an order: those of its grammar files, or the module of its sample, whose text is read like that
-//! of a file.
+//! Gives the modules of an order: those of its grammar files, or for `--sample` the module of a generated grammar,
+//! whose text is read like that of a file.
 ghost use Rattle.std.specs.Prelude.{◌≡◌, ◌<◌, ◌^◌, ◌∷◌, [], List, ℕ, length, IfOk};
 ghost use Rattle.std.specs.List.{All};
 ghost use Rattle.mh_sample.specs.Texts.{grammar_text};

@@ -43,7 +43,7 @@ fn usage(alloc: Global, fault: &UsageFault) -> Stop
 }
 
 /// The order that the words spell, or the stop for their usage fault.
-pub(crate) fn order_in(alloc: Global, words: &[String]) -> Result<Order, Stop>
+pub fn order_in(alloc: Global, words: &[String]) -> Result<Order, Stop>
     ensures order { StageGives (λ s. staged_order (map string_bytes words.now) ≡ s) result }
     ensures limits { IfOk result (λ order. IsWithinLimits order.job) }
 {

@@ -1,5 +1,9 @@
 mod SomeConflicts
 mod SomeWork
+mod SomeAutomatonLines
+mod SomeFaultLines
+mod SomeWarningLines
+mod SomeExamination
 mod LeastExample
 mod SelectedNumbers
 mod FirstSentence

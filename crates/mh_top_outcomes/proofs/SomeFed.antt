@@ -12,7 +12,7 @@ use Rattle.mh_engine.specs.Branches.{Branch, AreSteps, HasPosition, position_of,
 use Rattle.mh_engine.specs.Feeding.{feeding_of, moved_in, phase_in, after_moves, HasStopped}
 use Rattle.mh_engine.specs.Phases.{phase_of, phase_by, phase_if_refused, next_move, CanResume}
 use Rattle.mh_engine.specs.Positions.{Position}
-use Rattle.mh_engine.specs.Steps.{offered, resumed, config_of}
+use Rattle.mh_engine.specs.Steps.{resumed, config_of}
 use Rattle.mh_engine.specs.declared.phase.Phase.{Phase}
 use Rattle.mh_engine.specs.declared.phase.Phase.TheVariants as phases
 use Rattle.mh_engine.proofs.BranchPosition.{HasPosition-token, HasPosition-step}

@@ -17,6 +17,10 @@ use Rattle.mh_msgfile.specs.declared.blocks.LooseBlocks.{LooseBlocks}
 use Rattle.mh_msgfile.specs.declared.loose.LooseFile.{LooseFile}
 use Rattle.mh_opts.specs.declared.jobs.Job.{Job}
 use Rattle.mh_opts.specs.declared.jobs.Job.TheVariants as jobs
+use Rattle.mh_opts.specs.declared.order.Order.{Order}
+use Rattle.mh_lint_findings.specs.Lines.{Line, lines_text}
+use Rattle.mh_lint_findings.specs.declared.findings.GrammarFile.{GrammarFile}
+use Rattle.mh_top_check.specs.Examination.{Examined, plan_of_check}
 use Rattle.mh_sample.proofs.SampleLineUnique.{some_line}
 use Rattle.mh_session_branches.specs.Answers.{Branches}
 use Rattle.mh_tables_core.specs.Table.{TableData}
@@ -34,14 +38,15 @@ use Rattle.mh_top_plans.specs.FinalText.{end_of_final_text}
 use Rattle.mh_top_plans.specs.declared.at_end.FinalText.{FinalText}
 use Rattle.mh_top_plans.specs.declared.at_end.FinalText.TheVariants.{Written}
 use Rattle.mh_top_plans.specs.ErrorsChecked.{Checks, TooLong as TooLongToCheck, cause_of_lines}
+use Rattle.mh_top_plans.specs.GrammarChecked.{cause_of_findings}
 use Rattle.mh_top_plans.specs.Listing.{Lists, TooLong, too_long}
 use Rattle.mh_top_plans.specs.Rebased.{Rebases, TooLong as TooLongToRebase}
 use Rattle.mh_top_plans.specs.Sampled.{Counts, TooLong as TooLongToCount}
-use Rattle.mh_top_plans.specs.Plan.{FinalOutput, Known, Automaton, Errors, Rebased, Checked, Sampled, Shortest, Random, Conflicts, IsFinalOutput, Plan, Ends, Judges, Explains, Serves, Answers, EndsWith, asks_of, plan_behavior, plan_of_stage, table_file_text, writing_plan, judging_plan, IsPlanOfJob}
+use Rattle.mh_top_plans.specs.Plan.{FinalOutput, Known, Automaton, Errors, Rebased, Checked, Sampled, Shortest, Random, Conflicts, Findings, IsFinalOutput, Plan, Ends, Judges, Explains, Serves, Answers, EndsWith, asks_of, plan_behavior, plan_of_stage, table_file_text, writing_plan, judging_plan, IsPlanOfJob}
 use Rattle.mh_top_plans.specs.Verdicts.{VerdictContext}
 use Rattle.mh_top_plans.proofs.FilesOfMode.{PreparedFacts}
 use Rattle.mh_top_claims.specs.Preparing.{IsPrepared}
-use Rattle.mh_top_claims.specs.Work.{Work, IsPlanUnlessRefused, IsWork, IsWorkOf}
+use Rattle.mh_top_claims.specs.Work.{Examining, WithTable, Work, IsPlanUnlessRefused, IsWork, IsWorkOf}
 use Rattle.mh_top_claims.proofs.VerdictClaims.{prepared_runs}
 use Rattle.mh_top_outcomes.proofs.SomeCatalogue.{some_catalogue}
 use Rattle.mh_top_outcomes.proofs.SomeEntries.{some_entries}
@@ -173,8 +178,17 @@ of_stage plan each (Halt cause) = known (record { cause = Some cause; out = [] }
 of_text : {A : Type 0} (made : A → FinalText) → (s : StageResult A) → Fits (plan_of_stage (λ x. writing_plan (made x)) s)
 of_text made s = of_stage (λ x. writing_plan (made x)) (λ x. known (end_of_final_text (made x))) s
 
+-- The lines on grammar files.
+findings_end : (found : List GrammarFile) (strict faulty : Bool) (lines : List Line) → HasEnd (Findings found strict faulty lines)
+findings_end found strict faulty lines = given (record { cause = cause_of_findings strict faulty lines; out = lines_text found lines }, record { cause_is = refl; written = refl })
+
+fits_check : (order : Order) (s : StageResult Examined) → Fits (plan_of_check order s)
+fits_check order (Go x) = FitsEnd (findings_end x.0 order.strict x.1.0 x.1.1)
+fits_check order (Halt cause) = known (record { cause = Some cause; out = [] })
+
 module _ (files : Option Files) (p : Prepared) (facts : PreparedFacts p) where
   fits_job : (job : Job) (plan : Plan) → IsPlanOfJob job files p plan → Fits plan
+  fits_job jobs.Check plan is = absurd is
   fits_job jobs.Interpret plan (s, of, is) = subst Fits (sym is) (of_stage (judging_plan p) (λ messages. FitsJudge facts.halts facts.consistent.table.grammar) s)
   fits_job jobs.InterpretError plan is = subst Fits (sym is) (FitsExplain facts)
   fits_job jobs.Session plan is = subst Fits (sym is) (FitsServe facts.halts facts.consistent.table.grammar (no_branches p.tabled.halting))
@@ -201,5 +215,9 @@ module _ (words : List Text) (files : Option Files) (w : Work) where
   fits_work (Go p) prepared is = fits_unless_refused files p (prepared_runs words files p prepared) (p.order.strict && has_warning p.tabled.conflicts) w.plan is.1
   fits_work (Halt cause) prepared is = subst Fits (sym (ap (λ (v : Work). v.plan) is)) (known (record { cause = Some cause; out = [] }))
 
+  fits_asked : IsWork words files w → Fits w.plan
+  fits_asked (WithTable needs is) = fits_work is.0 is.1 is.2
+  fits_asked (Examining order on job is) = subst Fits (sym is.plan.2) (fits_check order is.plan.0)
+
   pub some_outcome : IsWork words files w → (input : Option Text) → NotLacking ((o : Outcome) × HasOutcome plan_behavior w.plan input o)
-  some_outcome is input = outcome w.plan (fits_work is.0 is.1 is.2) input
+  some_outcome is input = outcome w.plan (fits_asked is) input

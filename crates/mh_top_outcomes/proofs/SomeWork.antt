@@ -62,11 +62,9 @@ use Rattle.mh_top_tables.specs.TableTexts.{too_many_states, invalid_line}
 use Rattle.mh_top_tables.specs.PreparedStage.{IsPreparedFromSource, IsPreparedFromFiles}
 use Rattle.mh_top_tables.proofs.HasNumberedStates.{source_numbered}
 use Rattle.mh_top_claims.specs.Preparing.{IsPrepared}
-use Rattle.mh_top_claims.specs.Work.{Work, IsWork}
 use Rattle.mh_top_claims.proofs.IsGrammarReady.{IsGrammarReady, front_ready}
-use Rattle.mh_top_claims.proofs.AnswerAtLine.{some_work}
 
-then_some : {A B : Type 0} (First : StageResult A → Type 0) (Next : A → StageResult B → Type 0) → NotLacking ((f : StageResult A) × First f) → ((x : A) → First (Go x) → NotLacking ((s : StageResult B) × Next x s)) → NotLacking ((s : StageResult B) × Then First Next s)
+pub then_some : {A B : Type 0} (First : StageResult A → Type 0) (Next : A → StageResult B → Type 0) → NotLacking ((f : StageResult A) × First f) → ((x : A) → First (Go x) → NotLacking ((s : StageResult B) × Next x s)) → NotLacking ((s : StageResult B) × Then First Next s)
 then_some {A = A} {B = B} First Next some next = chain some (λ f. by f.0 f.1)
   where
     by : (f : StageResult A) → First f → NotLacking ((s : StageResult B) × Then First Next s)
@@ -165,7 +163,7 @@ module _ (mode : Mode) (g : Grammar) (a : Automaton) (ready : IsGrammarReady g) 
         | inr l ↦ given (Halt (Refused (loops_line (token_names g) l.0 l.1 l.2)), record { found = t; table = table; below = l.0; state = l.1; look = l.2; loops = l.3; cause_is = refl })
       ])
 
-some_tabled : (files : Option Files) (front : OrderAndGrammar) → IsGrammarReady front.grammar → NotLacking ((s : StageResult Prepared) × IsPreparedFromFiles files front s)
+pub some_tabled : (files : Option Files) (front : OrderAndGrammar) → IsGrammarReady front.grammar → NotLacking ((s : StageResult Prepared) × IsPreparedFromFiles files front s)
 some_tabled files front ready = then_some (IsAutomatonSource files front.order) (IsPreparedFromSource front) (some_source files front.order.tables front.order.canonical) (λ source is.
     then_some (IsTableStage source front.grammar) (λ tabled. Gives (record { order = front.order; grammar = front.grammar; tabled = tabled }))
     (then_some (IsAutomatonStage source front.grammar) (IsResolvedStage (mode_of source) front.grammar) (some_automaton front.grammar ready.range source) (λ a stage.
@@ -174,6 +172,3 @@ some_tabled files front ready = then_some (IsAutomatonSource files front.order) 
 
 pub some_prepared : (words : List Text) (files : Option Files) → NotLacking ((s : StageResult Prepared) × IsPrepared words files s)
 some_prepared words files = then_some (IsOrderAndGrammar words files) (IsPreparedFromFiles files) (some_front words files) (λ front is. some_tabled files front (front_ready words files front is))
-
-pub some_asked_work : (words : List Text) (files : Option Files) → NotLacking ((w : Work) × IsWork words files w)
-some_asked_work words files = chain (some_prepared words files) (λ p. given (some_work words files p.0 p.1))

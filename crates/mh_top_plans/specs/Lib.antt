@@ -6,6 +6,7 @@ pub mod MessagesFiles
 pub mod Listing
 pub mod Rebased
 pub mod ErrorsChecked
+pub mod GrammarChecked
 pub mod Sampled
 pub mod Drawn
 pub mod Plan

@@ -1,9 +1,9 @@
 -- Plans, which are the modes of the program as plain data: which lines of the input a mode asks for, how it answers a
 -- line, and what it writes at its end; and the plan for each job (Menhir manual; sessions, table files and samples are
 -- this project's own).
-use Rattle.std.specs.Prelude.{◌≡◌, ℕ, [], Option, None, Some}
+use Rattle.std.specs.Prelude.{◌≡◌, ℕ, Bool, List, [], Option, None, Some}
 use Rattle.mh_opts.specs.declared.jobs.Job.{Job}
-use Rattle.mh_opts.specs.declared.jobs.Job.TheVariants.{Interpret, InterpretError, Session, ShowAutomaton, WriteTables, ListErrors, CompileErrors, CompareErrors, EchoErrors, UpdateErrors, RebaseErrors, CheckErrors, Sample, ShortestSentences, RandomSentence, Explain}
+use Rattle.mh_opts.specs.declared.jobs.Job.TheVariants.{Interpret, InterpretError, Session, ShowAutomaton, WriteTables, ListErrors, CompileErrors, CompareErrors, EchoErrors, UpdateErrors, RebaseErrors, CheckErrors, Check, Sample, ShortestSentences, RandomSentence, Explain}
 use Rattle.mh_outside.specs.Shelf.{Files}
 use Rattle.mh_explain.specs.Explanations.{AreExplanations}
 use Rattle.mh_report.specs.Automata.{IsAutomatonText}
@@ -35,6 +35,9 @@ use Rattle.mh_top_plans.specs.FinalText.{end_of_final_text}
 use Rattle.mh_top_plans.specs.Listing.{ListsErrors}
 use Rattle.mh_top_plans.specs.Rebased.{RebasesFile}
 use Rattle.mh_top_plans.specs.ErrorsChecked.{ChecksErrors}
+use Rattle.mh_top_plans.specs.GrammarChecked.{WritesFindings}
+use Rattle.mh_lint_findings.specs.declared.findings.GrammarFile.{GrammarFile}
+use Rattle.mh_lint_findings.specs.Lines.{Line}
 use Rattle.mh_top_plans.specs.Sampled.{CountsSample}
 use Rattle.mh_top_plans.specs.Drawn.{IsDrawn}
 use Rattle.mh_top_plans.specs.Verdicts.{VerdictContext, IsAnswerToLine}
@@ -53,6 +56,8 @@ pub data FinalOutput : Type 0 where
   Rebased : LooseFile → Prepared → FinalOutput
   -- What is wrong with the messages file of this name and these blocks.
   Checked : Text → LooseBlocks → Prepared → FinalOutput
+  -- The lines on these grammar files, with `--strict` or not, and whether the lines are faults.
+  Findings : List GrammarFile → Bool → Bool → List Line → FinalOutput
   -- The counts of the sample with this number.
   Sampled : ℕ → Prepared → FinalOutput
   -- The shortest word of each nonterminal.
@@ -69,6 +74,7 @@ IsFinalOutput (Automaton p) e = (e.cause ≡ None) × IsAutomatonText p.grammar 
 IsFinalOutput (Errors p) e = ListsErrors p.order.comment_expected p.grammar p.tabled.automaton p.tabled.halting e.cause e.out
 IsFinalOutput (Rebased file p) e = RebasesFile p.order.comment_expected p.grammar p.tabled.automaton p.tabled.halting file e.cause e.out
 IsFinalOutput (Checked name blocks p) e = ChecksErrors p.grammar p.tabled.halting name blocks e.cause e.out
+IsFinalOutput (Findings found strict faulty lines) e = WritesFindings found strict faulty lines e.cause e.out
 IsFinalOutput (Sampled number p) e = CountsSample p.grammar p.tabled.halting number e.cause e.out
 IsFinalOutput (Shortest p) e = (e.cause ≡ None) × IsShortestText p.grammar e.out
 IsFinalOutput (Random seed n p) e = (made : FinalText) × IsDrawn p.grammar seed n made × (e ≡ end_of_final_text made)
@@ -154,4 +160,6 @@ IsPlanOfJob (EchoErrors file) files p plan = (s : StageResult MsgFile) × IsFile
 IsPlanOfJob (UpdateErrors file) files p plan = (s : StageResult Text) × IsUpdatedFile files p file s × (plan ≡ plan_of_stage (λ text. writing_plan (Written text)) s)
 IsPlanOfJob (RebaseErrors file) files p plan = (s : StageResult LooseFile) × IsFileContent files IsLooseFile file s × (plan ≡ plan_of_stage (λ loose. Ends (Rebased loose p)) s)
 IsPlanOfJob (CheckErrors file) files p plan = (s : StageResult LooseBlocks) × IsFileContent files AreLooseBlocks file s × (plan ≡ plan_of_stage (λ blocks. Ends (Checked file blocks p)) s)
+-- The mode that examines grammar files does its work before there is a table.
+IsPlanOfJob Check files p plan = ⊥
 IsPlanOfJob (CompareErrors first second) files p plan = (s : StageResult (Messages × Messages)) × AreMessagesOfBoth files p first second s × (plan ≡ plan_of_stage (λ both. writing_plan (comparison_result first second (missing both.0 both.1))) s)

@@ -134,7 +134,7 @@ fn table_in<const W: usize>(
 
 /// The automaton from the given source with its table and its conflicts. The work stops if the automaton has too many
 /// states or its file is not valid for the grammar, and then if some relative run on the table makes more than 10,000
-/// reductions.
+/// reductions (`MAX_REDUCTIONS` of `mh_tables_core` defines relative runs).
 pub(crate) fn table_of<const W: usize>(
     alloc: Global,
     source: &AutomatonSource,

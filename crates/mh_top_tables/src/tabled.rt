@@ -20,7 +20,8 @@ use mh_top_drive::Stop;
 use mh_top_types::{TabledAutomaton, TabledAutomatonWith};
 use std::alloc::Global;
 
-/// The automaton with this table, if every run on the table ends, and the refusal of the table otherwise.
+/// The automaton with this table, if no relative run (see `MAX_REDUCTIONS`) makes more than 10,000 reductions, so that
+/// every run ends; otherwise the refusal of the table.
 pub fn where_halting<const W: usize>(
     alloc: Global,
     grammar: &Grammar,
@@ -52,7 +53,8 @@ pub fn where_halting<const W: usize>(
     }
 }
 
-/// Resolves the conflicts of the automaton, and gives the automaton with its table, if every run on the table ends.
+/// Resolves the conflicts of the automaton, and gives the automaton with its table, or refuses the table as
+/// `where_halting` does.
 pub fn with_table<const W: usize>(
     alloc: Global,
     grammar: &Grammar,

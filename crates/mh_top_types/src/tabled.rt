@@ -12,7 +12,7 @@ pub struct TabledAutomatonWith<L> {
     pub automaton: AutomatonWith<L>,
     pub halting: Halting,
     pub conflicts: Sequence<Conflict>,
-    /// The mode in which the table was resolved.
+    /// Whether the table was resolved as that of a merged or of a canonical automaton.
     pub mode: Mode,
 }
 

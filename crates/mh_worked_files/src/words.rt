@@ -19,6 +19,7 @@ fn job_name(job: &Job) -> &'static [u8] {
         Job::UpdateErrors { .. } => b"update",
         Job::RebaseErrors { .. } => b"rebase",
         Job::CheckErrors { .. } => b"check-errors",
+        Job::Check => b"check",
         Job::Sample { .. } => b"sample",
         Job::ShortestSentences => b"shortest",
         Job::RandomSentence { .. } => b"random",
@@ -121,6 +122,10 @@ const CASES: &str = "--interpret g.mly~interpret :g.mly^\
     --check-errors m g.mly~check-errors :g.mly^\
     --check-errors m --rebase-errors m g.mly~two modes^\
     --check-errors m~no grammar^\
+    --check a.mly b.mly~check :a.mly :b.mly^\
+    --check --strict g.mly~check strict :g.mly^\
+    --check --list-errors g.mly~two modes^\
+    --check~no grammar^\
     --sample 7~sample 7^\
     --sample=9999 --canonical~sample 9999 canonical^\
     --sample=0070 --strict~sample 70 strict^\
@@ -225,6 +230,6 @@ pub fn put_words(alloc: Global, text: &mut Vec<u8>, line: &str) {
 
 #[test]
 fn cases(rt: HostRuntime) -> Result<(), Fail> {
-    check_cases(rt.alloc(), &Subject::Words, CASES, 109)?;
+    check_cases(rt.alloc(), &Subject::Words, CASES, 113)?;
     check_cases(rt.alloc(), &Subject::NoWords, "~no mode", 1)
 }

@@ -7,6 +7,6 @@ returns-in-Ok-clause-places c = record {
   lexemes = c.args.lexemes.now;
   lexes = c.requires.lexes;
   file = c.requires.file;
-  mentions = c.in-Ok.ensures.mentions ∙ mentions_from-in_file c.args.bytes.now c.args.lexemes.now c.args.made c.requires.file;
-  bad = c.in-Ok.ensures.costs;
+  mentions = c.from_vec.ensures ∙ c.in-Ok.ensures.mentions ∙ mentions_from-in_file c.args.bytes.now c.args.lexemes.now c.args.made c.requires.file;
+  bad = c.from_vec-in-Ok.ensures ∙ c.in-Ok.ensures.costs;
 }

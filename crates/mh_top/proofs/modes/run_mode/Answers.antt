@@ -276,3 +276,8 @@ check_errors-requires g c =
     let is = c.in-CheckErrors.is ∙ ap CheckErrors (sym c.as_slice-in-CheckErrors.ensures) in
     let asked = subst (λ (job : Job). All (g.F.Shelf.MayAsk c.args.shelf.now) (files_of_job job c.args.prepared.now.order)) is c.requires.asked in
     (search rules, record { few = c.requires.fits.few; consistent = c.requires.consistent; asked = asked 0 [] (omega arith); may_read = c.requires.may_read; may_write = c.requires.may_write })
+
+-- ---- The mode that examines grammar files has no grammar.
+
+pub unreachable-requires : goal.unreachable-requires
+unreachable-requires g c = c.requires.job c.in-Check.is

@@ -1,0 +1,32 @@
+pub mod NoWarnings
+mod Gains
+mod UsedTokens
+mod UsedRules
+mod PrecNames
+mod WarningKinds
+mod WarningsFound
+mod UsesAfter
+mod ChangesUses
+mod AddsUses
+mod HasOwnPrecs
+mod IsPrecUsed
+mod UsedPrecNames
+mod AreUsedLevels
+mod WithSources
+mod UsedDeclarations
+mod DeclaredActuals
+mod SourcedUnfoldings
+mod SourcesInlined
+pub mod WarningLinesUnique
+mod AreFileLines
+mod PrecsCompared
+mod IsBeforeFile
+mod UsesOf
+mod AreNameLines
+mod WarningsWithin
+mod AreWarningLines
+mod IsInFile
+mod NamedTokens
+mod IsUnusedDeclaration
+mod FlagTexts
+mod IsBefore

@@ -1,0 +1,4 @@
+pub mod Uses
+pub mod Declarations
+pub mod LevelUses
+pub mod MentionUses

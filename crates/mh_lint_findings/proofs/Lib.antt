@@ -1,0 +1,5 @@
+mod LinesText
+mod PlacesWithin
+pub mod AreInOrder
+mod IsMoved
+pub mod AppendsLines

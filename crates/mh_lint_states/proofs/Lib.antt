@@ -1,0 +1,11 @@
+pub mod MarkedFlags
+pub mod MarkedPairs
+pub mod StateCompares
+pub mod AreShown
+pub mod ReducesOnErrors
+pub mod TwoReductions
+pub mod ConflictLines
+pub mod Reduces
+pub mod CompleteItems
+pub mod ClosedStates
+pub mod AutomatonLinesUnique

@@ -1,0 +1,2 @@
+pub mod Examination
+pub mod code
