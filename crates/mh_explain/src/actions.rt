@@ -112,7 +112,6 @@ fn write_place(text: &mut Vec<u8>, grammar: &Grammar, place: Place) -> Result<()
 
 /// Appends the line of an item whose token is shifted to the target.
 fn write_shift(
-    alloc: Global,
     text: &mut Vec<u8>,
     grammar: &Grammar,
     target: u32,
@@ -121,13 +120,12 @@ fn write_shift(
     requires { IsPlaceIn grammar.now place }
     ensures { OnOk result (text.new.items ≡ text.old.items ++ shift_line grammar.now target place) }
 {
-    write_between(alloc, text, b"  shift ", target, b": ")?;
+    write_between(text, b"  shift ", target, b": ")?;
     write_place(text, grammar, place)
 }
 
 /// Appends the lines of items whose token is shifted to the target, or nothing if there is no shift.
 fn write_shifts(
-    alloc: Global,
     text: &mut Vec<u8>,
     grammar: &Grammar,
     target: Option<u32>,
@@ -140,7 +138,7 @@ fn write_shifts(
         return Ok(());
     };
     for place in places {
-        write_shift(alloc, text, grammar, state, *place)?;
+        write_shift(text, grammar, state, *place)?;
     }
     Ok(())
 }
@@ -208,14 +206,13 @@ pub(crate) fn write_actions<const W: usize>(
     ensures { OnOk result (AppendsText (AreItemActions grammar.now items.now edges.now look) text.old.items text.new.items) }
 {
     let shifts = items_for(alloc, grammar, items, look, RawAction::Shift)?;
-    write_shifts(alloc, text, grammar, shift_on(edges, look), &shifts)?;
+    write_shifts(text, grammar, shift_on(edges, look), &shifts)?;
     let reductions = items_for(alloc, grammar, items, look, RawAction::Reduce)?;
     write_reductions(text, grammar, &reductions)
 }
 
 /// Appends the action that the table takes in a state on a token.
 pub(crate) fn write_taken(
-    alloc: Global,
     text: &mut Vec<u8>,
     grammar: &Grammar,
     table: &Table,
@@ -232,7 +229,7 @@ pub(crate) fn write_taken(
         NextAction::Ask => {}
         NextAction::Refuse => text.extend_from_slice(b"  taken: error\n")?,
         NextAction::Shift(target) => {
-            write_between(alloc, text, b"  taken: shift ", target, b"\n")?;
+            write_between(text, b"  taken: shift ", target, b"\n")?;
         }
         NextAction::Reduce(production) => {
             text.extend_from_slice(b"  taken: reduce ")?;

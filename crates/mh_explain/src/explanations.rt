@@ -111,7 +111,7 @@ fn write_at_next<const W: usize>(
             let edges = searched.automaton.edges[state as usize].as_slice();
             let table = searched.reach.table().table();
             write_actions(alloc, text, grammar, items, edges, Look::Token(token))?;
-            write_taken(alloc, text, grammar, table, state, token)
+            write_taken(text, grammar, table, state, token)
         }
     }
 }
@@ -135,7 +135,7 @@ fn write_explanation<const W: usize>(
     let grammar = searched.grammar;
     let (state, look) = (conflict.state, conflict.look);
     let found = first_sentence(alloc, searched.reach, state, look)?;
-    write_conflict(alloc, text, grammar, state, look, conflict.kind)?;
+    write_conflict(text, grammar, state, look, conflict.kind)?;
     write_found(text, grammar, &found)?;
     let next = next_token(look, &found);
     let closed = closer.close(alloc, grammar, &searched.automaton.kernels[state as usize])?;

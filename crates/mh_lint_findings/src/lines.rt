@@ -29,12 +29,12 @@ fn cursor_at(cursor: Cursor, file: usize, bytes: &[u8], start: usize) -> Cursor
 }
 
 /// Appends the name of a file, the line and the column.
-fn write_place(alloc: Global, text: &mut Vec<u8>, name: &[u8], cursor: Cursor) -> Result<(), Memory>
+fn write_place(text: &mut Vec<u8>, name: &[u8], cursor: Cursor) -> Result<(), Memory>
     ensures { OnOk result (text.new.items ≡ text.old.items ++ (name.now ++ codes ":" ++ decimal cursor.line ++ codes ":" ++ decimal cursor.column ++ codes ": ")) }
 {
     text.extend_from_slice(name)?;
-    write_between(alloc, text, b":", cursor.line, b":")?;
-    write_between(alloc, text, b"", cursor.column, b": ")
+    write_between(text, b":", cursor.line, b":")?;
+    write_between(text, b"", cursor.column, b": ")
 }
 
 /// Appends the name of a file.
@@ -48,7 +48,6 @@ fn write_file(text: &mut Vec<u8>, name: &[u8]) -> Result<(), Memory>
 
 /// Appends a position of a file, and moves the cursor to the position.
 fn write_in_file(
-    alloc: Global,
     text: &mut Vec<u8>,
     file: &GrammarFile,
     number: usize,
@@ -63,13 +62,12 @@ fn write_in_file(
     ensures there { IsAt file.now.bytes cursor.new }
 {
     *cursor = cursor_at(*cursor, number, file.bytes.as_slice(), start);
-    write_place(alloc, text, file.name.as_slice(), *cursor)
+    write_place(text, file.name.as_slice(), *cursor)
 }
 
 /// Appends the text of a position.
 #[tactic(auto, using(crate::proofs::PlacesWithin::place_known))]
 fn write_position(
-    alloc: Global,
     text: &mut Vec<u8>,
     files: &[GrammarFile],
     cursor: &mut Cursor,
@@ -83,7 +81,7 @@ fn write_position(
 {
     match at {
         Position::InFile { file, start } => {
-            write_in_file(alloc, text, &files[file], file, start, cursor)
+            write_in_file(text, &files[file], file, start, cursor)
         }
         Position::OfFile { file } => match files.get(file) {
             Some(file) => write_file(text, file.name.as_slice()),
@@ -95,7 +93,6 @@ fn write_position(
 
 /// Appends the line of a finding.
 fn write_finding(
-    alloc: Global,
     text: &mut Vec<u8>,
     files: &[GrammarFile],
     cursor: &mut Cursor,
@@ -107,7 +104,7 @@ fn write_finding(
     ensures text { OnOk result (text.new.items ≡ text.old.items ++ line_text files.now (line_of found.now)) }
     ensures there { OnOk result (IsAtIn files.now cursor.new) }
 {
-    write_position(alloc, text, files, cursor, found.at)?;
+    write_position(text, files, cursor, found.at)?;
     text.extend_from_slice(found.text.as_slice())?;
     text.push(b'\n')?;
     Ok(())
@@ -128,7 +125,7 @@ pub fn findings_text(
     let mut text = Vec::new(alloc);
     let mut cursor = Cursor::new(0);
     for found in findings {
-        write_finding(alloc, &mut text, files, &mut cursor, found)?;
+        write_finding(&mut text, files, &mut cursor, found)?;
     }
     Ok(text)
 }

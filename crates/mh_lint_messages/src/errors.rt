@@ -28,15 +28,10 @@ pub enum ErrorsFault {
 }
 
 /// Appends the line on the state of a row, which has no entry.
-fn write_missing_state(
-    alloc: Global,
-    text: &mut Vec<u8>,
-    grammar: &Grammar,
-    row: &Row,
-) -> Result<(), Memory>
+fn write_missing_state(text: &mut Vec<u8>, grammar: &Grammar, row: &Row) -> Result<(), Memory>
     ensures { OnOk result (text.new.items ≡ text.old.items ++ missing_text grammar.now (row_of row.now)) }
 {
-    write_between(alloc, text, b"state ", row.state, b" has no entry: ")?;
+    write_between(text, b"state ", row.state, b" has no entry: ")?;
     write_sentence(text, grammar, row.start, row.sentence.as_slice())?;
     text.push(b'\n')?;
     Ok(())
@@ -45,7 +40,6 @@ fn write_missing_state(
 /// Appends the line on the state of a row, if no kept sentence fails in this state. For each state, `kept` has the
 /// number of the kept line whose sentence fails there.
 fn write_missing_row(
-    alloc: Global,
     text: &mut Vec<u8>,
     grammar: &Grammar,
     kept: &[Option<u32>],
@@ -56,13 +50,12 @@ fn write_missing_row(
 {
     match line_kept_in(kept, row.state) {
         Some(_) => Ok(()),
-        None => write_missing_state(alloc, text, grammar, row),
+        None => write_missing_state(text, grammar, row),
     }
 }
 
 /// Appends the lines on the states without an entry.
 fn write_missing(
-    alloc: Global,
     text: &mut Vec<u8>,
     grammar: &Grammar,
     kept: &[Option<u32>],
@@ -72,22 +65,17 @@ fn write_missing(
         ++ missing_texts grammar.now (filter (has_no_kept_line kept.now) (rows_of rows.now))) }
 {
     for row in rows {
-        write_missing_row(alloc, text, grammar, kept, row)?;
+        write_missing_row(text, grammar, kept, row)?;
     }
     Ok(())
 }
 
 /// Appends the line on a last block without a message.
-fn write_unpaired(
-    alloc: Global,
-    text: &mut Vec<u8>,
-    name: &[u8],
-    unpaired: Option<u32>,
-) -> Result<(), Memory>
+fn write_unpaired(text: &mut Vec<u8>, name: &[u8], unpaired: Option<u32>) -> Result<(), Memory>
     ensures { OnOk result (text.new.items ≡ text.old.items ++ unpaired_text name.now unpaired) }
 {
     if let Some(line) = unpaired {
-        write_place(alloc, text, name, line)?;
+        write_place(text, name, line)?;
         text.extend_from_slice(b"shape\n")?;
     }
     Ok(())
@@ -107,9 +95,9 @@ fn write_all(
     ensures { OnOk result (IsErrorText to.now.grammar.now to.now.table.now to.now.name.now blocks.now found.new.text.items) }
 {
     add_entries(alloc, to, found, blocks.file.entries.as_slice())?;
-    write_unpaired(alloc, &mut found.text, to.name, blocks.unpaired)?;
+    write_unpaired(&mut found.text, to.name, blocks.unpaired)?;
     let kept = found.kept_lines.as_slice();
-    write_missing(alloc, &mut found.text, to.grammar, kept, rows)?;
+    write_missing(&mut found.text, to.grammar, kept, rows)?;
     Ok(())
 }
 

@@ -41,16 +41,11 @@ pub(crate) struct Findings {
 
 /// Appends the name of the file and the number of a line.
 #[tactic(auto, unfolding(crate::specs::ErrorLines::place))]
-pub(crate) fn write_place(
-    alloc: Global,
-    text: &mut Vec<u8>,
-    name: &[u8],
-    line: u32,
-) -> Result<(), Memory>
+pub(crate) fn write_place(text: &mut Vec<u8>, name: &[u8], line: u32) -> Result<(), Memory>
     ensures { OnOk result (text.new.items ≡ text.old.items ++ spec.place name.now line) }
 {
     text.extend_from_slice(name)?;
-    write_between(alloc, text, b":", line, b": ")
+    write_between(text, b":", line, b": ")
 }
 
 /// Appends the line of the report on a sentence line that is not kept.
@@ -65,7 +60,7 @@ fn add_reason(
     ensures text { OnOk result (found.new.text.items ≡ found.old.text.items
         ++ spec.decision_text to.now.name.now line (Drop reason.now)) }
 {
-    write_place(alloc, &mut found.text, to.name, line)?;
+    write_place(&mut found.text, to.name, line)?;
     write_reason(alloc, &mut found.text, reason)
 }
 
@@ -163,29 +158,23 @@ fn is_unwritten(message: &[u8]) -> bool
 }
 
 /// Appends the line of the report which says that the message after this sentence line is not written yet.
-fn write_note(alloc: Global, text: &mut Vec<u8>, name: &[u8], line: u32) -> Result<(), Memory>
+fn write_note(text: &mut Vec<u8>, name: &[u8], line: u32) -> Result<(), Memory>
     ensures { OnOk result (text.new.items ≡ text.old.items ++ (spec.place name.now line ++ codes "no message yet\n")) }
 {
-    write_place(alloc, text, name, line)?;
+    write_place(text, name, line)?;
     text.extend_from_slice(b"no message yet\n")?;
     Ok(())
 }
 
 /// Appends the line of the report on a message that nobody has written yet. The report gives the number of the last
 /// sentence line of the entry.
-fn write_unwritten(
-    alloc: Global,
-    text: &mut Vec<u8>,
-    name: &[u8],
-    line: u32,
-    message: &[u8],
-) -> Result<(), Memory>
+fn write_unwritten(text: &mut Vec<u8>, name: &[u8], line: u32, message: &[u8]) -> Result<(), Memory>
     ensures { OnOk result (text.new.items ≡ text.old.items
         ++ spec.unwritten_text name.now line (spec.is_unwritten message.now)) }
 {
     let unwritten = is_unwritten(message);
     if unwritten {
-        write_note(alloc, text, name, line)
+        write_note(text, name, line)
     } else {
         Ok(())
     }
@@ -204,13 +193,7 @@ fn add_entry(
     ensures entry { OnOk result (DecidesEntries to.now.grammar.now to.now.table.now to.now.name.now (entry.now ∷ []) found.old found.new) }
 {
     let last = add_lines(alloc, to, found, entry.sentences.as_slice())?;
-    write_unwritten(
-        alloc,
-        &mut found.text,
-        to.name,
-        last,
-        entry.message.as_slice(),
-    )
+    write_unwritten(&mut found.text, to.name, last, entry.message.as_slice())
 }
 
 /// Appends what is wrong with these entries.

@@ -91,13 +91,7 @@ fn stream_text(alloc: Global, state: u32) -> Result<Vec<u8>, Memory>
     ensures { IfOk result (λ text. text.items ≡ codes "end-of-stream conflict in state " ++ decimal state) }
 {
     let mut text = Vec::new(alloc);
-    write_between(
-        alloc,
-        &mut text,
-        b"end-of-stream conflict in state ",
-        state,
-        b"",
-    )?;
+    write_between(&mut text, b"end-of-stream conflict in state ", state, b"")?;
     Ok(text)
 }
 
@@ -107,7 +101,7 @@ fn unsolved_text(alloc: Global, kind: &[u8], state: u32, look: &[u8]) -> Result<
 {
     let mut text = Vec::new(alloc);
     text.extend_from_slice(kind)?;
-    write_between(alloc, &mut text, b" conflict in state ", state, b" on ")?;
+    write_between(&mut text, b" conflict in state ", state, b" on ")?;
     text.extend_from_slice(look)?;
     Ok(text)
 }

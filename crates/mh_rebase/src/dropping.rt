@@ -41,10 +41,10 @@ pub fn write_reason(alloc: Global, text: &mut Vec<u8>, reason: &DropReason) -> R
 
 /// Appends the beginning of the line that reports a dropped line.
 #[tactic(auto, unfolding(mh_rebase_form::specs::RebasedText::dropped_title))]
-fn write_title(alloc: Global, text: &mut Vec<u8>, line: u32) -> Result<(), Memory>
+fn write_title(text: &mut Vec<u8>, line: u32) -> Result<(), Memory>
     ensures { OnOk result (text.new.items ≡ text.old.items ++ dropped_title line) }
 {
-    write_between(alloc, text, b"# dropped ", line, b": ")
+    write_between(text, b"# dropped ", line, b": ")
 }
 
 /// Appends the line that reports a dropped line with its reason.
@@ -56,7 +56,7 @@ pub(crate) fn write_dropped(
 ) -> Result<(), Memory>
     ensures { OnOk result (text.new.items ≡ text.old.items ++ dropped_title line ++ reason_text reason.now) }
 {
-    write_title(alloc, text, line)?;
+    write_title(text, line)?;
     write_reason(alloc, text, reason)
 }
 

@@ -64,7 +64,7 @@ fn write_kept<const W: usize>(
     write_sentence(text, to.grammar, sentence.start, tokens)?;
     text.push(b'\n')?;
     let items = to.automaton.kernels[state as usize].items.as_slice();
-    write_comments(alloc, text, to.grammar, state, items, reduced)?;
+    write_comments(text, to.grammar, state, items, reduced)?;
     if !to.expected {
         return Ok(());
     }

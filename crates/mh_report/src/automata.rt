@@ -28,11 +28,11 @@ pub fn mode_name(mode: Mode) -> &'static [u8]
     }
 }
 
-fn write_title(alloc: Global, text: &mut Vec<u8>, mode: Mode, states: u32) -> Result<(), Memory>
+fn write_title(text: &mut Vec<u8>, mode: Mode, states: u32) -> Result<(), Memory>
     ensures { OnOk result (text.new.items ≡ text.old.items ++ title mode states) }
 {
     text.extend_from_slice(mode_name(mode))?;
-    write_between(alloc, text, b": ", states, b" states\n")
+    write_between(text, b": ", states, b" states\n")
 }
 
 /// Appends a name, indented by two spaces.
@@ -62,7 +62,6 @@ fn write_reduction(
 
 /// Appends the line of a token: the action of its cell.
 fn write_cell_line(
-    alloc: Global,
     text: &mut Vec<u8>,
     grammar: &Grammar,
     token: Token,
@@ -75,7 +74,7 @@ fn write_cell_line(
     match action {
         Action::Shift(target) => {
             write_indented(text, token_name(grammar, token))?;
-            write_between(alloc, text, b": shift ", target, b"\n")
+            write_between(text, b": shift ", target, b"\n")
         }
         Action::Reduce(production) => {
             write_indented(text, token_name(grammar, token))?;
@@ -92,7 +91,6 @@ fn write_cell_line(
 }
 
 fn write_cell_lines(
-    alloc: Global,
     text: &mut Vec<u8>,
     grammar: &Grammar,
     table: &Table,
@@ -109,13 +107,12 @@ fn write_cell_lines(
     for token in 0..holes.len() {
         let number = token as Token;
         let action = table.action(state, number);
-        write_cell_line(alloc, text, grammar, number, action, holes[token])?;
+        write_cell_line(text, grammar, number, action, holes[token])?;
     }
     Ok(())
 }
 
 fn write_goto_line(
-    alloc: Global,
     text: &mut Vec<u8>,
     grammar: &Grammar,
     symbol: Symbol,
@@ -127,21 +124,16 @@ fn write_goto_line(
         Symbol::T(_) => Ok(()),
         Symbol::N(nonterminal) => {
             write_indented(text, nonterminal_name(grammar, nonterminal))?;
-            write_between(alloc, text, b": goto ", target, b"\n")
+            write_between(text, b": goto ", target, b"\n")
         }
     }
 }
 
-fn write_goto_lines(
-    alloc: Global,
-    text: &mut Vec<u8>,
-    grammar: &Grammar,
-    edges: &[Edge],
-) -> Result<(), Memory>
+fn write_goto_lines(text: &mut Vec<u8>, grammar: &Grammar, edges: &[Edge]) -> Result<(), Memory>
     ensures { OnOk result (text.new.items ≡ text.old.items ++ goto_lines grammar.now edges.now) }
 {
     for edge in edges {
-        write_goto_line(alloc, text, grammar, edge.symbol, edge.target)?;
+        write_goto_line(text, grammar, edge.symbol, edge.target)?;
     }
     Ok(())
 }
@@ -172,15 +164,15 @@ fn write_actions<const W: usize>(
         }
         None => {
             let holes = holes_of(alloc, grammar, automaton, table, state)?;
-            write_cell_lines(alloc, text, grammar, table, state, holes.as_slice())
+            write_cell_lines(text, grammar, table, state, holes.as_slice())
         }
     }
 }
 
-fn write_head(alloc: Global, text: &mut Vec<u8>, state: u32) -> Result<(), Memory>
+fn write_head(text: &mut Vec<u8>, state: u32) -> Result<(), Memory>
     ensures { OnOk result (text.new.items ≡ text.old.items ++ head_line state) }
 {
-    write_between(alloc, text, b"state ", state, b"\n")
+    write_between(text, b"state ", state, b"\n")
 }
 
 fn write_kernel<const W: usize>(
@@ -200,7 +192,6 @@ fn write_kernel<const W: usize>(
 }
 
 fn write_gotos<const W: usize>(
-    alloc: Global,
     text: &mut Vec<u8>,
     grammar: &Grammar,
     automaton: &Automaton<W>,
@@ -212,7 +203,7 @@ fn write_gotos<const W: usize>(
         ++ goto_lines grammar.now (edges_at automaton.now state)) }
 {
     let edges = automaton.edges[state as usize].as_slice();
-    write_goto_lines(alloc, text, grammar, edges)
+    write_goto_lines(text, grammar, edges)
 }
 
 fn write_state<const W: usize>(
@@ -229,10 +220,10 @@ fn write_state<const W: usize>(
         (AppendsText (IsStateText grammar.now automaton.now table.now state)
         text.old.items text.new.items) }
 {
-    write_head(alloc, text, state)?;
+    write_head(text, state)?;
     write_kernel(text, grammar, automaton, state)?;
     write_actions(alloc, text, grammar, automaton, table, state)?;
-    write_gotos(alloc, text, grammar, automaton, state)?;
+    write_gotos(text, grammar, automaton, state)?;
     Ok(())
 }
 
@@ -253,7 +244,7 @@ pub fn automaton_text<const W: usize>(
 {
     let states = automaton.kernels.len() as u32;
     let mut text = Vec::new(alloc);
-    write_title(alloc, &mut text, mode, states)?;
+    write_title(&mut text, mode, states)?;
     for state in 0..states {
         write_state(alloc, &mut text, grammar, automaton, table.table(), state)?;
     }

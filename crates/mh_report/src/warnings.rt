@@ -19,7 +19,6 @@ pub fn warning_text(
     let mut text = Vec::new(alloc);
     for conflict in conflicts {
         write_warning(
-            alloc,
             &mut text,
             grammar,
             conflict.state,

@@ -18,11 +18,10 @@ use mh_tables_core::Halting;
 use std::alloc::Global;
 
 #[tactic(auto, unfolding(crate::specs::Comments::state_comment))]
-fn write_state(alloc: Global, text: &mut Vec<u8>, state: u32) -> Result<(), Memory>
+fn write_state(text: &mut Vec<u8>, state: u32) -> Result<(), Memory>
     ensures { OnOk result (text.new.items ≡ text.old.items ++ state_comment state) }
 {
     write_between(
-        alloc,
         text,
         b"##\n## Ends in an error in state: ",
         state,
@@ -108,7 +107,6 @@ fn farthest<const W: usize>(items: &[KernelItem<W>]) -> &KernelItem<W>
 /// Appends the comment lines of a state with these items; `reduced` has the productions reduced since the last shift.
 /// Fails only if memory runs out.
 pub fn write_comments<const W: usize>(
-    alloc: Global,
     text: &mut Vec<u8>,
     grammar: &Grammar,
     state: u32,
@@ -121,7 +119,7 @@ pub fn write_comments<const W: usize>(
     ensures { OnOk result (AppendsComments grammar.now items.now state reduced.now text.old.items text.new.items) }
 {
     let item = farthest(items);
-    write_state(alloc, text, state)?;
+    write_state(text, state)?;
     write_item_lines(text, grammar, b"## ", items)?;
     write_suffix(text, grammar, item.production, item.dot)?;
     write_all_reduced(text, grammar, reduced)?;
@@ -151,7 +149,7 @@ pub fn comment_lines<const W: usize>(
     };
     let items = automaton.kernels[state as usize].items.as_slice();
     let mut text = Vec::new(alloc);
-    write_comments(alloc, &mut text, grammar, state, items, reduced.as_slice())?;
+    write_comments(&mut text, grammar, state, items, reduced.as_slice())?;
     Ok(text)
 }
 

@@ -9,10 +9,10 @@ use mh_resolve_cells::ConflictKind;
 use std::alloc::Global;
 
 #[tactic(auto, unfolding(crate::specs::Warnings::conflict_place))]
-fn write_place(alloc: Global, text: &mut Vec<u8>, state: u32) -> Result<(), Memory>
+fn write_place(text: &mut Vec<u8>, state: u32) -> Result<(), Memory>
     ensures { OnOk result (text.new.items ≡ text.old.items ++ conflict_place state) }
 {
-    write_between(alloc, text, b"conflict in state ", state, b" on ")
+    write_between(text, b"conflict in state ", state, b" on ")
 }
 
 #[tactic(auto, unfolding(crate::specs::Warnings::warning_title))]
@@ -26,7 +26,6 @@ fn write_title(text: &mut Vec<u8>) -> Result<(), Memory>
 /// Appends the line on a conflict of this kind, or nothing if precedence levels solve the conflict. Fails only if
 /// memory runs out; a part of the line may be written then.
 pub fn write_conflict(
-    alloc: Global,
     text: &mut Vec<u8>,
     grammar: &Grammar,
     state: u32,
@@ -39,13 +38,12 @@ pub fn write_conflict(
     match kind {
         ConflictKind::Solved => Ok(()),
         ConflictKind::Unsolved => {
-            write_place(alloc, text, state)?;
+            write_place(text, state)?;
             text.extend_from_slice(look_name(grammar, look))?;
             text.push(b'\n')?;
             Ok(())
         }
         ConflictKind::Stream => write_between(
-            alloc,
             text,
             b"end-of-stream conflict in state ",
             state,
@@ -57,7 +55,6 @@ pub fn write_conflict(
 /// Appends the warning on a conflict of this kind, or nothing if precedence levels solve the conflict. Fails only if
 /// memory runs out; a part of the line may be written then.
 pub fn write_warning(
-    alloc: Global,
     text: &mut Vec<u8>,
     grammar: &Grammar,
     state: u32,
@@ -71,7 +68,7 @@ pub fn write_warning(
         ConflictKind::Solved => {}
         ConflictKind::Unsolved | ConflictKind::Stream => {
             write_title(text)?;
-            write_conflict(alloc, text, grammar, state, look, kind)?;
+            write_conflict(text, grammar, state, look, kind)?;
         }
     }
     Ok(())

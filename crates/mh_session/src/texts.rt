@@ -27,35 +27,30 @@ fn phase_word(phase: Phase) -> &'static [u8]
 }
 
 /// Appends the state of a phase, and its token or production, each after a space.
-fn write_phase_details(
-    alloc: Global,
-    text: &mut Vec<u8>,
-    grammar: &Grammar,
-    phase: Phase,
-) -> Result<(), Memory>
+fn write_phase_details(text: &mut Vec<u8>, grammar: &Grammar, phase: Phase) -> Result<(), Memory>
     ensures { OnOk result (text.new.items ≡ text.old.items ++ phase_details grammar.now phase) }
 {
     match phase {
         Phase::InputNeeded { state } => {
             text.push(b' ')?;
-            write_number(alloc, text, state)
+            write_number(text, state)
         }
         Phase::Shifting { state, token } => {
             text.push(b' ')?;
-            write_number(alloc, text, state)?;
+            write_number(text, state)?;
             text.push(b' ')?;
             text.extend_from_slice(token_name(grammar, token))?;
             Ok(())
         }
         Phase::AboutToReduce { state, production } => {
             text.push(b' ')?;
-            write_number(alloc, text, state)?;
+            write_number(text, state)?;
             text.push(b' ')?;
             write_production(text, grammar, production)
         }
         Phase::HandlingError { state } => {
             text.push(b' ')?;
-            write_number(alloc, text, state)
+            write_number(text, state)
         }
         Phase::Accepted => Ok(()),
         Phase::Rejected => Ok(()),
@@ -63,17 +58,12 @@ fn write_phase_details(
 }
 
 /// Appends the word of a phase and its details.
-fn write_phase(
-    alloc: Global,
-    text: &mut Vec<u8>,
-    grammar: &Grammar,
-    phase: Phase,
-) -> Result<(), Memory>
+fn write_phase(text: &mut Vec<u8>, grammar: &Grammar, phase: Phase) -> Result<(), Memory>
     ensures { OnOk result (text.new.items ≡ text.old.items ++ codes " " ++ word_of phase ++ phase_details grammar.now phase ++ codes "\n") }
 {
     text.push(b' ')?;
     text.extend_from_slice(phase_word(phase))?;
-    write_phase_details(alloc, text, grammar, phase)?;
+    write_phase_details(text, grammar, phase)?;
     text.push(b'\n')?;
     Ok(())
 }
@@ -99,10 +89,10 @@ fn write_reply(
 {
     text.extend_from_slice(name)?;
     match reply {
-        Reply::Phase(phase) => write_phase(alloc, text, grammar, *phase)?,
+        Reply::Phase(phase) => write_phase(text, grammar, *phase)?,
         Reply::Fed { shifted, phase } => {
             write_shifted(alloc, text, *shifted)?;
-            write_phase(alloc, text, grammar, *phase)?;
+            write_phase(text, grammar, *phase)?;
         }
         Reply::Stack(symbols) => {
             text.extend_from_slice(b" stack")?;

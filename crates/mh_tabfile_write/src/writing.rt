@@ -33,29 +33,29 @@ fn write_word(text: &mut Vec<u8>, word: &[u8]) -> Result<(), Memory>
 }
 
 /// Appends a space and a number.
-fn write_numeral(alloc: Global, text: &mut Vec<u8>, number: u32) -> Result<(), Memory>
+fn write_numeral(text: &mut Vec<u8>, number: u32) -> Result<(), Memory>
     ensures { OnOk result (text.new.items ≡ text.old.items ++ 32 ∷ decimal number) }
 {
     text.push(b' ')?;
-    write_number(alloc, text, number)
+    write_number(text, number)
 }
 
 /// Appends a line of a keyword and a number.
-fn write_count(alloc: Global, text: &mut Vec<u8>, key: &[u8], count: u32) -> Result<(), Memory>
+fn write_count(text: &mut Vec<u8>, key: &[u8], count: u32) -> Result<(), Memory>
     ensures { OnOk result (text.new.items ≡ text.old.items ++ line_written (count_line key.now count)) }
 {
     text.extend_from_slice(key)?;
-    write_numeral(alloc, text, count)?;
+    write_numeral(text, count)?;
     text.push(b'\n')?;
     Ok(())
 }
 
-fn write_version(alloc: Global, text: &mut Vec<u8>, version: u32, mode: &[u8]) -> Result<(), Memory>
+fn write_version(text: &mut Vec<u8>, version: u32, mode: &[u8]) -> Result<(), Memory>
     ensures { OnOk result (text.new.items ≡ text.old.items
         ++ line_written (codes "menhir-tables" ∷ decimal version ∷ mode.now ∷ [])) }
 {
     text.extend_from_slice(b"menhir-tables")?;
-    write_numeral(alloc, text, version)?;
+    write_numeral(text, version)?;
     write_word(text, mode)?;
     text.push(b'\n')?;
     Ok(())
@@ -71,12 +71,12 @@ fn write_token_names(text: &mut Vec<u8>, tokens: &[TokenInfo]) -> Result<(), Mem
     Ok(())
 }
 
-fn write_token_costs(alloc: Global, text: &mut Vec<u8>, tokens: &[TokenInfo]) -> Result<(), Memory>
+fn write_token_costs(text: &mut Vec<u8>, tokens: &[TokenInfo]) -> Result<(), Memory>
     ensures { OnOk result (text.new.items ≡ text.old.items
         ++ words_after (map decimal (costs_of tokens.now))) }
 {
     for token in tokens {
-        write_numeral(alloc, text, token.cost)?;
+        write_numeral(text, token.cost)?;
     }
     Ok(())
 }
@@ -130,12 +130,12 @@ fn write_tokens(text: &mut Vec<u8>, tokens: &[TokenInfo]) -> Result<(), Memory>
     Ok(())
 }
 
-fn write_costs(alloc: Global, text: &mut Vec<u8>, tokens: &[TokenInfo]) -> Result<(), Memory>
+fn write_costs(text: &mut Vec<u8>, tokens: &[TokenInfo]) -> Result<(), Memory>
     ensures { OnOk result (text.new.items ≡ text.old.items
         ++ line_written (codes "costs" ∷ map decimal (costs_of tokens.now))) }
 {
     text.extend_from_slice(b"costs")?;
-    write_token_costs(alloc, text, tokens)?;
+    write_token_costs(text, tokens)?;
     text.push(b'\n')?;
     Ok(())
 }
@@ -180,7 +180,6 @@ fn write_productions(
 }
 
 fn write_item<const W: usize>(
-    alloc: Global,
     text: &mut Vec<u8>,
     grammar: &Grammar,
     item: &KernelItem<W>,
@@ -190,15 +189,14 @@ fn write_item<const W: usize>(
         ++ line_written (item_line (raw_item grammar.now item.now))) }
 {
     text.extend_from_slice(b"item")?;
-    write_numeral(alloc, text, item.production)?;
-    write_numeral(alloc, text, item.dot)?;
+    write_numeral(text, item.production)?;
+    write_numeral(text, item.dot)?;
     write_looks(text, grammar, &item.looks)?;
     text.push(b'\n')?;
     Ok(())
 }
 
 fn write_items<const W: usize>(
-    alloc: Global,
     text: &mut Vec<u8>,
     grammar: &Grammar,
     items: &[KernelItem<W>],
@@ -208,63 +206,46 @@ fn write_items<const W: usize>(
         ++ lines_written (map item_line (map (raw_item grammar.now) items.now))) }
 {
     for item in items {
-        write_item(alloc, text, grammar, item)?;
+        write_item(text, grammar, item)?;
     }
     Ok(())
 }
 
-fn write_edge(
-    alloc: Global,
-    text: &mut Vec<u8>,
-    grammar: &Grammar,
-    edge: &Edge,
-) -> Result<(), Memory>
+fn write_edge(text: &mut Vec<u8>, grammar: &Grammar, edge: &Edge) -> Result<(), Memory>
     ensures { OnOk result (text.new.items ≡ text.old.items
         ++ line_written (edge_line (raw_edge grammar.now edge.now))) }
 {
     text.extend_from_slice(b"edge")?;
     write_word(text, symbol_name(grammar, edge.symbol))?;
-    write_numeral(alloc, text, edge.target)?;
+    write_numeral(text, edge.target)?;
     text.push(b'\n')?;
     Ok(())
 }
 
-fn write_edges(
-    alloc: Global,
-    text: &mut Vec<u8>,
-    grammar: &Grammar,
-    edges: &[Edge],
-) -> Result<(), Memory>
+fn write_edges(text: &mut Vec<u8>, grammar: &Grammar, edges: &[Edge]) -> Result<(), Memory>
     ensures { OnOk result (text.new.items ≡ text.old.items
         ++ lines_written (map edge_line (map (raw_edge grammar.now) edges.now))) }
 {
     for edge in edges {
-        write_edge(alloc, text, grammar, edge)?;
+        write_edge(text, grammar, edge)?;
     }
     Ok(())
 }
 
 /// Appends the line of a cell that shifts or reduces.
-fn write_acting(
-    alloc: Global,
-    text: &mut Vec<u8>,
-    name: &[u8],
-    verb: &[u8],
-    number: u32,
-) -> Result<(), Memory>
+fn write_acting(text: &mut Vec<u8>, name: &[u8], verb: &[u8], number: u32) -> Result<(), Memory>
     ensures { OnOk result (text.new.items ≡ text.old.items
         ++ line_written (codes "cell" ∷ name.now ∷ verb.now ∷ decimal number ∷ [])) }
 {
     text.extend_from_slice(b"cell")?;
     write_word(text, name)?;
     write_word(text, verb)?;
-    write_numeral(alloc, text, number)?;
+    write_numeral(text, number)?;
     text.push(b'\n')?;
     Ok(())
 }
 
 fn write_cell(
-    alloc: Global,
     text: &mut Vec<u8>,
     grammar: &Grammar,
     token: Token,
@@ -275,14 +256,13 @@ fn write_cell(
 {
     let name = token_name(grammar, token);
     match action {
-        Action::Shift(target) => write_acting(alloc, text, name, b"shift", target),
-        Action::Reduce(production) => write_acting(alloc, text, name, b"reduce", production),
+        Action::Shift(target) => write_acting(text, name, b"shift", target),
+        Action::Reduce(production) => write_acting(text, name, b"reduce", production),
         Action::Refuse => Ok(()),
     }
 }
 
 fn write_cells(
-    alloc: Global,
     text: &mut Vec<u8>,
     grammar: &Grammar,
     table: &Table,
@@ -294,12 +274,12 @@ fn write_cells(
 {
     table.facts();
     for token in 0..table.tokens() {
-        write_cell(alloc, text, grammar, token, table.action(state, token))?;
+        write_cell(text, grammar, token, table.action(state, token))?;
     }
     Ok(())
 }
 
-fn write_fallback(alloc: Global, text: &mut Vec<u8>, fallback: Fallback) -> Result<(), Memory>
+fn write_fallback(text: &mut Vec<u8>, fallback: Fallback) -> Result<(), Memory>
     ensures { OnOk result (text.new.items ≡ text.old.items ++ line_written (fallback_line fallback)) }
 {
     match fallback {
@@ -307,14 +287,13 @@ fn write_fallback(alloc: Global, text: &mut Vec<u8>, fallback: Fallback) -> Resu
             text.extend_from_slice(b"default accept\n")?;
             Ok(())
         }
-        Fallback::Reduce(production) => write_count(alloc, text, b"default reduce", production),
+        Fallback::Reduce(production) => write_count(text, b"default reduce", production),
     }
 }
 
 /// Appends the default action of a state, or its cells if it has no default action.
 #[tactic(auto, unfolding(mh_tables_core::specs::Table::fallback_of))]
 fn write_actions(
-    alloc: Global,
     text: &mut Vec<u8>,
     grammar: &Grammar,
     table: &Table,
@@ -325,13 +304,12 @@ fn write_actions(
         ++ lines_written (cells_lines (raw_cells grammar.now (state_at table.now state)))) }
 {
     match table.fallback(state) {
-        Some(fallback) => write_fallback(alloc, text, fallback),
-        None => write_cells(alloc, text, grammar, table, state),
+        Some(fallback) => write_fallback(text, fallback),
+        None => write_cells(text, grammar, table, state),
     }
 }
 
 fn write_state<const W: usize>(
-    alloc: Global,
     text: &mut Vec<u8>,
     grammar: &Grammar,
     automaton: &Automaton<W>,
@@ -348,20 +326,14 @@ fn write_state<const W: usize>(
         (state_at table.now state)))) }
 {
     let place = state as usize;
-    write_count(alloc, text, b"state", state)?;
-    write_items(
-        alloc,
-        text,
-        grammar,
-        automaton.kernels[place].items.as_slice(),
-    )?;
-    write_edges(alloc, text, grammar, automaton.edges[place].as_slice())?;
-    write_actions(alloc, text, grammar, table, state)?;
+    write_count(text, b"state", state)?;
+    write_items(text, grammar, automaton.kernels[place].items.as_slice())?;
+    write_edges(text, grammar, automaton.edges[place].as_slice())?;
+    write_actions(text, grammar, table, state)?;
     Ok(())
 }
 
 fn write_states<const W: usize>(
-    alloc: Global,
     text: &mut Vec<u8>,
     grammar: &Grammar,
     automaton: &Automaton<W>,
@@ -375,7 +347,7 @@ fn write_states<const W: usize>(
         (raw_states grammar.now automaton.now.kernels automaton.now.edges table.now.states))) }
 {
     for state in 0..table.states() {
-        write_state(alloc, text, grammar, automaton, table, state)?;
+        write_state(text, grammar, automaton, table, state)?;
     }
     Ok(())
 }
@@ -395,13 +367,12 @@ pub fn write_tables<const W: usize>(
         ≡ table_text (raw_of grammar.now automaton.now mode table.now.states)) }
 {
     let mut text = Vec::new(alloc);
-    write_all(alloc, &mut text, grammar, automaton, table, mode)?;
+    write_all(&mut text, grammar, automaton, table, mode)?;
     Ok(text)
 }
 
 /// Writes the file into an empty text.
 fn write_all<const W: usize>(
-    alloc: Global,
     text: &mut Vec<u8>,
     grammar: &Grammar,
     automaton: &Automaton<W>,
@@ -415,14 +386,14 @@ fn write_all<const W: usize>(
 {
     let productions = grammar.productions.as_slice();
     let tokens = grammar.tokens.as_slice();
-    write_version(alloc, text, 2, mode_name(mode))?;
+    write_version(text, 2, mode_name(mode))?;
     write_tokens(text, tokens)?;
-    write_costs(alloc, text, tokens)?;
+    write_costs(text, tokens)?;
     write_starts(text, grammar)?;
-    write_count(alloc, text, b"productions", productions.len() as u32)?;
+    write_count(text, b"productions", productions.len() as u32)?;
     write_productions(text, grammar, productions)?;
-    write_count(alloc, text, b"states", table.states())?;
-    write_states(alloc, text, grammar, automaton, table)?;
+    write_count(text, b"states", table.states())?;
+    write_states(text, grammar, automaton, table)?;
     text.extend_from_slice(b"end\n")?;
     Ok(())
 }

@@ -35,19 +35,14 @@ use mh_tree::print_tree;
 use std::alloc::Global;
 
 /// Appends the message of a state, or the line for a state without a message.
-fn write_message(
-    alloc: Global,
-    text: &mut Vec<u8>,
-    messages: &Compiled,
-    state: u32,
-) -> Result<(), Memory>
+fn write_message(text: &mut Vec<u8>, messages: &Compiled, state: u32) -> Result<(), Memory>
     ensures { OnOk result (text.new.items ≡ text.old.items ++ message_or_none state (message_at messages.now state)) }
 {
     match messages.message(state) {
         Some(message) => text.extend_from_slice(message)?,
         None => {
             text.extend_from_slice(b"no message for state ")?;
-            write_number(alloc, text, state)?;
+            write_number(text, state)?;
             text.push(b'\n')?;
         }
     }
@@ -83,7 +78,7 @@ fn refusal_text(alloc: Global, messages: &Option<Compiled>, state: u32) -> Resul
 {
     let mut text = b"REJECT\n".to_vec(alloc)?;
     if let Some(messages) = messages {
-        write_message(alloc, &mut text, messages, state)?;
+        write_message(&mut text, messages, state)?;
     }
     Ok(text)
 }
