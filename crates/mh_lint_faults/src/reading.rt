@@ -40,7 +40,7 @@ fn put_syntax_fault(
     ensures { OnOk result (lines_of findings.new.items ≡ lines_of findings.old.items ++ line (positions.InFile file start) (codes "syntax error") ∷ []) }
 {
     let at = Position::InFile { file, start };
-    findings.push(finding_at(alloc, at, b"syntax error", b"")?)?;
+    findings.push(finding_at(alloc, at, b"syntax error")?)?;
     Ok(())
 }
 

@@ -1,5 +1,5 @@
 //! The types of findings.
-ghost use Rattle.std.specs.Prelude.{◌≡◌, ◌++◌, IfOk};
+ghost use Rattle.std.specs.Prelude.{◌≡◌, IfOk};
 
 use mh_grammar::{Memory, Name, Sequence};
 use std::alloc::Global;
@@ -27,13 +27,13 @@ pub struct Finding {
     pub text: Vec<u8>,
 }
 
-/// Returns the finding whose text is a text and a name after it. Fails only if memory runs out.
-pub fn finding_at(alloc: Global, at: Position, text: &[u8], name: &[u8]) -> Result<Finding, Memory>
+/// Returns the finding with a text. Fails only if memory runs out.
+pub fn finding_at(alloc: Global, at: Position, text: &[u8]) -> Result<Finding, Memory>
     ensures position { IfOk result (λ found. found.at ≡ at) }
-    ensures text { IfOk result (λ found. found.text.items ≡ text.now ++ name.now) }
+    ensures text { IfOk result (λ found. found.text.items ≡ text.now) }
 {
-    let mut whole = Vec::new(alloc);
-    whole.extend_from_slice(text)?;
-    whole.extend_from_slice(name)?;
-    Ok(Finding { at, text: whole })
+    Ok(Finding {
+        at,
+        text: Vec::from_slice(alloc, text)?,
+    })
 }
