@@ -16,17 +16,20 @@ use mh_join::join;
 use mh_rules::{Joined, Module};
 use std::alloc::Global;
 
-/// Returns the grammar of joined rules.
-fn grammar_of_joined(alloc: Global, joined: &Joined) -> Result<Grammar, GrammarFault>
-    requires { IsJoinedReady joined.now }
-    ensures grammar { IfOk result (IsGrammarOfJoined joined.now) }
-    ensures fault { IfErr result (HasCauseOrMemory (IsJoinedFault joined.now)) }
+/// Returns the grammar of joined rules. The rules are dropped when they are expanded.
+fn grammar_of_joined(alloc: Global, joined: Joined) -> Result<Grammar, GrammarFault>
+    requires { IsJoinedReady joined }
+    ensures grammar { IfOk result (IsGrammarOfJoined joined) }
+    ensures fault { IfErr result (HasCauseOrMemory (IsJoinedFault joined)) }
 {
-    match expand(alloc, joined) {
-        Ok(expanded) => match inline_rules(alloc, &expanded) {
-            Ok(grammar) => Ok(grammar),
-            Err(fault) => Err(GrammarFault::from(fault)),
-        },
+    match expand(alloc, &joined) {
+        Ok(expanded) => {
+            drop(joined);
+            match inline_rules(alloc, &expanded) {
+                Ok(grammar) => Ok(grammar),
+                Err(fault) => Err(GrammarFault::from(fault)),
+            }
+        }
         Err(fault) => Err(GrammarFault::from(fault)),
     }
 }
@@ -35,21 +38,30 @@ fn grammar_of_joined(alloc: Global, joined: &Joined) -> Result<Grammar, GrammarF
 /// rule that the starts reach is expanded to its instances, and inline instances are replaced by their alternatives.
 /// Each start symbol has the sentences of the joined rules, with their formals replaced.
 ///
+/// The modules are dropped when they are joined, since they can take more memory than all that is made of them.
+///
 /// # Errors
 ///
 /// The fault of the first stage that has one, and `Memory` if memory runs out.
-pub fn grammar_of(alloc: Global, modules: &[Module], prelude: bool) -> Result<Grammar, GrammarFault>
-    requires { AreModulesReady modules.now }
-    ensures grammar { IfOk result (IsGrammarOfModules prelude modules.now) }
-    ensures fault { IfErr result (HasCauseOrMemory (IsGrammarFault prelude modules.now)) }
+pub fn grammar_of(
+    alloc: Global,
+    modules: Vec<Module>,
+    prelude: bool,
+) -> Result<Grammar, GrammarFault>
+    requires { AreModulesReady modules.items }
+    ensures grammar { IfOk result (IsGrammarOfModules prelude modules.items) }
+    ensures fault { IfErr result (HasCauseOrMemory (IsGrammarFault prelude modules.items)) }
     ensures tokens { IfOk result (λ g. length g.tokens ≤ max_tokens) }
     ensures range { IfOk result (λ g. IsInRange (plain_of g)) }
     ensures costs { IfOk result (λ g. HaveCosts g.tokens) }
     ensures distinct { IfOk result (λ g. AreDistinct g.starts) }
-    ensures sentences { IfOk result (HasSentencesOfModules prelude modules.now) }
+    ensures sentences { IfOk result (HasSentencesOfModules prelude modules.items) }
 {
-    match join(alloc, modules, prelude) {
-        Ok(joined) => grammar_of_joined(alloc, &joined),
+    match join(alloc, modules.as_slice(), prelude) {
+        Ok(joined) => {
+            drop(modules);
+            grammar_of_joined(alloc, joined)
+        }
         Err(fault) => Err(GrammarFault::from(fault)),
     }
 }

@@ -19,6 +19,7 @@ use mh_rules::{
 };
 use std::alloc::Global;
 use std::collections::HashSet;
+use std::mem;
 
 /// The place of a reference: the file and the formals that determine its meaning.
 #[derive(Clone, Copy)]
@@ -269,6 +270,17 @@ fn add_alternatives(
     Ok(())
 }
 
+/// Gives a list without items the memory for just this number of items.
+fn make_room<T: Drop>(alloc: Global, list: &mut Sequence<T>, count: usize) -> Result<(), Memory>
+    ensures { list.new ≡ list.old }
+{
+    if list.is_empty() {
+        let room = Vec::with_capacity(alloc, count)?;
+        drop(mem::replace(list, Sequence::from_vec(room)));
+    }
+    Ok(())
+}
+
 /// Appends the alternatives of a definition to the list of its rule's alternatives.
 fn add_definition(
     alloc: Global,
@@ -286,6 +298,7 @@ fn add_definition(
         (meant_by (meanings_in names.now) definition.now.file (formal_number definition.now.rule.now.formals)))
         (enumerate_from definition.now.place definition.now.rule.now.alternatives)) }
 {
+    make_room(alloc, joined, definition.rule.alternatives.len())?;
     let formals = formals_of(alloc, definition.rule.formals.as_slice())?;
     let scope = Scope {
         names,

@@ -14,7 +14,7 @@ use crate::parser_states::{
     ActualPurpose, OpenActual, OpenList, ParseFault, Parser, ParserState, RuleDraft, go_to,
     no_memory, unexpected,
 };
-use crate::rules::{at_spaced, reference};
+use crate::rules::{at_spaced, fitted, reference};
 use crate::stack::Stack;
 use crate::token_kinds::TokenKind;
 use mh_grammar::{Memory, Name, Sequence, from_bytes, lost};
@@ -171,7 +171,7 @@ fn after_argument(
                 let depth = inner.depth + 1;
                 let actual = Actual {
                     head: inner.head,
-                    args: inner.args,
+                    args: fitted(inner.args),
                 };
                 go_to(made, ParserState::After(purpose, rest, actual, depth))
             }

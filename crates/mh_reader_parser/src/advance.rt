@@ -74,7 +74,7 @@ pub(crate) fn advance(
             after(alloc, made, within, read, sign, text)
         }
         ParserState::Prec(draft) => at_prec(alloc, made, draft, sign, text),
-        ParserState::Closed(draft) => at_closed(alloc, made, draft, sign),
+        ParserState::Closed(draft) => at_closed(made, draft, sign),
         ParserState::Group(draft) => at_group(alloc, made, draft, sign, text),
         ParserState::GroupPrec(draft) => at_group_prec(alloc, made, draft, sign, text),
         ParserState::GroupClosed(rule) => after_group(alloc, made, rule, sign, text),

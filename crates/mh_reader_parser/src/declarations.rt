@@ -7,6 +7,7 @@ ghost use Rattle.mh_reader_parser.specs.code.ParserSteps.{AgreesWithStep};
 use crate::parser_states::{
     ActualPurpose, OpenList, ParseFault, Parser, ParserState, go_to, no_memory, unexpected,
 };
+use crate::rules::fitted;
 use crate::stack::Stack;
 use crate::token_kinds::{TokenKind, is_capital_word};
 use mh_grammar::{Memory, Name, Sequence, from_bytes, lost};
@@ -33,7 +34,7 @@ fn add_on_error(mut made: Module, actuals: Sequence<Actual>) -> Result<Module, M
     }
 }
 
-/// Returns the module after the list has ended.
+/// Returns the module after the list has ended. The list takes memory for its items alone.
 fn close(made: Module, listing: OpenList) -> Result<Module, Memory>
     ensures { IfOk result (λ m. m ≡ machine.close made listing) }
 {
@@ -46,8 +47,11 @@ fn close(made: Module, listing: OpenList) -> Result<Module, Memory>
             drop(actuals);
             Ok(made)
         }
-        OpenList::Levels(assoc, names) => add_level(made, LevelDecl { assoc, names }),
-        OpenList::Actuals(true, actuals) => add_on_error(made, actuals),
+        OpenList::Levels(assoc, names) => {
+            let names = fitted(names);
+            add_level(made, LevelDecl { assoc, names })
+        }
+        OpenList::Actuals(true, actuals) => add_on_error(made, fitted(actuals)),
     }
 }
 

@@ -14,6 +14,9 @@ use mh_rules::{Alternative, Module, Ref, Rule};
 use std::alloc::Global;
 use std::mem;
 
+/// The greatest number of items that are moved to a list of their own.
+const MOST_MOVED: usize = 16;
+
 /// Converts a word or a string to a reference to a symbol.
 pub(crate) fn reference(alloc: Global, sign: TokenKind, text: &[u8]) -> Result<Ref, ParseFault>
     ensures { AgreesWithStep (ref_by sign text.now) result }
@@ -194,7 +197,7 @@ fn draft_of(alloc: Global, rule: Rule) -> RuleDraft
 }
 
 /// The same list, in memory for just its items.
-fn fitted<T>(list: Sequence<T>) -> Sequence<T>
+pub(crate) fn fitted<T>(list: Sequence<T>) -> Sequence<T>
     ensures { result ≡ list }
 {
     let mut items = list.into_vec();
@@ -202,8 +205,51 @@ fn fitted<T>(list: Sequence<T>) -> Sequence<T>
     Sequence::from_vec(items)
 }
 
-/// The draft after a production. Its producers take memory for themselves alone, since a file can have millions of
-/// productions.
+/// Takes the items out of a list. They take memory for themselves alone. The list keeps its own memory for the items
+/// that come next, unless it has many items, since moving them would take memory twice.
+fn taken<T: Drop>(alloc: Global, list: &mut Sequence<T>) -> Result<Sequence<T>, Memory>
+    ensures items { IfOk result (λ items. items ≡ list.old) }
+    ensures left { OnOk result (list.new ≡ []) }
+{
+    let mut all = mem::replace(list, Sequence::new(alloc)).into_vec();
+    if all.len() > MOST_MOVED {
+        return Ok(fitted(Sequence::from_vec(all)));
+    }
+    match moved(alloc, &mut all) {
+        Ok(items) => {
+            *list = Sequence::from_vec(all);
+            Ok(items)
+        }
+        Err(_) => Err(lost(all)),
+    }
+}
+
+/// Moves all items of a list to a new one, in memory for just these items.
+fn moved<T: Drop>(alloc: Global, all: &mut Vec<T>) -> Result<Sequence<T>, Memory>
+    ensures items { IfOk result (λ items. items ≡ all.old.items) }
+    ensures left { OnOk result (all.new.items ≡ []) }
+{
+    let mut items = Vec::with_capacity(alloc, all.len())?;
+    match items.append(all) {
+        Ok(()) => Ok(Sequence::from_vec(items)),
+        Err(_) => Err(lost(items)),
+    }
+}
+
+/// Ends a production. Its producers take memory for themselves alone, since a file can have millions of productions.
+fn put_production(alloc: Global, draft: &mut RuleDraft, prec: Option<Ref>) -> Result<(), Memory>
+    ensures { OnOk result (draft.new ≡ with_production draft.old prec) }
+{
+    match taken(alloc, &mut draft.producers) {
+        Ok(producers) => {
+            draft.productions.push(Alternative { producers, prec })?;
+            Ok(())
+        }
+        Err(_) => Err(lost(prec)),
+    }
+}
+
+/// The draft after a production.
 fn end_production(
     alloc: Global,
     mut draft: RuleDraft,
@@ -211,8 +257,7 @@ fn end_production(
 ) -> Result<RuleDraft, Memory>
     ensures { IfOk result (λ d. d ≡ with_production draft prec) }
 {
-    let producers = fitted(mem::replace(&mut draft.producers, Sequence::new(alloc)));
-    match draft.productions.push(Alternative { producers, prec }) {
+    match put_production(alloc, &mut draft, prec) {
         Ok(()) => Ok(draft),
         Err(_) => Err(lost(draft)),
     }
@@ -229,7 +274,7 @@ fn end_without_prec(
     ensures { AgreesWithStep (machine.after_prec made (with_production draft None) sign) result }
 {
     match end_production(alloc, draft, None) {
-        Ok(draft) => at_closed(alloc, made, draft, sign),
+        Ok(draft) => at_closed(made, draft, sign),
         Err(_) => no_memory(made),
     }
 }
@@ -318,17 +363,26 @@ pub(crate) fn at_prec(
     }
 }
 
-/// The draft at the beginning of a production.
-fn without_producers(alloc: Global, mut draft: RuleDraft) -> RuleDraft
+/// The draft at the beginning of a production. The list of producers keeps its memory.
+fn without_producers(draft: RuleDraft) -> RuleDraft
     ensures { result ≡ record draft { producers = [] } }
 {
-    drop(mem::replace(&mut draft.producers, Sequence::new(alloc)));
-    draft
+    let RuleDraft {
+        rule,
+        productions,
+        producers,
+    } = draft;
+    let mut items = producers.into_vec();
+    items.clear();
+    RuleDraft {
+        rule,
+        productions,
+        producers: Sequence::from_vec(items),
+    }
 }
 
 /// Takes a lexeme after a production with a `%prec`.
 pub(crate) fn at_closed(
-    alloc: Global,
     made: Module,
     draft: RuleDraft,
     sign: TokenKind,
@@ -336,10 +390,7 @@ pub(crate) fn at_closed(
     ensures { AgreesWithStep (machine.after_prec made draft sign) result }
 {
     match sign {
-        TokenKind::Bar => go_to(
-            made,
-            ParserState::Production(without_producers(alloc, draft)),
-        ),
+        TokenKind::Bar => go_to(made, ParserState::Production(without_producers(draft))),
         TokenKind::Action => go_to(made, ParserState::Group(draft)),
         _ => unexpected((made, draft)),
     }

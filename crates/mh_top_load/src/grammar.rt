@@ -58,8 +58,12 @@ pub(crate) fn grammar_in(
     ensures distinct_names { IfOk result AreTokenNamesDistinct }
     ensures names { IfOk result HasFileNames }
 {
-    match grammar_of(alloc, &modules, prelude) {
+    match grammar_of(alloc, modules, prelude) {
         Ok(grammar) => Ok(grammar),
-        Err(fault) => Err(stop_of(alloc, &fault)),
+        Err(fault) => {
+            let stop = stop_of(alloc, &fault);
+            drop(fault);
+            Err(stop)
+        }
     }
 }

@@ -48,8 +48,8 @@ pub fn put_line(alloc: Global, text: &mut Vec<u8>, fault: &GrammarFault) {
     }
 }
 
-fn put_answer(alloc: Global, text: &mut Vec<u8>, modules: &[Module], prelude: bool)
-    requires { AreModulesReady modules.now }
+fn put_answer(alloc: Global, text: &mut Vec<u8>, modules: Vec<Module>, prelude: bool)
+    requires { AreModulesReady modules.items }
 {
     match grammar_of(alloc, modules, prelude) {
         Ok(grammar) => {
@@ -71,12 +71,11 @@ pub fn put_front(
     prelude: bool,
 ) -> Result<(), Fail> {
     let modules = modules_of(alloc, files)?;
-    put_answer(alloc, text, modules.as_slice(), prelude);
-    drop(modules);
+    put_answer(alloc, text, modules, prelude);
     Ok(())
 }
 
-/// Grammar files and their grammars or faults.
+/// Grammar files and their grammars or faults. Names of at most 16 bytes are kept in another way than longer ones.
 fn cases() -> &'static str {
     "%start s %% s: A {}~undefined: A^\
      %token A %start s %% s: A {} t: A {} t: A {}~duplicate: t^\
@@ -94,6 +93,11 @@ fn cases() -> &'static str {
      COMMA X Y EOF main list(Y) loption(separated_nonempty_list(COMMA,X)) separated_nonempty_list(COMMA,X) >0 \
      n0:n2n1t3 n1:t2t2 n2: n2:n3 n3:t1 n3:t1t0n3^\
      %token A EOF %start s %% s: A EOF {}~A EOF s >0 n0:t0t1^\
+     %token FIFTEEN_LETTERS SIXTEEN__LETTERS SEVENTEEN_LETTERS EOF %start s %% \
+     s: SEVENTEEN_LETTERS seventeen_letters EOF {} seventeen_letters: SIXTEEN__LETTERS seventeen_letterz {} \
+     seventeen_letterz: FIFTEEN_LETTERS sixteen__letters {} sixteen__letters: SEVENTEEN_LETTERS {}~\
+     FIFTEEN_LETTERS SIXTEEN__LETTERS SEVENTEEN_LETTERS EOF s seventeen_letters seventeen_letterz sixteen__letters >0 \
+     n0:t2n1t3 n1:t1n2 n2:t0n3 n3:t2^\
      %token X Y EOF %start main %% main: unit nonempty_list(item) EOF {} %public item: X {} unit: {}#\
      %% %public item: Y {} unit: Y {}~\
      X Y EOF main unit@1 nonempty_list(item) item >0 n0:n1n2t2 n3:t0 n1: n3:t1 n2:n3 n2:n3n2"
@@ -135,7 +139,7 @@ const WITHOUT_PRELUDE: &str = "%token A %start s %% s: option(A) {}~undefined: o
 #[test]
 fn fronts(rt: HostRuntime) -> Result<(), Fail> {
     let alloc = rt.alloc();
-    check_cases(alloc, &Subject::Front(true), cases(), 14)?;
+    check_cases(alloc, &Subject::Front(true), cases(), 15)?;
     check_many_tokens(alloc)?;
     check_long_production(alloc)?;
     check_cases(alloc, &Subject::Front(false), WITHOUT_PRELUDE, 1)?;

@@ -12,34 +12,34 @@ use Rattle.mh_front.proofs.front.grammar_of.Goals as goal
 
 pub returns-in-Ok-clause-tokens : goal.returns-in-Ok-clause-tokens
 returns-in-Ok-clause-tokens c =
-    let ms = c.args.modules.now in
-    IfOk-weaker c.grammar_of_joined.result (IsGrammarOfJoined c.in-Ok.joined) (λ g. length g.tokens ≤ max_tokens) (λ g o. one.few_tokens c.args.prelude ms g c.requires (record { joined = c.in-Ok.joined; joins = c.in-Ok.ensures.joins; grammar = o })) c.grammar_of_joined.ensures.grammar
+    let ms = c.args.modules.items in
+    IfOk-weaker c.grammar_of_joined.result (IsGrammarOfJoined c.in-Ok.joined) (λ g. length g.tokens ≤ max_tokens) (λ g o. one.few_tokens c.args.prelude ms g c.requires (record { joined = c.in-Ok.joined; joins = (rw c.as_slice.ensures.value at c.in-Ok.ensures.joins); grammar = o })) c.grammar_of_joined.ensures.grammar
 
 pub returns-in-Ok-clause-range : goal.returns-in-Ok-clause-range
 returns-in-Ok-clause-range c =
-    let ms = c.args.modules.now in
-    IfOk-weaker c.grammar_of_joined.result (IsGrammarOfJoined c.in-Ok.joined) (λ g. IsInRange (plain_of g)) (λ g o. one.in_range c.args.prelude ms g c.requires (record { joined = c.in-Ok.joined; joins = c.in-Ok.ensures.joins; grammar = o })) c.grammar_of_joined.ensures.grammar
+    let ms = c.args.modules.items in
+    IfOk-weaker c.grammar_of_joined.result (IsGrammarOfJoined c.in-Ok.joined) (λ g. IsInRange (plain_of g)) (λ g o. one.in_range c.args.prelude ms g c.requires (record { joined = c.in-Ok.joined; joins = (rw c.as_slice.ensures.value at c.in-Ok.ensures.joins); grammar = o })) c.grammar_of_joined.ensures.grammar
 
 pub returns-in-Ok-clause-costs : goal.returns-in-Ok-clause-costs
 returns-in-Ok-clause-costs c =
-    let ms = c.args.modules.now in
-    IfOk-weaker c.grammar_of_joined.result (IsGrammarOfJoined c.in-Ok.joined) (λ g. HaveCosts g.tokens) (λ g o. one.have_costs c.args.prelude ms g c.requires (record { joined = c.in-Ok.joined; joins = c.in-Ok.ensures.joins; grammar = o })) c.grammar_of_joined.ensures.grammar
+    let ms = c.args.modules.items in
+    IfOk-weaker c.grammar_of_joined.result (IsGrammarOfJoined c.in-Ok.joined) (λ g. HaveCosts g.tokens) (λ g o. one.have_costs c.args.prelude ms g c.requires (record { joined = c.in-Ok.joined; joins = (rw c.as_slice.ensures.value at c.in-Ok.ensures.joins); grammar = o })) c.grammar_of_joined.ensures.grammar
 
 pub returns-in-Ok-clause-distinct : goal.returns-in-Ok-clause-distinct
 returns-in-Ok-clause-distinct c =
-    let ms = c.args.modules.now in
-    IfOk-weaker c.grammar_of_joined.result (IsGrammarOfJoined c.in-Ok.joined) (λ g. AreDistinct g.starts) (λ g o. one.distinct c.args.prelude ms g c.requires (record { joined = c.in-Ok.joined; joins = c.in-Ok.ensures.joins; grammar = o })) c.grammar_of_joined.ensures.grammar
+    let ms = c.args.modules.items in
+    IfOk-weaker c.grammar_of_joined.result (IsGrammarOfJoined c.in-Ok.joined) (λ g. AreDistinct g.starts) (λ g o. one.distinct c.args.prelude ms g c.requires (record { joined = c.in-Ok.joined; joins = (rw c.as_slice.ensures.value at c.in-Ok.ensures.joins); grammar = o })) c.grammar_of_joined.ensures.grammar
 
 pub returns-in-Ok-clause-sentences : goal.returns-in-Ok-clause-sentences
 returns-in-Ok-clause-sentences c =
-    let ms = c.args.modules.now in
-    IfOk-weaker c.grammar_of_joined.result (IsGrammarOfJoined c.in-Ok.joined) (HasSentencesOfModules c.args.prelude ms) (λ g o. one.sentences c.args.prelude ms g c.requires (record { joined = c.in-Ok.joined; joins = c.in-Ok.ensures.joins; grammar = o })) c.grammar_of_joined.ensures.grammar
+    let ms = c.args.modules.items in
+    IfOk-weaker c.grammar_of_joined.result (IsGrammarOfJoined c.in-Ok.joined) (HasSentencesOfModules c.args.prelude ms) (λ g o. one.sentences c.args.prelude ms g c.requires (record { joined = c.in-Ok.joined; joins = (rw c.as_slice.ensures.value at c.in-Ok.ensures.joins); grammar = o })) c.grammar_of_joined.ensures.grammar
 
 pub returns-in-Ok-clause-grammar : goal.returns-in-Ok-clause-grammar
-returns-in-Ok-clause-grammar c = IfOk-weaker c.grammar_of_joined.result (IsGrammarOfJoined c.in-Ok.joined) (IsGrammarOfModules c.args.prelude c.args.modules.now) (λ g o. record { joined = c.in-Ok.joined; joins = c.in-Ok.ensures.joins; grammar = o }) c.grammar_of_joined.ensures.grammar
+returns-in-Ok-clause-grammar c = IfOk-weaker c.grammar_of_joined.result (IsGrammarOfJoined c.in-Ok.joined) (IsGrammarOfModules c.args.prelude c.args.modules.items) (λ g o. record { joined = c.in-Ok.joined; joins = (rw c.as_slice.ensures.value at c.in-Ok.ensures.joins); grammar = o }) c.grammar_of_joined.ensures.grammar
 
 pub returns-in-Ok-clause-fault : goal.returns-in-Ok-clause-fault
-returns-in-Ok-clause-fault c = IfErr-weaker c.grammar_of_joined.result (HasCauseOrMemory (IsJoinedFault c.in-Ok.joined)) (HasCauseOrMemory (IsGrammarFault c.args.prelude c.args.modules.now)) (λ f e. later_fault c.args.prelude c.args.modules.now c.in-Ok.joined f c.in-Ok.ensures.joins e) c.grammar_of_joined.ensures.fault
+returns-in-Ok-clause-fault c = IfErr-weaker c.grammar_of_joined.result (HasCauseOrMemory (IsJoinedFault c.in-Ok.joined)) (HasCauseOrMemory (IsGrammarFault c.args.prelude c.args.modules.items)) (λ f e. later_fault c.args.prelude c.args.modules.items c.in-Ok.joined f (rw c.as_slice.ensures.value at c.in-Ok.ensures.joins) e) c.grammar_of_joined.ensures.fault
 
 pub returns-in-Err-clause-fault : goal.returns-in-Err-clause-fault
-returns-in-Err-clause-fault c = subst (HasCauseOrMemory (IsGrammarFault c.args.prelude c.args.modules.now)) (sym c.from.ensures) (join_fault c.args.prelude c.args.modules.now c.in-Err.fault c.in-Err.ensures.joins)
+returns-in-Err-clause-fault c = subst (HasCauseOrMemory (IsGrammarFault c.args.prelude c.args.modules.items)) (sym c.from.ensures) (join_fault c.args.prelude c.args.modules.items c.in-Err.fault (rw c.as_slice.ensures.value at c.in-Err.ensures.joins))

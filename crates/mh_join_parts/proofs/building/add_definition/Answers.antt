@@ -18,4 +18,4 @@ pub returns : goal.returns
 returns c =
     let w = meanings_in c.args.names.now in
     subst (λ (g : Text → Option ℕ). OnOk c.add_alternatives-added.result (map Some c.add_alternatives-added.new.joined ≡ map Some c.args.joined.now ++ map (alternative_by w c.args.definition.now.file (meant_by w c.args.definition.now.file g)) (enumerate_from c.args.definition.now.place c.args.definition.now.rule.now.alternatives)))
-    (fun_ext (rw c.as_slice.ensures at c.in_ok-formals.ensures)) (rw c.as_slice-alternatives.ensures at c.add_alternatives-added.ensures)
+    (fun_ext (rw c.as_slice.ensures at c.in_ok-formals.ensures)) (rw c.in_ok-make_room.ensures at rw c.as_slice-alternatives.ensures at c.add_alternatives-added.ensures)
