@@ -12,8 +12,8 @@ use mh_items::Automaton;
 use mh_resolve::Mode;
 use mh_surface::{has_counts, has_edges};
 use mh_tabfile::{
-    RawCell, RawCells, RawEdge, RawItem, RawProduction, RawState, RawTable, TabFault, read_tables,
-    write_tables,
+    Names, RawCell, RawCells, RawEdge, RawItem, RawProduction, RawState, RawTable, TabFault,
+    read_tables, write_tables,
 };
 use mh_tables::{Action, Fallback, Halting};
 use mh_validate::{Reason, Valid, ValidFault, validate};
@@ -57,9 +57,23 @@ fn raw_of(alloc: Global, text: &str) -> Result<RawTable, Fail>
     }
 }
 
+/// The looks of an item: the end of the stream alone.
+fn check_looks(rt: &impl Abort, alloc: Global, looks: &Names) -> Result<(), Fail> {
+    let stream = Names::from_words(alloc, &[b"#"])?;
+    let is_same = looks.is_same(&stream);
+    drop(stream);
+    assert!(rt; is_same);
+    if looks.len() != 1 {
+        return Err(Fail::from("no look"));
+    }
+    assert!(rt; looks.at(0) == b"#".as_slice());
+    Ok(())
+}
+
 /// The content of the file for state 0: one item, two edges, and the cell of the token `A`.
-fn check_first_state(rt: &impl Abort, state: &RawState) -> Result<(), Fail> {
+fn check_first_state(rt: &impl Abort, alloc: Global, state: &RawState) -> Result<(), Fail> {
     let item: &RawItem = state.items.get(0).ok_or("no item")?;
+    check_looks(rt, alloc, &item.looks)?;
     let edge: &RawEdge = state.edges.get(0).ok_or("no edge")?;
     assert!(rt; (item.production, item.dot) == (0, 0) && edge.symbol.as_slice() == b"A".as_slice());
     let RawCells::Cells(cells) = &state.cells else {
@@ -71,11 +85,11 @@ fn check_first_state(rt: &impl Abort, state: &RawState) -> Result<(), Fail> {
 }
 
 /// The content of the file: the production `s -> A EOF`, and state 3, which has no cells, but a default action.
-fn check_raw(rt: &impl Abort, raw: &RawTable) -> Result<(), Fail> {
+fn check_raw(rt: &impl Abort, alloc: Global, raw: &RawTable) -> Result<(), Fail> {
     assert!(rt; raw.mode == Mode::Merged && raw.tokens.len() == 2 && raw.productions.len() == 1);
     let production: &RawProduction = raw.productions.get(0).ok_or("no production")?;
     assert!(rt; production.rhs.len() == 2);
-    check_first_state(rt, raw.states.get(0).ok_or("no state 0")?)?;
+    check_first_state(rt, alloc, raw.states.get(0).ok_or("no state 0")?)?;
     let last: &RawState = raw.states.get(3).ok_or("no state 3")?;
     let reduces = match last.cells {
         RawCells::Fallback(fallback) => fallback == Fallback::Reduce(1),
@@ -164,6 +178,6 @@ fn check_file(rt: &impl Abort, alloc: Global, grammar: &Grammar, raw: &RawTable)
     requires costs { HaveCosts grammar.now.tokens }
     requires small { length raw.now.states < 2 ^ 32 }
 {
-    check_raw(rt, raw)?;
+    check_raw(rt, alloc, raw)?;
     check_valid(rt, alloc, grammar, raw)
 }
