@@ -29,7 +29,10 @@ fn serve(
     ensures table { session.new.table ≡ session.old.table }
 {
     let answer = session.step(command);
-    answer_text(alloc, grammar, replying(command), &answer)
+    let text = answer_text(alloc, grammar, replying(command), &answer);
+    // The answer is dropped by one call, because the proof of drops field by field takes long.
+    drop(answer);
+    text
 }
 
 /// Returns the text that answers a line of a session on the table of a grammar; `lexicon` has the names of this
@@ -48,7 +51,15 @@ pub fn answer_line(
     ensures table { session.new.table ≡ session.old.table }
 {
     match read_command_by(alloc, lexicon, line) {
-        Ok(command) => serve(alloc, grammar, session, &command),
-        Err(fault) => command_refusal(alloc, &fault),
+        Ok(command) => {
+            let text = serve(alloc, grammar, session, &command);
+            drop(command);
+            text
+        }
+        Err(fault) => {
+            let text = command_refusal(alloc, &fault);
+            drop(fault);
+            text
+        }
     }
 }

@@ -50,6 +50,7 @@ fn answer_each(
     for command in commands {
         let answer = session.step(command);
         if lacked_memory(&answer) {
+            drop(answer);
             return Err(Memory);
         }
         so_far.push(answer)?;

@@ -1,15 +1,20 @@
 //! The texts of replies and faults. Each `write_` function appends to a text.
-ghost use Rattle.std.specs.Prelude.{◌≡◌, ◌++◌, IfOk, OnOk, codes, decimal};
-ghost use Rattle.mh_session_branches.specs.Replies.{phase_word as word_of, phase_details, reply_text, fault_text};
+ghost use Rattle.std.specs.Prelude.{◌≡◌, ◌++◌, Err, IfOk, OnOk, codes, decimal};
+ghost use Rattle.mh_session_branches.specs.Replies.{phase_word as word_of, phase_details, reply_text, fault_text, answer_text as answer_text'};
+ghost use Rattle.mh_grammar.specs.Trees.{tree_text};
+ghost use Rattle.mh_grammar_texts.specs.Productions.{spaced_symbols};
+ghost use Rattle.mh_msgfile.specs.FileTexts.{names_after};
 ghost use Rattle.mh_session.specs.code.AnswerTexts.{IsAnswerText};
 ghost use Rattle.mh_session_branches.specs.declared.reply.SessionFault.TheVariants as faults;
 
 use mh_engine::Phase;
-use mh_grammar::{Grammar, Memory, token_name};
-use mh_grammar_texts::{write_names as write_symbols, write_number, write_production};
+use mh_grammar::{Grammar, Memory, Symbol, Token, token_name};
+use mh_grammar_texts::{
+    write_between, write_names as write_symbols, write_number, write_production,
+};
 use mh_msgfile::write_names;
 use mh_session_branches::{Reply, SessionFault};
-use mh_tree::print_tree;
+use mh_tree::{Tree, print_tree};
 use std::alloc::Global;
 
 /// The word of a phase.
@@ -36,16 +41,12 @@ fn write_phase_details(text: &mut Vec<u8>, grammar: &Grammar, phase: Phase) -> R
             write_number(text, state)
         }
         Phase::Shifting { state, token } => {
-            text.push(b' ')?;
-            write_number(text, state)?;
-            text.push(b' ')?;
+            write_between(text, b" ", state, b" ")?;
             text.extend_from_slice(token_name(grammar, token))?;
             Ok(())
         }
         Phase::AboutToReduce { state, production } => {
-            text.push(b' ')?;
-            write_number(text, state)?;
-            text.push(b' ')?;
+            write_between(text, b" ", state, b" ")?;
             write_production(text, grammar, production)
         }
         Phase::HandlingError { state } => {
@@ -77,6 +78,41 @@ fn write_shifted(alloc: Global, text: &mut Vec<u8>, shifted: usize) -> Result<()
     Ok(())
 }
 
+/// Appends the symbols on a stack.
+fn write_stack(text: &mut Vec<u8>, grammar: &Grammar, symbols: &[Symbol]) -> Result<(), Memory>
+    ensures { OnOk result (text.new.items ≡ text.old.items ++ codes " stack" ++ spaced_symbols grammar.now symbols.now ++ codes "\n") }
+{
+    text.extend_from_slice(b" stack")?;
+    write_symbols(text, grammar, symbols)?;
+    text.push(b'\n')?;
+    Ok(())
+}
+
+fn write_tree(
+    alloc: Global,
+    text: &mut Vec<u8>,
+    grammar: &Grammar,
+    tree: &Tree,
+) -> Result<(), Memory>
+    ensures { OnOk result (text.new.items ≡ text.old.items ++ codes " " ++ tree_text grammar.now tree.now ++ codes "\n") }
+{
+    let shown = print_tree(alloc, grammar, tree)?;
+    text.push(b' ')?;
+    text.extend_from_slice(&shown)?;
+    text.push(b'\n')?;
+    Ok(())
+}
+
+/// Appends the names of the expected tokens.
+fn write_expected(text: &mut Vec<u8>, grammar: &Grammar, tokens: &[Token]) -> Result<(), Memory>
+    ensures { OnOk result (text.new.items ≡ text.old.items ++ codes " expected" ++ names_after grammar.now tokens.now ++ codes "\n") }
+{
+    text.extend_from_slice(b" expected")?;
+    write_names(text, grammar, tokens)?;
+    text.push(b'\n')?;
+    Ok(())
+}
+
 /// Appends the name of the branch, and then the reply.
 fn write_reply(
     alloc: Global,
@@ -89,30 +125,16 @@ fn write_reply(
 {
     text.extend_from_slice(name)?;
     match reply {
-        Reply::Phase(phase) => write_phase(text, grammar, *phase)?,
+        Reply::Phase(phase) => write_phase(text, grammar, *phase),
         Reply::Fed { shifted, phase } => {
             write_shifted(alloc, text, *shifted)?;
-            write_phase(text, grammar, *phase)?;
+            write_phase(text, grammar, *phase)
         }
-        Reply::Stack(symbols) => {
-            text.extend_from_slice(b" stack")?;
-            write_symbols(text, grammar, symbols.as_slice())?;
-            text.push(b'\n')?;
-        }
-        Reply::Tree(tree) => {
-            text.push(b' ')?;
-            let shown = print_tree(alloc, grammar, tree)?;
-            text.extend_from_slice(&shown)?;
-            text.push(b'\n')?;
-        }
-        Reply::Expected(tokens) => {
-            text.extend_from_slice(b" expected")?;
-            write_names(text, grammar, tokens.as_slice())?;
-            text.push(b'\n')?;
-        }
-        Reply::Forgotten => text.extend_from_slice(b" forgotten\n")?,
+        Reply::Stack(symbols) => write_stack(text, grammar, symbols.as_slice()),
+        Reply::Tree(tree) => write_tree(alloc, text, grammar, tree),
+        Reply::Expected(tokens) => write_expected(text, grammar, tokens.as_slice()),
+        Reply::Forgotten => Ok(text.extend_from_slice(b" forgotten\n")?),
     }
-    Ok(())
 }
 
 fn write_wrong_phase(text: &mut Vec<u8>, phase: Phase) -> Result<(), Memory>
@@ -130,13 +152,30 @@ fn write_fault(text: &mut Vec<u8>, fault: SessionFault) -> Result<(), Memory>
     ensures memory { OnOk result (fault ≡ faults.Memory → ⊥) }
 {
     match fault {
-        SessionFault::UnknownName => text.extend_from_slice(b"error: unknown name\n")?,
-        SessionFault::NameTaken => text.extend_from_slice(b"error: name taken\n")?,
-        SessionFault::WrongPhase { phase } => write_wrong_phase(text, phase)?,
-        SessionFault::TooDeep => text.extend_from_slice(b"error: too deep\n")?,
-        SessionFault::Memory => return Err(Memory),
+        SessionFault::UnknownName => Ok(text.extend_from_slice(b"error: unknown name\n")?),
+        SessionFault::NameTaken => Ok(text.extend_from_slice(b"error: name taken\n")?),
+        SessionFault::WrongPhase { phase } => write_wrong_phase(text, phase),
+        SessionFault::TooDeep => Ok(text.extend_from_slice(b"error: too deep\n")?),
+        SessionFault::Memory => Err(Memory),
     }
-    Ok(())
+}
+
+/// Appends the text of an answer on the branch of this name. Fails only if memory runs out, or if the answer is that
+/// memory ran out.
+fn write_answer(
+    alloc: Global,
+    text: &mut Vec<u8>,
+    grammar: &Grammar,
+    name: &[u8],
+    answer: &Result<Reply, SessionFault>,
+) -> Result<(), Memory>
+    ensures text { OnOk result (text.new.items ≡ text.old.items ++ answer_text' grammar.now name.now answer.now) }
+    ensures memory { OnOk result (answer.now ≡ Err faults.Memory → ⊥) }
+{
+    match answer {
+        Ok(reply) => write_reply(alloc, text, grammar, name, reply),
+        Err(fault) => write_fault(text, *fault),
+    }
 }
 
 /// The text of an answer on the branch of this name. Fails only if memory runs out, or if the answer is that memory ran
@@ -150,9 +189,6 @@ pub(crate) fn answer_text(
     ensures { IfOk result (λ text. IsAnswerText grammar.now name.now answer.now text.items) }
 {
     let mut text = Vec::new(alloc);
-    match answer {
-        Ok(reply) => write_reply(alloc, &mut text, grammar, name, reply)?,
-        Err(fault) => write_fault(&mut text, *fault)?,
-    }
+    write_answer(alloc, &mut text, grammar, name, answer)?;
     Ok(text)
 }
