@@ -10,7 +10,7 @@ ghost use Rattle.mh_lex_bytes.specs.Lines.{line_at};
 use crate::cursor::Cursor;
 use crate::findings::{Finding, GrammarFile, Position};
 use mh_grammar::Memory;
-use mh_grammar_texts::write_between;
+use mh_grammar_texts::write_number;
 use std::alloc::Global;
 
 /// The cursor at a position of a file. The walk goes on from the old cursor if the cursor is in this file.
@@ -33,8 +33,12 @@ fn write_place(text: &mut Vec<u8>, name: &[u8], cursor: Cursor) -> Result<(), Me
     ensures { OnOk result (text.new.items ≡ text.old.items ++ (name.now ++ codes ":" ++ decimal cursor.line ++ codes ":" ++ decimal cursor.column ++ codes ": ")) }
 {
     text.extend_from_slice(name)?;
-    write_between(text, b":", cursor.line, b":")?;
-    write_between(text, b"", cursor.column, b": ")
+    text.push(b':')?;
+    write_number(text, cursor.line)?;
+    text.push(b':')?;
+    write_number(text, cursor.column)?;
+    text.extend_from_slice(b": ")?;
+    Ok(())
 }
 
 /// Appends the name of a file.
