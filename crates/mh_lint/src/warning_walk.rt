@@ -37,11 +37,11 @@ use crate::levels::{UsedLevels, put_own, used_levels};
 use crate::on_error::{DeclaredName, declared_name, used_declarations};
 use crate::sources::level_sources;
 use crate::uses::{prec_names, used_rules, used_tokens};
-use mh_grammar::{Grammar, Memory, Name, Sequence};
+use mh_grammar::{Grammar, Memory, Name};
 use mh_items_kernels::Automaton;
 use mh_join_names::{Aliases, SymbolTables, name_by, put_name};
 use mh_lint_faults::{AcceptedFiles, FileNames, file_names, has_key, put_key, rule_at, text_of};
-use mh_lint_findings::{Finding, GrammarFile, Position, finding_at};
+use mh_lint_findings::{Finding, FindingText, GrammarFile, Position, finding_at};
 use mh_lint_states::{Shown, automaton_findings, shown_by};
 use mh_reader_places::{Mention, Role};
 use mh_resolve_cells::Conflict;
@@ -83,13 +83,10 @@ struct Uses {
 }
 
 /// The text of a warning: words, and a name after them.
-fn warning(alloc: Global, words: &[u8], name: &[u8]) -> Result<Option<Sequence<u8>>, Memory>
+fn warning(alloc: Global, words: &[u8], name: &[u8]) -> Result<Option<FindingText>, Memory>
     ensures { IfOk result (λ found. found ≡ Some (words.now ++ name.now)) }
 {
-    let mut text = Vec::with_capacity(alloc, words.len().saturating_add(name.len()))?;
-    text.extend_from_slice(words)?;
-    text.extend_from_slice(name)?;
-    Ok(Some(Sequence::from_vec(text)))
+    Ok(Some(FindingText::with_name(alloc, words, name)?))
 }
 
 /// Whether there is a flag with this number that is not set.
@@ -109,7 +106,7 @@ fn warning_unless_set(
     number: Option<usize>,
     words: &[u8],
     name: &[u8],
-) -> Result<Option<Sequence<u8>>, Memory>
+) -> Result<Option<FindingText>, Memory>
     ensures warning { IfOk result (λ found. found ≡ text_unless_set (flag_at flags.old number) (words.now ++ name.now)) }
     ensures flags { OnOk result (Marks (λ n. (number ≡ Some n) × (n < length flags.old)) flags.old flags.new) }
 {
@@ -129,7 +126,7 @@ fn level_warning(
     aliases: &Aliases,
     levels: &UsedLevels,
     reference: &Ref,
-) -> Result<Option<Sequence<u8>>, Memory>
+) -> Result<Option<FindingText>, Memory>
     ensures { IfOk result (λ found. found ≡ level_text (λ x. contains same levels.now.names x) (names_spec.name_by (λ a. get same aliases.now a) reference.now)) }
 {
     let Some(name) = name_by(aliases, reference) else {
@@ -148,7 +145,7 @@ fn prec_warning(
     file: u64,
     own: &mut HashSet<u64>,
     mention: &Mention,
-) -> Result<Option<Sequence<u8>>, Memory>
+) -> Result<Option<FindingText>, Memory>
     ensures warning { IfOk result (IsUnusedPrec levels.now.alternatives.keys file own.old.keys mention.now) }
     ensures own { OnOk result (PutsOwn mention.now.role own.old.keys own.new.keys) }
 {
@@ -168,7 +165,7 @@ fn declaration_warning(
     declarations: &HashSet<DeclaredName>,
     before: usize,
     actual: ActualOf,
-) -> Result<Option<Sequence<u8>>, Memory>
+) -> Result<Option<FindingText>, Memory>
     ensures { IfOk result (IsUnusedDeclaration joined.now declarations.now.keys before actual.rank actual.item) }
 {
     let Some(found) = declared_name(alloc, joined, before, actual.rank, actual.item)? else {
@@ -192,7 +189,7 @@ fn on_error_warning(
     before: usize,
     actuals: &mut HashSet<ActualOf>,
     actual: ActualOf,
-) -> Result<Option<Sequence<u8>>, Memory>
+) -> Result<Option<FindingText>, Memory>
     ensures warning { IfOk result (IsActualWarning joined.now declarations.now.keys before actuals.old.keys actual) }
     ensures actuals { OnOk result ((a : Actual) → Contains actuals.new.keys a ↔ (Contains actuals.old.keys a ⊎ (a ≡ actual))) }
 {
@@ -208,7 +205,7 @@ fn token_warning(
     flags: &mut [bool],
     names: &SymbolTables,
     name: &Name,
-) -> Result<Option<Sequence<u8>>, Memory>
+) -> Result<Option<FindingText>, Memory>
     ensures warning { IfOk result (λ found. found ≡ text_unless_set (flag_at flags.old (position (same name.now) names.now.tokens.keys)) (codes "unused token: " ++ name.now)) }
     ensures flags { OnOk result (Marks (λ n. (position (same name.now) names.now.tokens.keys ≡ Some n) × (n < length flags.old)) flags.old flags.new) }
 {
@@ -233,7 +230,7 @@ fn rule_warning(
     names: &SymbolTables,
     file: &FileNames<'_>,
     mention: &Mention,
-) -> Result<Option<Sequence<u8>>, Memory>
+) -> Result<Option<FindingText>, Memory>
     requires public { (x : Text) → contains same file.now.public x ≡ marks_public file.now.module.now.rules x }
     ensures warning { IfOk result (λ found. found ≡ text_unless_set (flag_at flags.old (faults.rule_at (meanings_in names.now) file.now.number file.now.module.now mention.now)) (codes "unreachable rule: " ++ text_of_ref mention.now.name)) }
     ensures flags { OnOk result (Marks (λ n. (faults.rule_at (meanings_in names.now) file.now.number file.now.module.now mention.now ≡ Some n) × (n < length flags.old)) flags.old flags.new) }
@@ -251,7 +248,7 @@ impl Uses {
         files: &AcceptedFiles,
         file: &FileNames<'_>,
         mention: &Mention,
-    ) -> Result<Option<Sequence<u8>>, Memory>
+    ) -> Result<Option<FindingText>, Memory>
         requires public { (x : Text) → contains same file.now.public x ≡ marks_public file.now.module.now.rules x }
         ensures warning { (c : Checked) (before : List MentionOf) → IsBefore c files.now file.now.number file.now.module.now before mention.now self.old → IfOk result (IsWarningFound c.stages c.built c.meanings c.file before mention.now) }
         ensures uses { (c : Checked) (before : List MentionOf) → IsBefore c files.now file.now.number file.now.module.now before mention.now self.old → OnOk result (AreUses c.stages c.built c.meanings c.file (before ++ mention.now ∷ []) self.new) }
@@ -328,7 +325,7 @@ fn put_costs(
 fn put_warning(
     file: usize,
     start: usize,
-    found: Option<Sequence<u8>>,
+    found: Option<FindingText>,
     findings: &mut Vec<Finding>,
 ) -> Result<(), Memory>
     ensures { OnOk result (lines_of findings.new.items ≡ lines_of findings.old.items ++ warning_lines file start found) }
@@ -338,7 +335,7 @@ fn put_warning(
     };
     findings.push(Finding {
         at: Position::InFile { file, start },
-        text: text.into_vec(),
+        text,
     })?;
     Ok(())
 }

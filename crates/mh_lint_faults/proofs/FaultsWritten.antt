@@ -15,7 +15,7 @@ use Rattle.mh_lint_faults.specs.FaultLines.{fault_lines}
 use Rattle.mh_lint_faults.specs.NameFaults.{faults_from, faults_in_role}
 
 -- The line of a finding is appended.
-pub finding_written : (old new : List Finding) (f : Finding) (text : Text) → f.text.items ≡ text → new ≡ old ++ f ∷ [] → lines_of new ≡ lines_of old ++ line f.at text ∷ []
+pub finding_written : (old new : List Finding) (f : Finding) (text : Text) → f.text ≡ text → new ≡ old ++ f ∷ [] → lines_of new ≡ lines_of old ++ line f.at text ∷ []
 finding_written old new f text is e = ap lines_of e ∙ map-append line_of old (f ∷ []) ∙ ap (λ (t : Text). lines_of old ++ line f.at t ∷ []) is
 
 -- The lines for faults at one position.

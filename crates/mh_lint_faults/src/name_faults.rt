@@ -28,7 +28,7 @@ use mh_join_names::{
     Formals, JoinFault, NameKind, Outline, SymbolTables, formals_of, is_public, marked_public,
     name_by, put_name,
 };
-use mh_lint_findings::{Finding, Position};
+use mh_lint_findings::{Finding, FindingText, Position};
 use mh_reader_places::{Mention, Role};
 use mh_rules::{Module, Ref, Rule};
 use std::alloc::Global;
@@ -406,7 +406,10 @@ pub(crate) fn put_fault(
     ensures { OnOk result (lines_of findings.new.items ≡ lines_of findings.old.items ++ line at (grammar_fault_text fault.now) ∷ []) }
 {
     let text = fault_line(alloc, fault)?;
-    findings.push(Finding { at, text })?;
+    findings.push(Finding {
+        at,
+        text: FindingText::from_vec(text),
+    })?;
     Ok(())
 }
 

@@ -17,7 +17,7 @@ line at text = record { at = at; text = text }
 
 -- The line of a finding.
 abbrev pub line_of : Finding → Line
-line_of f = line f.at f.text.items
+line_of f = line f.at f.text
 
 abbrev pub lines_of : List Finding → List Line
 lines_of found = map line_of found

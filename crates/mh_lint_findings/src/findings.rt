@@ -1,6 +1,7 @@
 //! The types of findings.
 ghost use Rattle.std.specs.Prelude.{◌≡◌, IfOk};
 
+use crate::finding_text::FindingText;
 use mh_grammar::{Memory, Name, Sequence};
 use std::alloc::Global;
 
@@ -24,16 +25,16 @@ pub enum Position {
 #[derive(Drop)]
 pub struct Finding {
     pub at: Position,
-    pub text: Vec<u8>,
+    pub text: FindingText,
 }
 
 /// Returns the finding with a text. Fails only if memory runs out.
 pub fn finding_at(alloc: Global, at: Position, text: &[u8]) -> Result<Finding, Memory>
     ensures position { IfOk result (λ found. found.at ≡ at) }
-    ensures text { IfOk result (λ found. found.text.items ≡ text.now) }
+    ensures text { IfOk result (λ found. found.text ≡ text.now) }
 {
     Ok(Finding {
         at,
-        text: Vec::from_slice(alloc, text)?,
+        text: FindingText::from_bytes(alloc, text)?,
     })
 }

@@ -2,8 +2,10 @@
 #![tactic(auto)]
 
 mod cursor;
+mod finding_text;
 mod findings;
 mod lines;
 
+pub use finding_text::FindingText;
 pub use findings::{Finding, GrammarFile, Position, finding_at};
 pub use lines::findings_text;

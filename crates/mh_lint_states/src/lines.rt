@@ -25,7 +25,7 @@ use mh_grammar::{Grammar, Memory};
 use mh_grammar_texts::{write_between, write_production};
 use mh_items::ClosureBuilder;
 use mh_items_kernels::Automaton;
-use mh_lint_findings::{Finding, Position};
+use mh_lint_findings::{Finding, FindingText, Position};
 use mh_report_notation::look_name;
 use mh_resolve_cells::{Conflict, ConflictKind};
 use std::alloc::Global;
@@ -36,7 +36,7 @@ fn put_line(findings: &mut Vec<Finding>, text: Vec<u8>) -> Result<(), Memory>
 {
     findings.push(Finding {
         at: Position::OfAutomaton,
-        text,
+        text: FindingText::from_vec(text),
     })?;
     Ok(())
 }

@@ -68,10 +68,10 @@ module _ (named : List GrammarFile) (files : AcceptedFiles) (front : OrderAndGra
     pub found_warnings : (p : Prepared) (lines : List Line) → IsPreparedFromFiles shelf front (Go p) → AreWarningLines (map (λ (f : GrammarFile). f.name) named) is.stages (built_of p) (meanings front.order.stdlib (modules_of is.stages.found)) lines → IsExamination shelf front.order named (Go (false, lines))
     found_warnings p lines made are = warned is.stages p accepts (from_stages (Go p) made) lines are
 
-    pub found_refusal : (whole : Text) (f : Finding) (lines : List Line) → IsPreparedFromFiles shelf front (Halt (Refused whole)) → f.at ≡ OfAutomaton → IsBareLine whole f.text.items → lines ≡ lines_of (f ∷ []) → IsExamination shelf front.order named (Go (true, lines))
+    pub found_refusal : (whole : Text) (f : Finding) (lines : List Line) → IsPreparedFromFiles shelf front (Halt (Refused whole)) → f.at ≡ OfAutomaton → IsBareLine whole f.text → lines ≡ lines_of (f ∷ []) → IsExamination shelf front.order named (Go (true, lines))
     found_refusal whole f lines made at bare one =
-        let same : line OfAutomaton f.text.items ∷ [] ≡ lines = ap (λ (x : _). line x f.text.items ∷ []) (sym at) ∙ sym one in
-        subst (λ (l : List Line). IsExamination shelf front.order named (Go (true, l))) same (refused is.stages accepts whole f.text.items (from_stages (Halt (Refused whole)) made) bare)
+        let same : line OfAutomaton f.text ∷ [] ≡ lines = ap (λ (x : _). line x f.text ∷ []) (sym at) ∙ sym one in
+        subst (λ (l : List Line). IsExamination shelf front.order named (Go (true, l))) same (refused is.stages accepts whole f.text (from_stages (Halt (Refused whole)) made) bare)
 
     pub found_stop : (cause : Cause) → IsPreparedFromFiles shelf front (Halt cause) → ((whole : Text) → cause ≡ Refused whole → ⊥) → IsExamination shelf front.order named (Halt cause)
     found_stop cause made never = stopped is.stages accepts cause (from_stages (Halt cause) made) never

@@ -24,8 +24,8 @@ ghost use Rattle.mh_top_types.specs.code.Prepared.{IsConsistent};
 
 use mh_grammar::{Memory, Sequence, from_bytes};
 use mh_lint::{
-    AcceptedFiles, Built, Examined, Finding, GrammarFile, Position, examine, findings_text,
-    warnings,
+    AcceptedFiles, Built, Examined, Finding, GrammarFile, Position, examine, finding_at,
+    findings_text, warnings,
 };
 use mh_opts::Order;
 use mh_outside::{Shelf, Sink, Source};
@@ -111,12 +111,9 @@ fn bare_line(line: &[u8]) -> &[u8]
 
 /// The finding for a refusal with this line.
 fn refusal_finding(alloc: Global, line: &[u8]) -> Result<Finding, Memory>
-    ensures { IfOk result (λ found. (found.at ≡ OfAutomaton) × IsBareLine line.now found.text.items) }
+    ensures { IfOk result (λ found. (found.at ≡ OfAutomaton) × IsBareLine line.now found.text) }
 {
-    Ok(Finding {
-        at: Position::OfAutomaton,
-        text: bare_line(line).to_vec(alloc)?,
-    })
+    finding_at(alloc, Position::OfAutomaton, bare_line(line))
 }
 
 /// The finding for a cause that refuses the grammar's automaton; any other cause stops the work.

@@ -32,7 +32,7 @@ pub record AreReportable (files : List GrammarFile) (findings : List Finding) : 
 
 -- The finding is for the line of a refusal; each other stop, and want of memory, is the result.
 pub data GivesFinding (stop : Stop) : Result Finding Stop → Type 0 where
-  found : (whole : Text) (f : Finding) → stop ≡ Halted (Refused whole) → f.at ≡ OfAutomaton → IsBareLine whole f.text.items → GivesFinding stop (Ok f)
+  found : (whole : Text) (f : Finding) → stop ≡ Halted (Refused whole) → f.at ≡ OfAutomaton → IsBareLine whole f.text → GivesFinding stop (Ok f)
   other : ((whole : Text) → stop ≡ Halted (Refused whole) → ⊥) → GivesFinding stop (Err stop)
   memory : GivesFinding stop (Err OutOfMemory)
 
