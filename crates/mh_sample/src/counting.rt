@@ -68,7 +68,7 @@ fn judge_sentence(
     ensures { OnOk result ((done : List Sentence') → HaveEndings table.now done (map ending_for verdicts.old.items) → HaveEndings table.now (done ++ sentences_at (vocabulary_in lexicon.now) sentence.operators sentence.number) (map ending_for verdicts.new.items)) }
 {
     let mut line = Vec::new(alloc);
-    write_sentence(alloc, &mut line, sentence)?;
+    write_sentence(&mut line, sentence)?;
     judge_line(alloc, lexicon, table, line.as_slice(), verdicts)
 }
 

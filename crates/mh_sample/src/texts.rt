@@ -1,10 +1,11 @@
 //! Writes the grammar and the sentences of a sample.
 ghost use Rattle.std.specs.Prelude.{◌≡◌, ◌<◌, ◌≤◌, ◌+◌, ◌-◌, ◌%◌, ◌++◌, IfOk, OnOk};
-ghost use Rattle.mh_sample.specs.Texts.{operators_of, repeated_text, each_from, token_line, left_text, right_text, level_line, last_level_line, grammar_text, operator_at, operand_text, closed_parentheses, sentence_text, sentence_line, sentences_text};
+ghost use Rattle.mh_sample.specs.Texts.{operators_of, repeated_text, each_from, token_line, left_text, level_line, last_level_line, grammar_text, operator_at, operand_text, closed_parentheses, sentence_text, sentence_line, sentences_text};
 ghost use Rattle.mh_sample.specs.SampleSize.{sample_size};
 ghost use Rattle.mh_sample.specs.code.SampleSentences.{IsInSample};
 
 use mh_grammar::Memory;
+use mh_grammar_texts::{write_between, write_number};
 use std::alloc::Global;
 
 /// The number of sentences of a sample.
@@ -34,75 +35,64 @@ pub(crate) fn operators(number: u32) -> u32
 }
 
 #[tactic(auto, unfolding(crate::specs::Texts::token_line))]
-fn write_token(alloc: Global, text: &mut Vec<u8>, operator: u32) -> Result<(), Memory>
+fn write_token(text: &mut Vec<u8>, operator: u32) -> Result<(), Memory>
     ensures { OnOk result (text.new.items ≡ text.old.items ++ token_line operator) }
 {
-    let line = format!(in alloc; "%token OP{operator}\n")?;
-    text.extend_from_slice(line.as_bytes())?;
-    Ok(())
+    write_between(text, b"%token OP", operator, b"\n")
 }
 
 /// Appends the declarations of the operators.
-fn write_tokens(alloc: Global, text: &mut Vec<u8>, operators: u32) -> Result<(), Memory>
+fn write_tokens(text: &mut Vec<u8>, operators: u32) -> Result<(), Memory>
     requires { operators < 32 }
     ensures { OnOk result (text.new.items ≡ text.old.items ++ each_from token_line 1 operators) }
 {
     for place in 0..operators {
-        write_token(alloc, text, place + 1)?;
+        write_token(text, place + 1)?;
     }
     Ok(())
 }
 
 /// Appends the beginning of a level's rule: the left operand is of the same level.
 #[tactic(auto, unfolding(crate::specs::Texts::left_text))]
-fn write_left(alloc: Global, text: &mut Vec<u8>, level: u32) -> Result<(), Memory>
+fn write_left(text: &mut Vec<u8>, level: u32) -> Result<(), Memory>
     ensures { OnOk result (text.new.items ≡ text.old.items ++ left_text level) }
 {
-    let part = format!(in alloc; "e{level}: e{level} OP{level} ")?;
-    text.extend_from_slice(part.as_bytes())?;
-    Ok(())
-}
-
-/// Appends the end of a level's rule: the right operand of the operator, or a single operand.
-#[tactic(auto, unfolding(crate::specs::Texts::right_text))]
-fn write_right(text: &mut Vec<u8>, operand: &[u8]) -> Result<(), Memory>
-    ensures { OnOk result (text.new.items ≡ text.old.items ++ right_text operand.now) }
-{
-    text.extend_from_slice(operand)?;
-    text.extend_from_slice(b" {} | ")?;
-    text.extend_from_slice(operand)?;
-    text.extend_from_slice(b" {}\n")?;
-    Ok(())
+    write_between(text, b"e", level, b": e")?;
+    write_number(text, level)?;
+    write_between(text, b" OP", level, b" ")
 }
 
 /// Appends the rule of a level whose operands are the expressions of the next level.
-fn write_level(alloc: Global, text: &mut Vec<u8>, level: u32) -> Result<(), Memory>
+#[tactic(auto, unfolding(crate::specs::Texts::right_text))]
+fn write_level(text: &mut Vec<u8>, level: u32) -> Result<(), Memory>
     requires { level < 32 }
     ensures { OnOk result (text.new.items ≡ text.old.items ++ level_line level) }
 {
     let next = level + 1;
-    let operand = format!(in alloc; "e{next}")?;
-    write_left(alloc, text, level)?;
-    write_right(text, operand.as_bytes())
+    write_left(text, level)?;
+    write_between(text, b"e", next, b" {} | ")?;
+    write_between(text, b"e", next, b" {}\n")
 }
 
 /// Appends the rules of all levels but the last.
-fn write_levels(alloc: Global, text: &mut Vec<u8>, levels: u32) -> Result<(), Memory>
+fn write_levels(text: &mut Vec<u8>, levels: u32) -> Result<(), Memory>
     requires { levels < 32 }
     ensures { OnOk result (text.new.items ≡ text.old.items ++ each_from level_line 1 levels) }
 {
     for place in 0..levels {
-        write_level(alloc, text, place + 1)?;
+        write_level(text, place + 1)?;
     }
     Ok(())
 }
 
 /// Appends the rule of the last level, whose operands are atoms.
-fn write_last_level(alloc: Global, text: &mut Vec<u8>, level: u32) -> Result<(), Memory>
+#[tactic(auto, unfolding(crate::specs::Texts::right_text))]
+fn write_last_level(text: &mut Vec<u8>, level: u32) -> Result<(), Memory>
     ensures { OnOk result (text.new.items ≡ text.old.items ++ last_level_line level) }
 {
-    write_left(alloc, text, level)?;
-    write_right(text, b"a")
+    write_left(text, level)?;
+    text.extend_from_slice(b"a {} | a {}\n")?;
+    Ok(())
 }
 
 /// The grammar file of a sample. Fails only if memory runs out.
@@ -111,10 +101,10 @@ pub fn sample_grammar(alloc: Global, number: u32) -> Result<Vec<u8>, Memory>
 {
     let operators = operators(number);
     let mut text = b"%token EOF LP RP INT\n".to_vec(alloc)?;
-    write_tokens(alloc, &mut text, operators)?;
+    write_tokens(&mut text, operators)?;
     text.extend_from_slice(b"%start main\n%%\nmain: e1 EOF {}\n")?;
-    write_levels(alloc, &mut text, operators - 1)?;
-    write_last_level(alloc, &mut text, operators)?;
+    write_levels(&mut text, operators - 1)?;
+    write_last_level(&mut text, operators)?;
     text.extend_from_slice(b"a: INT {} | LP e1 RP {}\n")?;
     Ok(text)
 }
@@ -131,22 +121,20 @@ fn write_times(text: &mut Vec<u8>, piece: &[u8], count: u32) -> Result<(), Memor
 
 /// Appends an operator and an operand.
 #[tactic(auto, unfolding(crate::specs::Texts::operand_text))]
-fn write_operand(alloc: Global, text: &mut Vec<u8>, operator: u32) -> Result<(), Memory>
+fn write_operand(text: &mut Vec<u8>, operator: u32) -> Result<(), Memory>
     ensures { OnOk result (text.new.items ≡ text.old.items ++ operand_text operator) }
 {
-    let part = format!(in alloc; " OP{operator} INT")?;
-    text.extend_from_slice(part.as_bytes())?;
-    Ok(())
+    write_between(text, b" OP", operator, b" INT")
 }
 
 /// Appends the operators of a sentence, each with its right operand.
-fn write_operands(alloc: Global, text: &mut Vec<u8>, sentence: SampleSentence) -> Result<(), Memory>
+fn write_operands(text: &mut Vec<u8>, sentence: SampleSentence) -> Result<(), Memory>
     requires { IsInSample sentence }
     ensures { OnOk result (text.new.items ≡ text.old.items ++ each_from (λ place. operand_text (operator_at sentence.operators sentence.number place)) 1 (sentence.number % 5)) }
 {
     let SampleSentence { operators, number } = sentence;
     for place in 0..number % 5 {
-        write_operand(alloc, text, 1 + number * (place + 1) % operators)?;
+        write_operand(text, 1 + number * (place + 1) % operators)?;
     }
     Ok(())
 }
@@ -165,45 +153,36 @@ fn count_closed(sentence: u32) -> u32
 
 /// Appends a sentence without LF.
 #[tactic(auto, unfolding(crate::specs::Texts::sentence_text))]
-pub(crate) fn write_sentence(
-    alloc: Global,
-    text: &mut Vec<u8>,
-    sentence: SampleSentence,
-) -> Result<(), Memory>
+pub(crate) fn write_sentence(text: &mut Vec<u8>, sentence: SampleSentence) -> Result<(), Memory>
     requires { IsInSample sentence }
     ensures { OnOk result (text.new.items ≡ text.old.items ++ sentence_text sentence.operators sentence.number) }
 {
     write_times(text, b"LP ", sentence.number % 17)?;
     text.extend_from_slice(b"INT")?;
-    write_operands(alloc, text, sentence)?;
+    write_operands(text, sentence)?;
     write_times(text, b" RP", count_closed(sentence.number))?;
     text.extend_from_slice(b" EOF")?;
     Ok(())
 }
 
-fn write_line(alloc: Global, text: &mut Vec<u8>, sentence: SampleSentence) -> Result<(), Memory>
+fn write_line(text: &mut Vec<u8>, sentence: SampleSentence) -> Result<(), Memory>
     requires { IsInSample sentence }
     ensures { OnOk result (text.new.items ≡ text.old.items ++ sentence_line sentence.operators sentence.number) }
 {
-    write_sentence(alloc, text, sentence)?;
+    write_sentence(text, sentence)?;
     text.push(b'\n')?;
     Ok(())
 }
 
 /// Appends the first `count` sentences, each with LF at the end.
-fn write_sentences(
-    alloc: Global,
-    text: &mut Vec<u8>,
-    operators: u32,
-    count: u32,
-) -> Result<(), Memory>
+fn write_sentences(text: &mut Vec<u8>, operators: u32, count: u32) -> Result<(), Memory>
     requires some { 0 < operators }
     requires few { operators < 32 }
     requires count { count ≤ sample_size }
     ensures { OnOk result (text.new.items ≡ text.old.items ++ each_from (sentence_line operators) 0 count) }
 {
     for number in 0..count {
-        write_line(alloc, text, SampleSentence { operators, number })?;
+        write_line(text, SampleSentence { operators, number })?;
     }
     Ok(())
 }
@@ -214,6 +193,6 @@ pub(crate) fn sample_sentences(alloc: Global, number: u32) -> Result<Vec<u8>, Me
     ensures { IfOk result (λ text. text.items ≡ sentences_text number) }
 {
     let mut text = Vec::new(alloc);
-    write_sentences(alloc, &mut text, operators(number), SENTENCES)?;
+    write_sentences(&mut text, operators(number), SENTENCES)?;
     Ok(text)
 }
