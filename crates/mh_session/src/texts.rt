@@ -88,6 +88,7 @@ fn write_stack(text: &mut Vec<u8>, grammar: &Grammar, symbols: &[Symbol]) -> Res
     Ok(())
 }
 
+/// Appends a tree on one line.
 fn write_tree(
     alloc: Global,
     text: &mut Vec<u8>,
