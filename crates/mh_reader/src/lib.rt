@@ -8,7 +8,7 @@ pub use laws::module_or_syntax_error;
 pub use mh_lex::SyntaxFault;
 pub use mh_reader_parser::{
     Actual, Alternative, LevelDecl, Module, Ref, Rule, TokenDecl, cost_is_spelled, line_once,
-    read_module, spelled_once,
+    spelled_once,
 };
-pub use mh_reader_places::{Mention, PlacedFault, PlacedModule, Role, read_placed};
+pub use mh_reader_places::{Mention, PlacedFault, PlacedModule, Role, read_module, read_placed};
 pub use printing::print_module;

@@ -16,5 +16,5 @@ mod token_kinds;
 pub use costs::cost_of;
 pub use laws::{cost_is_spelled, line_once, spelled_once};
 pub use mh_rules::{Actual, Alternative, LevelDecl, Module, Ref, Rule, TokenDecl};
-pub use reading::{read_lexemes, read_module};
+pub use reading::read_lexemes;
 pub use token_kinds::{TokenKind, content_of, token_kind_of};

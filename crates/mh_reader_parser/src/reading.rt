@@ -1,18 +1,17 @@
-//! Reads the module of a grammar file.
+//! Reads the module that lexemes spell.
 ghost use Rattle.std.specs.Prelude.{◌≡◌, ◌<◌, ◌^◌, ◌≤◌, ℕ, List, length, take, drop, IfErr, IfOk, None};
 ghost use Rattle.std.specs.List.{All};
 ghost use Rattle.mh_lex.specs.Lexing.{IsLexemeWithin, IsPlaceWithin};
 ghost use Rattle.mh_lex.specs.LexemeTexts.{bytes_of};
 ghost use Rattle.mh_rules.specs.declared.modules.Module.{Module};
-ghost use Rattle.mh_rules.specs.Ready.{IsModuleReady};
 ghost use Rattle.mh_reader_parser.specs.TokenKinds.{file_tokens, token_kind_by, text_by};
 ghost use Rattle.mh_reader_parser.specs.code.DepthLimit.{IsStateShallow};
 ghost use Rattle.mh_rules.specs.Modules.{no_module};
-ghost use Rattle.mh_reader_parser.specs.Spelling.{File, Spells};
+ghost use Rattle.mh_reader_parser.specs.Spelling.{File};
 ghost use Rattle.mh_reader_parser.specs.code.ParserSteps.{AgreesWithStep, parser_with_cost, finish_at, start, step_by_lexeme};
 ghost use Rattle.mh_reader_parser.specs.Costs as spec;
 ghost use Rattle.std.specs.Option.{option_or};
-ghost use Rattle.mh_reader_parser.specs.Faults.{line_fault, ReportsSyntaxLine, ReportsUnexpectedPlace};
+ghost use Rattle.mh_reader_parser.specs.Faults.{ReportsUnexpectedPlace};
 
 use crate::advance::advance;
 use crate::costs::cost_of;
@@ -20,7 +19,7 @@ use crate::parser_states::{ParseFault, Parser, ParserState, no_memory, unexpecte
 use crate::rules::{add_rule, group_of};
 use crate::token_kinds::{content_of, token_kind_of};
 use mh_grammar::Sequence;
-use mh_lex::{Lexeme, PlacedFault, SyntaxFault, lex, lexemes_are_unique, line_of};
+use mh_lex::{Lexeme, PlacedFault};
 use mh_rules::Module;
 use std::alloc::Global;
 
@@ -131,47 +130,5 @@ pub fn read_lexemes(alloc: Global, bytes: &[u8], lexemes: &[Lexeme]) -> Result<M
         Ok(made) => Ok(made),
         Err(ParseFault::Unexpected) => Err(PlacedFault::Syntax { place: bytes.len() }),
         Err(ParseFault::Memory) => Err(PlacedFault::Memory),
-    }
-}
-
-/// The fault with the line of its position.
-fn with_line(bytes: &[u8], fault: PlacedFault) -> SyntaxFault
-    requires short { length bytes.now < 2 ^ 31 }
-    requires within { IsPlaceWithin (length bytes.now) fault }
-    ensures { result ≡ line_fault bytes.now fault }
-{
-    match fault {
-        PlacedFault::Syntax { place } => SyntaxFault::Syntax {
-            line: line_of(bytes, place),
-        },
-        PlacedFault::Memory => SyntaxFault::Memory,
-    }
-}
-
-/// Reads the module that a grammar file spells (Menhir manual, syntax of grammars, of which this project supports a
-/// part). Each rule of the module has an alternative. The depth of an actual is at most 1,000: it is 1 without
-/// arguments, or one more than that of the deepest argument, and one more for each suffix.
-///
-/// # Errors
-///
-/// `Syntax` exactly if the bytes spell no module, with a line, from 1: the line on which the first text begins that is
-/// not a lexeme or comment, or is not closed; if there is none, the line of the first lexeme such that no file begins
-/// with the lexemes up to it; if the file ends too early, one more than the number of its line feeds. `Memory` if
-/// memory ran out.
-pub fn read_module(alloc: Global, bytes: &[u8]) -> Result<Module, SyntaxFault>
-    requires { length bytes.now < 2 ^ 31 }
-    ensures spelled { IfOk result (λ m. Spells bytes.now m) }
-    ensures ready { IfOk result IsModuleReady }
-    ensures fault { ReportsSyntaxLine bytes.now result }
-{
-    // The law that the list of lexemes is unique; the call does nothing else.
-    lexemes_are_unique();
-    match lex(alloc, bytes) {
-        Ok(lexemes) => match read_lexemes(alloc, bytes, lexemes.as_slice()) {
-            Ok(made) => Ok(made),
-            Err(fault) => Err(with_line(bytes, fault)),
-        },
-        Err(SyntaxFault::Syntax { line }) => Err(SyntaxFault::Syntax { line }),
-        Err(SyntaxFault::Memory) => Err(SyntaxFault::Memory),
     }
 }

@@ -6,7 +6,8 @@ ghost use Rattle.mh_top_drive.specs.code.StageCalls.{StopsWith, StageGives};
 ghost use Rattle.mh_top_drive.specs.declared.stop.Cause.TheVariants.{Refused};
 
 use mh_lex::SyntaxFault;
-use mh_reader_parser::{Module, read_module};
+use mh_reader_parser::Module;
+use mh_reader_places::read_module;
 use mh_top_drive::{FileFormat, Stop, refused};
 use std::alloc::{AllocError, Global};
 

@@ -17,7 +17,8 @@ use crate::words::{put_read, put_words};
 use mh_front::GrammarFault;
 use mh_grammar::{Level, Name, Symbol};
 use mh_join::{Joined, Prec, join};
-use mh_reader_parser::{Module, read_module};
+use mh_reader::read_module;
+use mh_reader_parser::Module;
 use std::alloc::Global;
 use std::test::Fail;
 

@@ -4,8 +4,8 @@ use crate::messages::put_made;
 use crate::put;
 use mh_grammar::Memory;
 use mh_lex::SyntaxFault;
-use mh_reader::print_module;
-use mh_reader_parser::{Module, read_module, spelled_once};
+use mh_reader::{print_module, read_module};
+use mh_reader_parser::{Module, spelled_once};
 use std::alloc::Global;
 use std::test::Fail;
 

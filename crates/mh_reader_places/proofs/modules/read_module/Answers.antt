@@ -3,7 +3,7 @@ use Rattle.mh_lex.specs.declared.kinds.Lexeme.{Lexeme}
 use Rattle.mh_reader_parser.specs.Faults.{ReportsUnexpectedPlace}
 use Rattle.mh_reader_parser.proofs.ParserExact as exact
 use Rattle.mh_reader_parser.proofs.ModuleReady.{spelled_ready}
-use Rattle.mh_reader_parser.proofs.reading.read_module.Goals as goal
+use Rattle.mh_reader_places.proofs.modules.read_module.Goals as goal
 
 pub returns-in-Ok-read_lexemes-clause-ready : goal.returns-in-Ok-read_lexemes-clause-ready
 returns-in-Ok-read_lexemes-clause-ready c =
