@@ -1,4 +1,4 @@
-//! The places of a grammar file at which the file names something, beside the module that the file spells.
+//! Reads a grammar file: its module alone, or with the places at which the file names something.
 #![tactic(auto)]
 
 mod mentions;
