@@ -8,8 +8,8 @@ use Rattle.mh_grammar.specs.ItemSets.{ItemSet, AreSameItems}
 use Rattle.mh_grammar.proofs.Lists.{contains_here, contains_there, contains_cases, contains_none, recursion-from, recursion-weaker}
 use Rattle.mh_items_kernels.specs.KernelTypes.{KernelItem, Kernel}
 use Rattle.mh_items_kernels.specs.Kernels.{Holds, IsItemBefore, IsKernelItem, IsItemList}
-use Rattle.mh_grammar_decided.specs.NotLacking.{NotLacking}
-use Rattle.mh_grammar_decided.proofs.NotLacking.{given, chain, Selected, select}
+use Rattle.mh_grammar.specs.NotLacking.{NotLacking}
+use Rattle.mh_grammar.proofs.NotLacking.{given, chain, Selected, select}
 use Rattle.mh_canon_states.proofs.ItemsOfGrammar.{looks_from, look_in, looks_rising, place, places, place_in, places_rising}
 
 -- Each item of the set has a production of the grammar, a dot within its right side, and a lookahead in range.

@@ -16,8 +16,8 @@ use Rattle.mh_items_kernels.specs.KernelTypes.{Kernel}
 use Rattle.mh_items_kernels.specs.Kernels.{Holds, IsKernelItem, IsItemList}
 use Rattle.mh_items_kernels.proofs.RhsInRange.{side_below, rest_below}
 use Rattle.mh_items_kernels.proofs.SymbolAtDot.{drop_tail}
-use Rattle.mh_grammar_decided.specs.NotLacking.{NotLacking}
-use Rattle.mh_grammar_decided.proofs.NotLacking.{given, chain, Selected, select}
+use Rattle.mh_grammar.specs.NotLacking.{NotLacking}
+use Rattle.mh_grammar.proofs.NotLacking.{given, chain, Selected, select}
 use Rattle.mh_canon_states.proofs.ItemsOfGrammar.{symbols_from, symbol_in, symbols_rising}
 use Rattle.mh_canon_states.proofs.ListedKernels.{HasItemsInRange, listed}
 

@@ -21,8 +21,8 @@ use Rattle.mh_canon_states.specs.Canonical.{IsCanonical, CanonicalExceeds}
 use Rattle.mh_canon_states.proofs.PartialCollection.{PartialCollection, AreStarts-none, PartialCollection-start, PartialCollection-closure, PartialCollection-step}
 use Rattle.mh_canon_states.proofs.CollectionIsCanonical.{IsCanonical-done}
 use Rattle.mh_canon_states.proofs.AreCanonicalStates.{AreStateEdges-none, AreStateEdges-push, CanonicalExceeds-placed, Placed-few}
-use Rattle.mh_grammar_decided.specs.NotLacking.{NotLacking}
-use Rattle.mh_grammar_decided.proofs.NotLacking.{given, chain, decided}
+use Rattle.mh_grammar.specs.NotLacking.{NotLacking}
+use Rattle.mh_grammar.proofs.NotLacking.{given, chain, decided}
 use Rattle.mh_canon_states.proofs.MovedKernels.{Moving, moving, move}
 
 starts : (n : ℕ) → (kernels : List Kernel) × AreStarts n kernels

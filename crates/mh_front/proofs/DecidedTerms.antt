@@ -6,7 +6,7 @@ use Rattle.mh_grammar.proofs.Lists.{contains_here, contains_there, contains_case
 use Rattle.mh_rules.specs.declared.joined.Head.{Head}
 use Rattle.mh_rules.specs.declared.joined.Head.TheVariants.{Formal, Token, Rule}
 use Rattle.mh_expand.specs.Terms.{Term, Atom, Apply}
-use Rattle.mh_grammar_decided.proofs.DecidedSearch.{Decided}
+use Rattle.mh_grammar.proofs.DecidedSearch.{Decided}
 
 head_eq : (g h : Head) → Decided (g ≡ h)
 head_eq (Formal k) (Formal n) = elim (cases_eq k n) [ inl e ↦ inl (ap Formal e) | inr d ↦ inr (λ f. let e : k ≡ n = cc in d e) ]

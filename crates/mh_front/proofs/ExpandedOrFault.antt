@@ -25,7 +25,7 @@ use Rattle.mh_expand.specs.Expansion as expansion
 use Rattle.mh_expand.specs.Expansion.{IsInstance, TakesArguments, HasRightArity, Declares, IsOnErrorRank, IsPart, IsProduction, IsInstanceOf, IsExpanded, IsFirstFault, found_terms, producers_of, alternatives_of, right_side, start_terms, rule_of}
 use Rattle.mh_expand.proofs.IsExpanding.{right_arity_or_not, IsExpandable-found, finding_order_reached, reached_found, start_rule}
 use Rattle.mh_expand.proofs.FindsTerms.{rule_exists}
-use Rattle.mh_grammar_decided.proofs.DecidedSearch.{Decided, First, first}
+use Rattle.mh_grammar.proofs.DecidedSearch.{Decided, First, first}
 use Rattle.mh_front.proofs.DecidedTerms.{contains_or, split_in}
 use Rattle.mh_front.proofs.ExpansionSearch.{SearchState, ends}
 

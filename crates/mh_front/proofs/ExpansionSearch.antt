@@ -16,7 +16,7 @@ use Rattle.mh_expand.specs.Expansion.{IsInstance, IsRule, HasRightArity, IsNewIn
 use Rattle.mh_expand.specs.code.InstanceSearch.{AreFound}
 use Rattle.mh_expand.proofs.AreFound.{HasNoFault-none, HasNoFault-push, AreFound-none, AreFound-same, AreFound-new, found_is_earlier_instance, max_instances_found}
 use Rattle.mh_expand.proofs.IsExpanding.{right_arity_or_not, found_terms-none, found_terms-push}
-use Rattle.mh_grammar_decided.proofs.DecidedSearch.{Decided}
+use Rattle.mh_grammar.proofs.DecidedSearch.{Decided}
 use Rattle.mh_front.proofs.DecidedTerms.{contains_or}
 
 rule_or : (h : Head) → Decided (IsRule h)

@@ -26,8 +26,8 @@ use Rattle.mh_inline.specs.Inlined.{production_of, AreProductions, IsInlined}
 use Rattle.mh_inline_unfold.specs.Unfoldings.{with_own_prec}
 use Rattle.mh_inline.specs.GrammarOfInstances.{HasNoInlineStart, IsWithinLimits, IsGrammarOf}
 use Rattle.mh_inline.specs.Faults.{ExceedsLimits, IsFault, IsNotMemory}
-use Rattle.mh_grammar_decided.specs.NotLacking.{NotLacking}
-use Rattle.mh_grammar_decided.proofs.NotLacking.{given, chain, decided, Lacks, lacks_or}
+use Rattle.mh_grammar.specs.NotLacking.{NotLacking}
+use Rattle.mh_grammar.proofs.NotLacking.{given, chain, decided, Lacks, lacks_or}
 use Rattle.mh_front.proofs.InlineOrder.{origins}
 use Rattle.mh_front.proofs.SomeUnfoldings.{right_side_has_unfoldings}
 

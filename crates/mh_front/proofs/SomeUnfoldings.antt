@@ -18,8 +18,8 @@ use Rattle.mh_inline_unfold.specs.Unfoldings as unfoldings
 use Rattle.mh_inline_unfold.specs.Unfoldings.{UnfoldsPart, Unfolds, UnfoldsEach, unfolding_of_part, choices, with_own_prec}
 use Rattle.mh_inline_unfold.proofs.InlineProducers.{inline_instance}
 use Rattle.mh_inline.proofs.IsCyclic.{numbers_below, length-numbers, numbers_at, reaches_user}
-use Rattle.mh_grammar_decided.specs.NotLacking.{NotLacking}
-use Rattle.mh_grammar_decided.proofs.NotLacking.{given, chain, decided}
+use Rattle.mh_grammar.specs.NotLacking.{NotLacking}
+use Rattle.mh_grammar.proofs.NotLacking.{given, chain, decided}
 
 module _ (is : List Instance) where
   abbrev Has : ℕ → Type 0

@@ -9,7 +9,7 @@ ghost use Rattle.mh_join_names.specs.Faults.{first, join_faults};
 ghost use Rattle.mh_inline.specs.declared.fault.InlineFault.{InlineFault};
 ghost use Rattle.mh_inline.specs.GrammarOfInstances.{IsGrammarOf};
 ghost use Rattle.mh_inline.specs.Faults.{IsFault, IsNotMemory};
-ghost use Rattle.mh_grammar_decided.specs.NotLacking.{NotLacking};
+ghost use Rattle.mh_grammar.specs.NotLacking.{NotLacking};
 ghost use Rattle.mh_grammar.specs.declared.types.Grammar.{Grammar as GrammarOf};
 ghost use Rattle.mh_expand.specs.declared.fault.ExpandFault.{ExpandFault};
 ghost use Rattle.mh_expand.specs.Expansion.{IsExpanded, IsFirstFault};

@@ -13,3 +13,5 @@ pub mod FirstFlags
 pub mod FlagTable
 pub mod LeastMarks
 pub mod ProductionPasses
+pub mod DecidedSearch
+pub mod NotLacking

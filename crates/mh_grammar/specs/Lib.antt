@@ -16,3 +16,4 @@ pub mod FirstFlags
 pub mod FlagTable
 pub mod Marked
 pub mod code
+pub mod NotLacking

@@ -11,8 +11,8 @@ use Rattle.mh_grammar.proofs.Lists.{get_within}
 use Rattle.mh_items_kernels.specs.KernelTypes.{Kernel}
 use Rattle.mh_items_kernels.specs.Kernels.{Holds, IsItemList}
 use Rattle.mh_pager_steps.specs.MergeSteps.{MergeState, ContainsMove, IsCompatibleWithMove, PlacesMove, Enqueues}
-use Rattle.mh_grammar_decided.specs.NotLacking.{NotLacking}
-use Rattle.mh_grammar_decided.proofs.NotLacking.{given, chain, decided}
+use Rattle.mh_grammar.specs.NotLacking.{NotLacking}
+use Rattle.mh_grammar.proofs.NotLacking.{given, chain, decided}
 use Rattle.mh_canon_states.proofs.ListedKernels.{HasItemsInRange, listed}
 use Rattle.mh_canon_states.proofs.MovedKernels.{kernel_in}
 

@@ -24,8 +24,8 @@ use Rattle.mh_pager_steps.proofs.StepsInvariant.{steps_invariant}
 use Rattle.mh_pager.proofs.IsPlacedRow.{IsPlacedRow-none, IsPlacedRow-push, ExceedsAtPrefix-push, has_move_if_after_dot, merge_step_of_row, step_exceeds, row_ready}
 use Rattle.mh_pager.proofs.TerminationMeasure.{weight, step_weight}
 use Rattle.mh_pager.proofs.IsReachedByMerging.{is_well_formed}
-use Rattle.mh_grammar_decided.specs.NotLacking.{NotLacking}
-use Rattle.mh_grammar_decided.proofs.NotLacking.{given, chain}
+use Rattle.mh_grammar.specs.NotLacking.{NotLacking}
+use Rattle.mh_grammar.proofs.NotLacking.{given, chain}
 use Rattle.mh_canon_states.proofs.MovedKernels.{Moving, moving, move}
 use Rattle.mh_pager.proofs.PlacedOnce.{put}
 use Rattle.mh_pager.proofs.SomeRenumbering.{reached, pick}

@@ -11,8 +11,8 @@ use Rattle.mh_grammar.specs.Placed.{Placed}
 use Rattle.mh_grammar.proofs.Lists.{get_last, get_within, contains_at, at_contains}
 use Rattle.mh_items_kernels.specs.KernelTypes.{Kernel}
 use Rattle.mh_pager_steps.proofs.RenumberingInvariant.{RenumberingInvariant, RenumberingInvariant-start, RenumberingInvariant-step, AreReachedStates-done, IsRenumbered-none, IsRenumbered-push, below_few}
-use Rattle.mh_grammar_decided.specs.NotLacking.{NotLacking}
-use Rattle.mh_grammar_decided.proofs.NotLacking.{given, chain, decided}
+use Rattle.mh_grammar.specs.NotLacking.{NotLacking}
+use Rattle.mh_grammar.proofs.NotLacking.{given, chain, decided}
 
 put : (old : List ℕ) (k : ℕ) → Contains old k ⊎ (Contains old k → ⊥) → (new : List ℕ) × (n : ℕ) × Placed old new k n
 put old k (inl c) = let at = at_contains old k c in (old, at.0, record { at = at.1; grown = inl (refl, slice_get_within old at.0 k at.1) })

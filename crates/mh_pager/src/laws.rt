@@ -1,7 +1,7 @@
 //! The law that a grammar has a merged automaton, as a function that does nothing and whose contract states the law.
 ghost use Rattle.std.specs.Prelude.{◌≤◌, ◌⊎◌, ℕ, length};
 ghost use Rattle.mh_grammar.specs.Plain.{PlainGrammar, IsInRange};
-ghost use Rattle.mh_grammar_decided.specs.NotLacking.{NotLacking};
+ghost use Rattle.mh_grammar.specs.NotLacking.{NotLacking};
 ghost use Rattle.mh_items_kernels.specs.KernelTypes.{Automaton};
 ghost use Rattle.mh_pager_steps.specs.MergeSteps.{IsMerged, MergingExceeds};
 

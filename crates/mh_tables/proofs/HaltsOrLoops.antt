@@ -15,7 +15,7 @@ use Rattle.mh_tables_core.specs.Limits.{max_reductions}
 use Rattle.mh_tables_core.proofs.SymbolsInRange.{edge_source}
 use Rattle.mh_tables.specs.code.Relative.{IsFirstLoopingLook, IsFirstLoopingState, NoneLoopsAbove}
 use Rattle.mh_tables.proofs.FirstLoop.{HasEdgeTo, HasEdgeTo-found, first_look_is, never_loops, edge_is, loops_alone, loops_above, none_loops, halts_if_none_loops}
-use Rattle.mh_grammar_decided.proofs.DecidedSearch.{Decided, First, first}
+use Rattle.mh_grammar.proofs.DecidedSearch.{Decided, First, first}
 
 module _ (t : TableData) where
   makes_decided : (below : Option ℕ) (s : ℕ) (look : Option ℕ) (n : ℕ) → Decided (MakesReductions t below s look n)

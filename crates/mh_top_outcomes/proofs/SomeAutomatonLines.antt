@@ -3,8 +3,8 @@ use Rattle.std.proofs.Common.{◌≡◌, ◌⊎◌, inl, inr, ℕ, List, [], ◌
 use Rattle.mh_grammar.specs.declared.types.Grammar.{Grammar}
 use Rattle.mh_grammar.specs.declared.types.Look.{Look}
 use Rattle.mh_grammar.specs.Text.{Text}
-use Rattle.mh_grammar_decided.specs.NotLacking.{NotLacking}
-use Rattle.mh_grammar_decided.proofs.NotLacking.{chain, decided, given}
+use Rattle.mh_grammar.specs.NotLacking.{NotLacking}
+use Rattle.mh_grammar.proofs.NotLacking.{chain, decided, given}
 use Rattle.mh_items_kernels.specs.KernelTypes.{Automaton}
 use Rattle.mh_lint_findings.specs.Lines.{Line}
 use Rattle.mh_lint_findings.specs.LinesInOrder.{AreInOrder}

@@ -4,8 +4,8 @@ use Rattle.std.specs.Prelude.{MatchBool, slice_index_or}
 use Rattle.mh_grammar.specs.declared.types.Grammar.{Grammar}
 use Rattle.mh_grammar.specs.declared.types.Look.TheVariants.{Token}
 use Rattle.mh_grammar.specs.Text.{Text}
-use Rattle.mh_grammar_decided.specs.NotLacking.{NotLacking}
-use Rattle.mh_grammar_decided.proofs.NotLacking.{given, chain, decided, tabled}
+use Rattle.mh_grammar.specs.NotLacking.{NotLacking}
+use Rattle.mh_grammar.proofs.NotLacking.{given, chain, decided, tabled}
 use Rattle.mh_items_kernels.specs.KernelTypes.{Automaton}
 use Rattle.mh_items_kernels.specs.Automaton.{kernel_at, edges_at}
 use Rattle.mh_report.specs.Automata.{AreActionLines, AreStateTexts, IsAutomatonText, IsStateText, cell_lines, goto_lines, head_line, kernel_lines, title}

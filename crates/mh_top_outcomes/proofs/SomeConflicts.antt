@@ -19,8 +19,8 @@ use Rattle.mh_resolve_cells.specs.States.{state_of, Raw, HasConflictOn}
 use Rattle.mh_resolve_cells.specs.Cells.{IsConflict}
 use Rattle.mh_resolve_cells.specs.Conflicts.{IsConflictOf, IsConflictBefore, AreConflicts}
 use Rattle.mh_resolve_cells.proofs.ConflictList.{unsolved_conflict}
-use Rattle.mh_grammar_decided.specs.NotLacking.{NotLacking}
-use Rattle.mh_grammar_decided.proofs.NotLacking.{given, chain, decided, select}
+use Rattle.mh_grammar.specs.NotLacking.{NotLacking}
+use Rattle.mh_grammar.proofs.NotLacking.{given, chain, decided, select}
 use Rattle.mh_canon_states.proofs.ItemsOfGrammar.{looks_from, look_in, looks_rising}
 use Rattle.mh_canon_states.proofs.MovedKernels.{close_in, kernel_in}
 

@@ -4,8 +4,8 @@ use Rattle.std.proofs.Common.{◌≡◌, ◌⊎◌, ◌≤◌, ◌++◌, inl, in
 use Rattle.std.specs.Prelude.{nat_le, if◌then◌else◌}
 use Rattle.std.proofs.lemmas.Bool.{leb-true}
 use Rattle.mh_grammar.specs.Text.{Text}
-use Rattle.mh_grammar_decided.proofs.NotLacking.{chain, decided, given}
-use Rattle.mh_grammar_decided.specs.NotLacking.{NotLacking}
+use Rattle.mh_grammar.proofs.NotLacking.{chain, decided, given}
+use Rattle.mh_grammar.specs.NotLacking.{NotLacking}
 use Rattle.mh_lint_faults.specs.Stages.{AreAccepted, Stages, modules_of}
 use Rattle.mh_lint_findings.specs.Lines.{Line}
 use Rattle.mh_lint_findings.specs.declared.findings.GrammarFile.{GrammarFile}

@@ -10,8 +10,8 @@ use Rattle.mh_grammar.specs.Edges.{IsRising}
 use Rattle.mh_grammar.specs.Plain.{plain_of, production_count, rhs_of, IsInRange}
 use Rattle.mh_grammar.specs.Text.{Text}
 use Rattle.mh_grammar.proofs.Lists.{contains_map, map_contains}
-use Rattle.mh_grammar_decided.specs.NotLacking.{NotLacking}
-use Rattle.mh_grammar_decided.proofs.NotLacking.{given, chain, decided, select}
+use Rattle.mh_grammar.specs.NotLacking.{NotLacking}
+use Rattle.mh_grammar.proofs.NotLacking.{given, chain, decided, select}
 use Rattle.mh_canon_states.proofs.ItemsOfGrammar.{place_in, places, places_rising}
 use Rattle.mh_canon_states.proofs.MovedKernels.{close_in, kernel_in}
 use Rattle.mh_items_kernels.specs.KernelTypes.{Automaton, KernelItem}

@@ -14,8 +14,8 @@ use Rattle.mh_front.proofs.SomeInlined.{inlined_or_fault}
 use Rattle.mh_front.specs.Stages.{IsJoinedFault}
 use Rattle.mh_front.specs.declared.fault.GrammarFault.{GrammarFault}
 use Rattle.mh_front.specs.declared.fault.GrammarFault.TheVariants as front
-use Rattle.mh_grammar_decided.proofs.NotLacking.{chain, decided, given}
-use Rattle.mh_grammar_decided.specs.NotLacking.{NotLacking}
+use Rattle.mh_grammar.proofs.NotLacking.{chain, decided, given}
+use Rattle.mh_grammar.specs.NotLacking.{NotLacking}
 use Rattle.mh_inline.specs.declared.fault.InlineFault.TheVariants as inlining
 use Rattle.mh_join.proofs.JoinedReady as joins
 use Rattle.mh_join_names.specs.Faults.{Meanings, meanings}

@@ -8,8 +8,8 @@ use Rattle.mh_grammar.specs.declared.types.Grammar.{Grammar}
 use Rattle.mh_grammar.specs.Plain.{plain_of}
 use Rattle.mh_grammar.proofs.Lists.{recursion-from}
 use Rattle.mh_resolve_cells.specs.Conflicts.{IsConflictOf}
-use Rattle.mh_grammar_decided.specs.NotLacking.{NotLacking}
-use Rattle.mh_grammar_decided.proofs.NotLacking.{given, chain, decided}
+use Rattle.mh_grammar.specs.NotLacking.{NotLacking}
+use Rattle.mh_grammar.proofs.NotLacking.{given, chain, decided}
 use Rattle.mh_check.specs.Compiling.{missing}
 use Rattle.mh_check.specs.Texts.{compiled_text}
 use Rattle.mh_msgfile.specs.FileTexts.{echo_text}

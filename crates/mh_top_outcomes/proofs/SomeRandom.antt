@@ -10,8 +10,8 @@ use Rattle.mh_grammar.specs.declared.types.Symbol.TheVariants.{T, N}
 use Rattle.mh_grammar.specs.Derivations as trees
 use Rattle.mh_grammar.specs.Plain.{PlainGrammar, plain_of, Derives, DerivesAll, IsSentence, production_count, rhs_of, start_symbol}
 use Rattle.mh_grammar.proofs.Lists.{at_contains, contains_at, get_within}
-use Rattle.mh_grammar_decided.specs.NotLacking.{NotLacking}
-use Rattle.mh_grammar_decided.proofs.NotLacking.{given, chain, decided}
+use Rattle.mh_grammar.specs.NotLacking.{NotLacking}
+use Rattle.mh_grammar.proofs.NotLacking.{given, chain, decided}
 use Rattle.mh_msgfile.specs.FileTexts.{sentence_text}
 use Rattle.mh_sample_shortest.proofs.ShortLex.{shortlex_length}
 use Rattle.mh_sample_random.specs.Limits.{max_draws}

@@ -9,8 +9,8 @@ use Rattle.mh_grammar.specs.declared.types.Symbol.{Symbol}
 use Rattle.mh_grammar.specs.declared.types.Symbol.TheVariants.{N}
 use Rattle.mh_grammar.specs.Plain.{PlainGrammar, plain_of, Derives, IsProductive}
 use Rattle.mh_grammar.specs.Text.{Text}
-use Rattle.mh_grammar_decided.specs.NotLacking.{NotLacking}
-use Rattle.mh_grammar_decided.proofs.NotLacking.{given, chain, decided, tabled}
+use Rattle.mh_grammar.specs.NotLacking.{NotLacking}
+use Rattle.mh_grammar.proofs.NotLacking.{given, chain, decided, tabled}
 use Rattle.mh_sample.specs.Sentences.{IsShortestText, lines_from}
 use Rattle.mh_sample_shortest.specs.Limits.{max_word}
 use Rattle.mh_sample_shortest.specs.Shortest.{IsLeast, IsShortest, ShortLex}

@@ -3,8 +3,8 @@ use Rattle.std.proofs.Common.{◌⊎◌, ◌++◌, inl, inr, ℕ, List, [], ◌�
 use Rattle.std.specs.List.{enumerate_from}
 use Rattle.std.proofs.lemmas.Bool.{cases_lt}
 use Rattle.mh_grammar.specs.Text.{Text}
-use Rattle.mh_grammar_decided.proofs.NotLacking.{chain, decided, given}
-use Rattle.mh_grammar_decided.specs.NotLacking.{NotLacking}
+use Rattle.mh_grammar.proofs.NotLacking.{chain, decided, given}
+use Rattle.mh_grammar.specs.NotLacking.{NotLacking}
 use Rattle.mh_join_names.specs.Faults.{Meanings}
 use Rattle.mh_lint.specs.Built.{Built}
 use Rattle.mh_lint.specs.MentionWarnings.{IsWarning}

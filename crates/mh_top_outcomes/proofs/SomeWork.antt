@@ -1,6 +1,6 @@
 -- Proves, as a double negation, that all words and files ask for some work, as each stage of the work has an outcome.
-use Rattle.mh_grammar_decided.specs.NotLacking.{NotLacking}
-use Rattle.mh_grammar_decided.proofs.NotLacking.{given, chain, decided, tabled}
+use Rattle.mh_grammar.specs.NotLacking.{NotLacking}
+use Rattle.mh_grammar.proofs.NotLacking.{given, chain, decided, tabled}
 use Rattle.mh_reader.proofs.SpellsOrSyntaxLine.{read_always}
 use Rattle.mh_front.proofs.SomeGrammar.{some_grammar}
 use Rattle.mh_canon_states.proofs.SomeCanonical as canon

@@ -1,7 +1,7 @@
 //! Laws on what every run has. Each law is the contract of a function that does nothing.
 ghost use Rattle.std.specs.Prelude.{List, Option};
 ghost use Rattle.mh_grammar.specs.Text.{Text};
-ghost use Rattle.mh_grammar_decided.specs.NotLacking.{NotLacking};
+ghost use Rattle.mh_grammar.specs.NotLacking.{NotLacking};
 ghost use Rattle.mh_outside.specs.Shelf.{Files};
 ghost use Rattle.mh_top_drive.specs.ModeBehavior.{Outcome, HasOutcome};
 ghost use Rattle.mh_top_plans.specs.Plan.{plan_behavior};

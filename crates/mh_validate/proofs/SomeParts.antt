@@ -10,8 +10,8 @@ use Rattle.mh_tables_core.specs.declared.parts.StateParts.{StateParts}
 use Rattle.mh_items_kernels.specs.KernelTypes.{Kernel}
 use Rattle.mh_resolve_cells.specs.declared.kinds.Mode.{Mode}
 use Rattle.mh_resolve_cells.specs.States.{State, HasDefault, IsFallback, FillsCell, IsCell, IsResolved, core_item_of}
-use Rattle.mh_grammar_decided.specs.NotLacking.{NotLacking}
-use Rattle.mh_grammar_decided.proofs.NotLacking.{given, chain, decided, tabled}
+use Rattle.mh_grammar.specs.NotLacking.{NotLacking}
+use Rattle.mh_grammar.proofs.NotLacking.{given, chain, decided, tabled}
 
 module _ (mode : Mode) (s : State) where
   cell_by : (z : ℕ) → ((a : Action) × FillsCell mode s z a) ⊎ (((a : Action) × FillsCell mode s z a) → ⊥) → (a : Action) × IsCell mode s z a

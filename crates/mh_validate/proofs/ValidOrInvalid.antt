@@ -17,8 +17,8 @@ use Rattle.mh_tabfile_form.specs.TableContent.{raw_cells}
 use Rattle.mh_validate_valid.specs.declared.reason.Reason.{Reason}
 use Rattle.mh_validate_valid.specs.declared.reason.Reason.TheVariants as reasons
 use Rattle.mh_validate_valid.specs.Valid.{HasHeader, HasStates, HasKernel, AreKernels, HasEdges, IsResolvedAt, IsRightState, HasWrongCells, IsValid, IsRightBefore, HasNoKernel, IsInvalidAt, raw_state, reason_of}
-use Rattle.mh_grammar_decided.specs.NotLacking.{NotLacking}
-use Rattle.mh_grammar_decided.proofs.NotLacking.{given, chain, decided, Lacks, lacks_or, tabled}
+use Rattle.mh_grammar.specs.NotLacking.{NotLacking}
+use Rattle.mh_grammar.proofs.NotLacking.{given, chain, decided, Lacks, lacks_or, tabled}
 use Rattle.mh_validate.proofs.SomeParts.{some_parts}
 
 found_reason : (found : RawCells) → (reason_of (cells.Cells []) found ≡ reasons.Cell) ⊎ (reason_of (cells.Cells []) found ≡ reasons.Fallback)

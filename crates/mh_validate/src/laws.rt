@@ -2,7 +2,7 @@
 //! contract states the law.
 ghost use Rattle.std.specs.Prelude.{◌⊎◌, ℕ, Option};
 ghost use Rattle.mh_grammar.specs.declared.types.Grammar.{Grammar};
-ghost use Rattle.mh_grammar_decided.specs.NotLacking.{NotLacking};
+ghost use Rattle.mh_grammar.specs.NotLacking.{NotLacking};
 ghost use Rattle.mh_tabfile_form.specs.declared.types.RawTable.{RawTable};
 ghost use Rattle.mh_validate_valid.specs.declared.reason.Reason.{Reason};
 ghost use Rattle.mh_validate_valid.specs.Valid.{IsValid, IsInvalidAt};

@@ -4,7 +4,7 @@ use Rattle.std.specs.Prelude.{slice_index_or}
 use Rattle.std.specs.List.{Contains}
 use Rattle.mh_grammar.specs.Edges.{IsRising}
 use Rattle.mh_grammar.proofs.Lists.{contains_here, contains_there, contains_cases, contains_none, recursion-from, recursion_contains}
-use Rattle.mh_grammar_decided.specs.NotLacking.{NotLacking}
+use Rattle.mh_grammar.specs.NotLacking.{NotLacking}
 
 pub given : {A : Type 0} → A → NotLacking A
 given a k = k a

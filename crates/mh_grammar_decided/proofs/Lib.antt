@@ -1,2 +1,0 @@
-pub mod NotLacking
-pub mod DecidedSearch
