@@ -25,7 +25,7 @@ use Rattle.mh_rebase_form.specs.Decisions.{Keep, Drop, DecidedLine, IsReason, Se
 use Rattle.mh_rebase.specs.code.Reasons.{IsReasonOfVerdict, IsStateToKeep}
 use Rattle.mh_rebase.specs.code.Parts.{AreKeptLines}
 use Rattle.mh_rebase.proofs.AreKeptLines.{places_drop, places_keep}
-use Rattle.mh_lint_messages.specs.ErrorLines.{decision_text}
+use Rattle.mh_rebase_form.specs.ErrorLines.{decision_text}
 use Rattle.mh_lint_messages.specs.code.Findings.{DecidesLine, WritesFault}
 use Rattle.mh_lint_messages.specs.declared.lines.Findings.{Findings}
 

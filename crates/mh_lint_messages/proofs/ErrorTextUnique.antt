@@ -15,7 +15,7 @@ use Rattle.mh_rebase_form.specs.Decisions.{Decision, Keep, Drop, DecidedLine}
 use Rattle.mh_rebase_form.specs.RebasedText.{DecidedEntry, without_decisions, lines_in, is_new_row}
 use Rattle.mh_rebase.proofs.AllAreKept.{reason_never, state_once}
 use Rattle.mh_rebase.proofs.RebasedUnique.{reason_once}
-use Rattle.mh_lint_messages.specs.ErrorLines.{IsLineDecision, AreLineDecisions, entries_text, missing_texts, unpaired_text, IsErrorText}
+use Rattle.mh_rebase_form.specs.ErrorLines.{IsLineDecision, AreLineDecisions, entries_text, missing_texts, unpaired_text, IsErrorText}
 
 module _ (g : Grammar) (t : TableData) where
   decision_once : (before : List DecidedLine) (text : Text) (d e : Decision) → IsLineDecision g t before text d → IsLineDecision g t before text e → d ≡ e

@@ -31,7 +31,7 @@ use Rattle.mh_rebase_form.specs.RebasedText.{DecidedEntry, without_decisions, li
 use Rattle.mh_rebase.proofs.AllAreKept.{IsKeep, reason_never, rising_before, state_once}
 use Rattle.mh_rebase.proofs.CompleteIsKept.{with_states, with_states_same, with_states_fail, with_states_apart, with_states_has}
 use Rattle.mh_rebase.proofs.StatesOfSentences.{FailingSentence, OtherState, HasSentenceIn, content, failing_of_decision, failing_of_lines, has_line, sentence_of_kept_line, sound_by, complete_by}
-use Rattle.mh_lint_messages.specs.ErrorLines.{IsLineDecision, AreLineDecisions, place, decision_text, decision_texts, entry_text, entries_text, is_unwritten, last_line, missing_text, missing_texts, unpaired_text, unwritten_text, IsErrorText}
+use Rattle.mh_rebase_form.specs.ErrorLines.{IsLineDecision, AreLineDecisions, place, decision_text, decision_texts, entry_text, entries_text, is_unwritten, last_line, missing_text, missing_texts, unpaired_text, unwritten_text, IsErrorText}
 use Rattle.mh_lint_messages.specs.Complete.{IsFaultless}
 use Rattle.mh_lint_messages.proofs.ErrorTextUnique.{decided_split}
 

@@ -17,7 +17,7 @@ use Rattle.mh_rebase.specs.code.Reasons.{kept_line_in}
 use Rattle.mh_rebase.specs.code.Parts.{AreKeptLines}
 use Rattle.mh_rebase.specs.code.Rows.{has_no_kept_line}
 use Rattle.mh_rebase.proofs.WritesRows.{filter_append, filter_same}
-use Rattle.mh_lint_messages.specs.ErrorLines.{entries_text, missing_text, missing_texts, unpaired_text, IsErrorText}
+use Rattle.mh_rebase_form.specs.ErrorLines.{entries_text, missing_text, missing_texts, unpaired_text, IsErrorText}
 use Rattle.mh_lint_messages.specs.code.Findings.{DecidesEntries}
 use Rattle.mh_lint_messages.specs.declared.lines.Findings.{Findings}
 

@@ -1,3 +1,2 @@
-pub mod ErrorLines
 pub mod Complete
 pub mod code

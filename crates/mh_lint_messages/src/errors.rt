@@ -6,7 +6,7 @@ ghost use Rattle.mh_catalogue_rows.specs.Rows.{row_of, rows_of};
 ghost use Rattle.mh_msgfile.specs.LooseFiles.{HasShortLines};
 ghost use Rattle.mh_rebase.specs.code.Rows.{has_no_kept_line};
 ghost use Rattle.mh_lint_messages.specs.code.Findings.{HasFoundNothing};
-ghost use Rattle.mh_lint_messages.specs.ErrorLines.{missing_text, missing_texts, unpaired_text, IsErrorText};
+ghost use Rattle.mh_rebase_form.specs.ErrorLines.{missing_text, missing_texts, unpaired_text, IsErrorText};
 
 use crate::lines::{Examined, Findings, add_entries, write_place};
 use mh_catalogue::catalogue;

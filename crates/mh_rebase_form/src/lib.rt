@@ -1,5 +1,6 @@
-//! The definition of a messages file that is rebased onto another grammar, and the reasons why lines of the file are
-//! dropped.
+//! The definitions of a messages file that is rebased onto another grammar and of the lines on what is wrong with a
+//! messages file, and the reasons why lines of a file are dropped. The plans of the program cite both, and so need not
+//! wait for the proofs of the calls.
 #![tactic(auto)]
 
 mod reason;

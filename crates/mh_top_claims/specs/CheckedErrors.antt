@@ -10,7 +10,7 @@ use Rattle.mh_tables_core.specs.Failing.{TooLongAt}
 use Rattle.mh_msgfile.specs.FileBlocks.{HasBlocks}
 use Rattle.mh_msgfile.specs.declared.blocks.LooseBlocks.{LooseBlocks}
 use Rattle.mh_lint_messages.specs.Complete.{IsFaultless}
-use Rattle.mh_lint_messages.specs.ErrorLines.{IsErrorText}
+use Rattle.mh_rebase_form.specs.ErrorLines.{IsErrorText}
 use Rattle.mh_top_drive.specs.FileContents.{IsFound}
 use Rattle.mh_top_drive.specs.StageResults.{Go}
 use Rattle.mh_top_drive.specs.Statuses.{status_of}

@@ -3,7 +3,7 @@ use Rattle.std.proofs.Common.{◌≡◌, ◌⊎◌, ℕ, Option, refl, sym, inl,
 use Rattle.std.specs.Prelude.{Result, Ok, Err}
 use Rattle.mh_grammar.specs.Text.{Text}
 use Rattle.mh_msgfile.specs.declared.blocks.LooseBlocks.{LooseBlocks}
-use Rattle.mh_lint_messages.specs.ErrorLines.{IsErrorText}
+use Rattle.mh_rebase_form.specs.ErrorLines.{IsErrorText}
 use Rattle.mh_tables_core.specs.Failing.{TooLongAt}
 use Rattle.mh_top_drive.specs.code.ModeCalls.{EndIsWritten}
 use Rattle.mh_top_drive.specs.ModeBehavior.{ModeEnd}

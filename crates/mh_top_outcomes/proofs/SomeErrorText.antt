@@ -7,7 +7,7 @@ use Rattle.mh_grammar.specs.Plain.{plain_of}
 use Rattle.mh_grammar.specs.Text.{Text}
 use Rattle.mh_grammar.specs.NotLacking.{NotLacking}
 use Rattle.mh_grammar.proofs.NotLacking.{given, chain}
-use Rattle.mh_lint_messages.specs.ErrorLines.{IsLineDecision, AreLineDecisions, IsErrorText, entries_text, missing_texts, unpaired_text}
+use Rattle.mh_rebase_form.specs.ErrorLines.{IsLineDecision, AreLineDecisions, IsErrorText, entries_text, missing_texts, unpaired_text}
 use Rattle.mh_lint_messages.proofs.DecidesEntries.{decided_append}
 use Rattle.mh_msgfile.specs.declared.blocks.LooseBlocks.{LooseBlocks}
 use Rattle.mh_msgfile.specs.declared.loose.LooseEntry.{LooseEntry}
