@@ -136,7 +136,7 @@ impl Places {
         ensures kept { OnOk result (self.new.bad_costs.items ≡ self.old.bad_costs.items) }
     {
         let section = self.scan.section;
-        self.scan = self.scan.taken(sign);
+        self.scan.take(sign);
         let name = reference_of(alloc, sign, text)?;
         remove_name(&mut self.mentions, sign);
         add_name(

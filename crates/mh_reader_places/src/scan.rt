@@ -110,227 +110,213 @@ impl Scan {
         }
     }
 
-    /// The walk in another section.
-    fn in_section(self, section: Section) -> Scan
-        ensures { result ≡ steps.in_section section self }
+    /// Continues in another section.
+    fn enter(&mut self, section: Section)
+        ensures { self.new ≡ steps.in_section section self.old }
     {
-        Scan { section, ..self }
+        self.section = section;
     }
 
     /// Begins another declaration of levels.
-    fn at_levels(self) -> Scan
-        requires { self.levels < 2 ^ 64 - 1 }
-        ensures { result ≡ steps.at_levels self }
+    fn begin_levels(&mut self)
+        requires { self.old.levels < 2 ^ 64 - 1 }
+        ensures { self.new ≡ steps.at_levels self.old }
     {
-        Scan {
-            section: Section::Levels,
-            levels: self.levels + 1,
-            ..self
-        }
+        self.section = Section::Levels;
+        self.levels += 1;
     }
 
     /// Begins another `%on_error_reduce` declaration.
-    fn at_on_error(self) -> Scan
-        requires { self.on_error < 2 ^ 64 - 1 }
-        ensures { result ≡ steps.at_on_error self }
+    fn begin_on_error(&mut self)
+        requires { self.old.on_error < 2 ^ 64 - 1 }
+        ensures { self.new ≡ steps.at_on_error self.old }
     {
-        Scan {
-            section: Section::OnError,
-            on_error: self.on_error + 1,
-            actuals: 0,
-            ..self
-        }
+        self.section = Section::OnError;
+        self.on_error += 1;
+        self.actuals = 0;
     }
 
     /// Begins a declaration, if the lexeme is its keyword, or the rules.
-    fn declared(self, sign: TokenKind) -> Scan
-        requires levels { self.levels < 2 ^ 64 - 1 }
-        requires on_error { self.on_error < 2 ^ 64 - 1 }
-        ensures { result ≡ steps.declared self sign }
+    fn declare(&mut self, sign: TokenKind)
+        requires levels { self.old.levels < 2 ^ 64 - 1 }
+        requires on_error { self.old.on_error < 2 ^ 64 - 1 }
+        ensures { self.new ≡ steps.declared self.old sign }
     {
         match sign {
-            TokenKind::Token => self.in_section(Section::Tokens),
-            TokenKind::Start => self.in_section(Section::Starts),
-            TokenKind::Level(_) => self.at_levels(),
-            TokenKind::OnErrorReduce => self.at_on_error(),
-            TokenKind::Type => self.in_section(Section::Unread),
-            TokenKind::Parameter => self.in_section(Section::Unread),
-            TokenKind::Attribute => self.in_section(Section::Unread),
-            TokenKind::Percents => self.in_section(Section::RuleStart),
-            _ => self,
+            TokenKind::Token => self.enter(Section::Tokens),
+            TokenKind::Start => self.enter(Section::Starts),
+            TokenKind::Level(_) => self.begin_levels(),
+            TokenKind::OnErrorReduce => self.begin_on_error(),
+            TokenKind::Type => self.enter(Section::Unread),
+            TokenKind::Parameter => self.enter(Section::Unread),
+            TokenKind::Attribute => self.enter(Section::Unread),
+            TokenKind::Percents => self.enter(Section::RuleStart),
+            _ => {}
         }
     }
 
     /// Counts a new actual: a word or string outside of brackets begins one.
-    fn with_actual(self) -> Scan
-        requires { HasRoom self }
-        ensures { result ≡ steps.with_actual self }
+    fn count_actual(&mut self)
+        requires { HasRoom self.old }
+        ensures { self.new ≡ steps.with_actual self.old }
     {
         if self.brackets == 0 {
-            Scan {
-                actuals: self.actuals + 1,
-                ..self
-            }
-        } else {
-            self
+            self.actuals += 1;
         }
     }
 
     /// Counts an open or closed bracket, or a new actual. A word before an equals sign is no actual, but a name.
-    fn with_count(self, sign: TokenKind) -> Scan
-        requires { HasRoom self }
-        ensures { result ≡ steps.with_count self sign }
+    fn count(&mut self, sign: TokenKind)
+        requires { HasRoom self.old }
+        ensures { self.new ≡ steps.with_count self.old sign }
     {
         match sign {
-            TokenKind::Open => Scan {
-                brackets: self.brackets + 1,
-                ..self
-            },
-            TokenKind::Close => Scan {
-                brackets: self.brackets.saturating_sub(1),
-                ..self
-            },
-            TokenKind::Word => self.with_actual(),
-            TokenKind::Quoted => self.with_actual(),
-            TokenKind::Equals => Scan {
-                actuals: self.actuals.saturating_sub(1),
-                ..self
-            },
-            _ => self,
+            TokenKind::Open => self.brackets += 1,
+            TokenKind::Close => self.brackets = self.brackets.saturating_sub(1),
+            TokenKind::Word => self.count_actual(),
+            TokenKind::Quoted => self.count_actual(),
+            TokenKind::Equals => self.actuals = self.actuals.saturating_sub(1),
+            _ => {}
         }
     }
 
     /// Ends an alternative.
-    fn after_alternative(self, section: Section) -> Scan
-        requires { HasRoom self }
-        ensures { result ≡ steps.after_alternative section self }
+    fn end_alternative(&mut self, section: Section)
+        requires { HasRoom self.old }
+        ensures { self.new ≡ steps.after_alternative section self.old }
     {
-        Scan {
-            section,
-            alternatives: self.alternatives + 1,
-            actuals: 0,
-            ..self
-        }
+        self.section = section;
+        self.alternatives += 1;
+        self.actuals = 0;
     }
 
     /// Continues the body of a rule.
-    fn in_body(self, sign: TokenKind) -> Scan
-        requires { HasRoom self }
-        ensures { result ≡ steps.in_body self sign }
+    fn take_in_body(&mut self, sign: TokenKind)
+        requires { HasRoom self.old }
+        ensures { self.new ≡ steps.in_body self.old sign }
     {
         match sign {
-            TokenKind::Bar => self.after_alternative(Section::Body),
-            TokenKind::Prec => self.in_section(Section::Prec),
-            TokenKind::Action => self.after_alternative(Section::Group),
-            _ => self.with_count(sign).in_section(Section::Body),
+            TokenKind::Bar => self.end_alternative(Section::Body),
+            TokenKind::Prec => self.enter(Section::Prec),
+            TokenKind::Action => self.end_alternative(Section::Group),
+            _ => {
+                self.count(sign);
+                self.enter(Section::Body);
+            }
         }
     }
 
     /// Begins the body of a rule.
-    fn at_body_start(self, sign: TokenKind) -> Scan
-        requires { HasRoom self }
-        ensures { result ≡ steps.at_body_start self sign }
+    fn take_at_body_start(&mut self, sign: TokenKind)
+        requires { HasRoom self.old }
+        ensures { self.new ≡ steps.at_body_start self.old sign }
     {
         match sign {
-            TokenKind::Bar => self.in_section(Section::Body),
-            _ => self.in_body(sign),
+            TokenKind::Bar => self.enter(Section::Body),
+            _ => self.take_in_body(sign),
         }
     }
 
     /// Continues after the `%prec` of an alternative.
-    fn after_prec(self, sign: TokenKind) -> Scan
-        requires { HasRoom self }
-        ensures { result ≡ steps.after_prec self sign }
+    fn take_after_prec(&mut self, sign: TokenKind)
+        requires { HasRoom self.old }
+        ensures { self.new ≡ steps.after_prec self.old sign }
     {
         match sign {
-            TokenKind::Bar => self.after_alternative(Section::Body),
-            TokenKind::Action => self.after_alternative(Section::Group),
-            _ => self,
+            TokenKind::Bar => self.end_alternative(Section::Body),
+            TokenKind::Action => self.end_alternative(Section::Group),
+            _ => {}
         }
     }
 
     /// Takes a modifier or the name of a rule, or what is between rules.
-    fn at_rule_start(self, sign: TokenKind) -> Scan
-        ensures { result ≡ steps.at_rule_start self sign }
+    fn take_at_rule_start(&mut self, sign: TokenKind)
+        ensures { self.new ≡ steps.at_rule_start self.old sign }
     {
         match sign {
-            TokenKind::Word => self.in_section(Section::Formals),
-            _ => self,
+            TokenKind::Word => self.enter(Section::Formals),
+            _ => {}
         }
     }
 
     /// Begins a group.
-    fn at_group_start(self, section: Section) -> Scan
-        ensures { result ≡ steps.at_group_start section self }
+    fn begin_group(&mut self, section: Section)
+        ensures { self.new ≡ steps.at_group_start section self.old }
     {
-        Scan {
-            section,
-            group: self.alternatives,
-            actuals: 0,
-            ..self
-        }
+        self.section = section;
+        self.group = self.alternatives;
+        self.actuals = 0;
     }
 
     /// Continues the formals of a rule.
-    fn in_formals(self, sign: TokenKind) -> Scan
-        ensures { result ≡ steps.in_formals self sign }
+    fn take_in_formals(&mut self, sign: TokenKind)
+        ensures { self.new ≡ steps.in_formals self.old sign }
     {
         match sign {
-            TokenKind::Colon => self.at_group_start(Section::BodyStart),
-            _ => self,
+            TokenKind::Colon => self.begin_group(Section::BodyStart),
+            _ => {}
         }
     }
 
     /// Continues after the action of a group: with another group, with the next rule, or with the end of the rules.
-    fn after_group(self, sign: TokenKind) -> Scan
-        ensures { result ≡ steps.after_group self sign }
+    fn take_after_group(&mut self, sign: TokenKind)
+        ensures { self.new ≡ steps.after_group self.old sign }
     {
         match sign {
-            TokenKind::Bar => self.at_group_start(Section::Body),
-            TokenKind::Prec => self.in_section(Section::GroupPrec),
-            TokenKind::Word => self.in_section(Section::Formals),
-            TokenKind::Public => self.in_section(Section::RuleStart),
-            TokenKind::Inline => self.in_section(Section::RuleStart),
-            TokenKind::Semicolon => self.in_section(Section::RuleStart),
-            _ => self,
+            TokenKind::Bar => self.begin_group(Section::Body),
+            TokenKind::Prec => self.enter(Section::GroupPrec),
+            TokenKind::Word => self.enter(Section::Formals),
+            TokenKind::Public => self.enter(Section::RuleStart),
+            TokenKind::Inline => self.enter(Section::RuleStart),
+            TokenKind::Semicolon => self.enter(Section::RuleStart),
+            _ => {}
         }
     }
 
     /// Continues after the `%prec` of a group.
-    fn after_group_prec(self, sign: TokenKind) -> Scan
-        ensures { result ≡ steps.after_group_prec self sign }
+    fn take_after_group_prec(&mut self, sign: TokenKind)
+        ensures { self.new ≡ steps.after_group_prec self.old sign }
     {
         match sign {
-            TokenKind::Word => self.in_section(Section::Group),
-            TokenKind::Quoted => self.in_section(Section::Group),
-            _ => self,
+            TokenKind::Word => self.enter(Section::Group),
+            TokenKind::Quoted => self.enter(Section::Group),
+            _ => {}
         }
     }
 
+    /// Counts a lexeme in an `%on_error_reduce` declaration, or begins another declaration.
+    fn take_in_on_error(&mut self, sign: TokenKind)
+        requires { HasRoom self.old }
+        ensures { self.new ≡ steps.declared (steps.with_count self.old sign) sign }
+    {
+        self.count(sign);
+        self.declare(sign);
+    }
+
     /// Takes a lexeme: continues with the section of the file that the lexeme continues.
-    pub(crate) fn taken(self, sign: TokenKind) -> Scan
-        requires { HasRoom self }
-        ensures { result ≡ steps.taken self sign }
+    pub(crate) fn take(&mut self, sign: TokenKind)
+        requires { HasRoom self.old }
+        ensures { self.new ≡ steps.taken self.old sign }
     {
         match self.section {
-            Section::Unread => self.declared(sign),
-            Section::Tokens => self.declared(sign),
-            Section::Starts => self.declared(sign),
-            Section::Levels => self.declared(sign),
-            Section::OnError => self.with_count(sign).declared(sign),
-            Section::RuleStart => self.at_rule_start(sign),
-            Section::Formals => self.in_formals(sign),
-            Section::BodyStart => self.at_body_start(sign),
-            Section::Body => self.in_body(sign),
-            Section::Prec => self.after_prec(sign),
-            Section::Group => self.after_group(sign),
-            Section::GroupPrec => self.after_group_prec(sign),
+            Section::Unread => self.declare(sign),
+            Section::Tokens => self.declare(sign),
+            Section::Starts => self.declare(sign),
+            Section::Levels => self.declare(sign),
+            Section::OnError => self.take_in_on_error(sign),
+            Section::RuleStart => self.take_at_rule_start(sign),
+            Section::Formals => self.take_in_formals(sign),
+            Section::BodyStart => self.take_at_body_start(sign),
+            Section::Body => self.take_in_body(sign),
+            Section::Prec => self.take_after_prec(sign),
+            Section::Group => self.take_after_group(sign),
+            Section::GroupPrec => self.take_after_group_prec(sign),
         }
     }
 
     /// The role of a head in the present producer.
-    fn producer_role(self) -> Role
-        ensures { result ≡ steps.producer_role self }
+    fn producer_role(&self) -> Role
+        ensures { result ≡ steps.producer_role self.now }
     {
         Role::Head {
             alternative: self.alternatives,
@@ -339,8 +325,8 @@ impl Scan {
     }
 
     /// The role of a lexeme that continued this section, after the lexeme was counted.
-    pub(crate) fn role_in(self, section: Section, sign: TokenKind) -> Option<Role>
-        ensures { result ≡ steps.role_in section self sign }
+    pub(crate) fn role_in(&self, section: Section, sign: TokenKind) -> Option<Role>
+        ensures { result ≡ steps.role_in section self.now sign }
     {
         match section {
             Section::Unread => None,
