@@ -19,7 +19,7 @@ use Rattle.mh_lint_findings.proofs.AppendsLines.{appends_more}
 use Rattle.mh_lint_faults.proofs.SplitFiles.{costs_at, file_at, mentions_at, module_at}
 use Rattle.mh_lint_faults.specs.code.MentionContexts.{HasOwnPrecs}
 use Rattle.mh_lint_faults.specs.declared.front.AcceptedFiles.{AcceptedFiles}
-use Rattle.mh_lint_states.specs.declared.all_states.Shown.{Shown}
+use Rattle.mh_lint_states.specs.declared.all_states.ShownByStates.{ShownByStates}
 use Rattle.mh_lint.specs.MentionWarnings.{declarations_before}
 use Rattle.mh_lint.specs.Warnings.{AreFileLines, AreLinesOfFile}
 use Rattle.mh_lint.specs.code.MentionUses.{AreLinesOfFileAt, AreStagesOf, AreUses, AreUsesAfterFile, AreUsesBut, Checked, IsBefore, IsBeforeFile, IsInFile, IsShownBy, next_file}
@@ -41,7 +41,7 @@ pub record IsWalked (c : Checked) (ms : List Mention) (all : List ℕ) (i : ℕ)
 pub stages_at : (c : Checked) (files : AcceptedFiles) (n : ℕ) → AreStagesOf c files → AreStagesOf (record c { file = n }) files
 stages_at c files n h = record { read = h.read; names = h.names; joined = h.joined; expanded = h.expanded; declarations = h.declarations }
 
-pub shown_at : (c : Checked) (files : AcceptedFiles) (g : Grammar) (shown : Shown) (n : ℕ) → IsShownBy c files g shown → IsShownBy (record c { file = n }) files g shown
+pub shown_at : (c : Checked) (files : AcceptedFiles) (g : Grammar) (shown : ShownByStates) (n : ℕ) → IsShownBy c files g shown → IsShownBy (record c { file = n }) files g shown
 shown_at c files g shown n h = record { stages = stages_at c files n h.stages; grammar_is = h.grammar_is; is_shown = h.is_shown }
 
 module _ (c : Checked) (files : AcceptedFiles) where

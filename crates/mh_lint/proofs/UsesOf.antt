@@ -25,7 +25,7 @@ use Rattle.mh_lint_faults.specs.declared.front.AcceptedFiles.{AcceptedFiles}
 use Rattle.mh_lint_faults.specs.declared.reading.ReadFiles.{ReadFiles}
 use Rattle.mh_lint_states.specs.code.Marks.{AreMarked}
 use Rattle.mh_lint_states.specs.code.ShownStates.{IsShown}
-use Rattle.mh_lint_states.specs.declared.all_states.Shown.{Shown}
+use Rattle.mh_lint_states.specs.declared.all_states.ShownByStates.{ShownByStates}
 use Rattle.mh_lint.specs.Built.{Built}
 use Rattle.mh_lint.specs.LevelSources.{HasSource, sources_in, with_sources}
 use Rattle.mh_lint.specs.MentionWarnings.{IsAlternativeCompared, IsDeclarationUsed, IsNameCompared, IsNamedByPrec, ordinary}
@@ -104,7 +104,7 @@ module _ (s : Stages) (b : Built) (names : SymbolTables) (read : ReadFiles) (spl
 
   -- ---- Declarations.
 
-  module _ (shown : Shown) (is_shown : IsShown s.grammar b.automaton b.table shown) where
+  module _ (shown : ShownByStates) (is_shown : IsShown s.grammar b.automaton b.table shown) where
     pub declarations_first : (n : ℕ) (name : Text) → IsUsedDeclaration s.grammar shown.on_errors.items n name ↔ IsDeclarationUsed s b n name
     declarations_first n name = (
       λ h. record { number = h.number; info = h.info; of_grammar = h.of_grammar; name_is = h.name_is; rank_is = h.rank_is; reduced = (is_shown.on_errors h.number).0 (flag_set shown.on_errors.items h.number h.is_reduced) },
@@ -190,7 +190,7 @@ module _ (s : Stages) (b : Built) (names : SymbolTables) (read : ReadFiles) (spl
 -- ---- All uses.
 
 -- What the code collects for the first file.
-pub record AreCollected (files : AcceptedFiles) (g : Grammar) (shown : Shown) (found : List PlacedModule) (u : Uses) : Type 0 where
+pub record AreCollected (files : AcceptedFiles) (g : Grammar) (shown : ShownByStates) (found : List PlacedModule) (u : Uses) : Type 0 where
   pub all : List LevelSource
   pub flags : length u.tokens.items ≡ length files.names.tokens.keys
   pub tokens : AreMarked (IsTokenInUse files.joined files.names.tokens.keys (λ a. get same files.names.aliases a) found) u.tokens.items
@@ -200,7 +200,7 @@ pub record AreCollected (files : AcceptedFiles) (g : Grammar) (shown : Shown) (f
   pub declarations : (n : ℕ) (name : Text) → Contains u.declarations.keys (declared n name) ↔ IsUsedDeclaration g shown.on_errors.items n name
   pub count : u.declarations_before ≡ 0
 
-module _ (c : Checked) (files : AcceptedFiles) (g : Grammar) (shown : Shown) (u : Uses) (by : IsShownBy c files g shown) (h : AreCollected files g shown c.stages.found u) where
+module _ (c : Checked) (files : AcceptedFiles) (g : Grammar) (shown : ShownByStates) (u : Uses) (by : IsShownBy c files g shown) (h : AreCollected files g shown c.stages.found u) where
   abbrev s : Stages
   s = c.stages
 

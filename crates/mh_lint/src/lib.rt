@@ -15,4 +15,4 @@ pub use laws::{productions_have_sources, sources_give_levels};
 pub use mh_lint_faults::{AcceptedFiles, Examined, examine};
 pub use mh_lint_findings::{Finding, GrammarFile, Position, finding_at, findings_text};
 pub use warning_laws::no_line_is_no_warning;
-pub use warning_walk::{Built, warnings};
+pub use warning_walk::{BuiltGrammar, warnings};

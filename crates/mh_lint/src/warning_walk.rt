@@ -42,7 +42,7 @@ use mh_items_kernels::Automaton;
 use mh_join_names::{Aliases, SymbolTables, name_by, put_name};
 use mh_lint_faults::{AcceptedFiles, FileNames, file_names, has_key, put_key, rule_at, text_of};
 use mh_lint_findings::{Finding, FindingText, GrammarFile, Position, finding_at};
-use mh_lint_states::{Shown, automaton_findings, shown_by};
+use mh_lint_states::{ShownByStates, automaton_findings, shown_by_states};
 use mh_reader_places::{Mention, Role};
 use mh_resolve_cells::Conflict;
 use mh_rules::{Joined, Ref};
@@ -52,7 +52,7 @@ use std::collections::HashSet;
 
 /// A grammar with its automaton, its table and the conflicts.
 #[derive(Drop)]
-pub struct Built<'a, const W: usize> {
+pub struct BuiltGrammar<'a, const W: usize> {
     pub grammar: &'a Grammar,
     pub automaton: &'a Automaton<W>,
     pub table: &'a Table,
@@ -417,7 +417,7 @@ fn uses_of(
     alloc: Global,
     files: &AcceptedFiles,
     grammar: &Grammar,
-    shown: &Shown,
+    shown: &ShownByStates,
 ) -> Result<Uses, Memory>
     requires ready { AreAcceptedReady files.now }
     requires flags { AreFlagsOf grammar.now shown.now }
@@ -471,7 +471,7 @@ fn put_lines(
     alloc: Global,
     files: &AcceptedFiles,
     grammar: &Grammar,
-    shown: &Shown,
+    shown: &ShownByStates,
     findings: &mut Vec<Finding>,
 ) -> Result<(), Memory>
     requires ready { AreAcceptedReady files.now }
@@ -525,7 +525,7 @@ pub fn warnings<const W: usize>(
     alloc: Global,
     named: &[GrammarFile],
     files: &AcceptedFiles,
-    built: &Built<'_, W>,
+    built: &BuiltGrammar<'_, W>,
 ) -> Result<Vec<Finding>, Memory>
     requires files { AreAcceptedReady files.now }
     requires fits { FitsSets W built.now.grammar.now }
@@ -536,7 +536,7 @@ pub fn warnings<const W: usize>(
     ensures lines { (prelude : Bool) (s : Stages) → AreStages prelude named.now files.now built.now.grammar.now s
         → IfOk result (λ found. AreWarningLines (map (λ file. file.name) named.now) s (record { automaton = built.now.automaton.now; table = built.now.table.now; conflicts = built.now.conflicts.now }) (meanings prelude (modules_of s.found)) (lines_of found.items)) }
 {
-    let shown = shown_by(alloc, built.grammar, built.automaton, built.table)?;
+    let shown = shown_by_states(alloc, built.grammar, built.automaton, built.table)?;
     let mut findings = Vec::new(alloc);
     put_lines(alloc, files, built.grammar, &shown, &mut findings)?;
     put_repeated(alloc, named, &mut findings)?;

@@ -8,7 +8,7 @@ use Rattle.mh_lint_states.specs.Comparisons.{IsTokenCompared, IsProductionCompar
 use Rattle.mh_lint_states.specs.Reductions.{Reduces, ReducesOnErrors}
 use Rattle.mh_lint_states.specs.code.Marks.{AreMarked, AreUnset, Marks}
 use Rattle.mh_lint_states.specs.code.ShownStates.{AreShown, ComparesProduction, ComparesToken, HasNoFlags, IsShown, ShownBelow, ShowsState}
-use Rattle.mh_lint_states.specs.declared.all_states.Shown.{Shown}
+use Rattle.mh_lint_states.specs.declared.all_states.ShownByStates.{ShownByStates}
 use Rattle.mh_lint_states.proofs.MarkedFlags.{marked_more}
 use Rattle.mh_lint_states.proofs.MarkedPairs.{pairs_flags}
 
@@ -27,7 +27,7 @@ module _ (D : ℕ → ℕ → Type 0) where
 -- ---- All flags.
 
 module _ (g : Grammar) (a : Automaton) (t : TableData) where
-  pub shown_none : (x : Shown) → HasNoFlags g x → AreShown g a t 0 x
+  pub shown_none : (x : ShownByStates) → HasNoFlags g x → AreShown g a t 0 x
   shown_none x h = record {
     flags = h.0;
     tokens = none_below (ComparesToken g a) x.compared.tokens.items h.1;
@@ -36,7 +36,7 @@ module _ (g : Grammar) (a : Automaton) (t : TableData) where
     on_errors = none_below (ReducesOnErrors g a t) x.on_errors.items h.4;
   }
 
-  pub shown_more : (n : ℕ) (x y : Shown) → AreShown g a t n x → ShowsState g a t n x y → AreShown g a t (n + 1) y
+  pub shown_more : (n : ℕ) (x y : ShownByStates) → AreShown g a t n x → ShowsState g a t n x y → AreShown g a t (n + 1) y
   shown_more n x y h k = record {
     flags = record {
       compared = pairs_flags _ _ _ x.compared y.compared h.flags.compared k.compared;
@@ -61,7 +61,7 @@ module _ (g : Grammar) (a : Automaton) (t : TableData) where
   from_productions : (p : ℕ) → IsProductionCompared g a p → ShownBelow (ComparesProduction g a) (length a.kernels) p
   from_productions p x = (x.1.state, x.1.is_state, (x.0, record { target = x.1.target; shift = x.1.shift; reduce = x.1.reduce; comparable = x.1.comparable }))
 
-  pub all_shown : (n : ℕ) (x : Shown) → n ≡ length a.kernels → length t.states ≡ length a.kernels → AreShown g a t n x → IsShown g a t x
+  pub all_shown : (n : ℕ) (x : ShownByStates) → n ≡ length a.kernels → length t.states ≡ length a.kernels → AreShown g a t n x → IsShown g a t x
   all_shown n x e states h =
       let few : n ≡ length t.states = e ∙ sym states in
       record {

@@ -21,7 +21,7 @@ use std::alloc::Global;
 
 /// Flags for what occurs in some state of an automaton and of its table.
 #[derive(Drop)]
-pub struct Shown {
+pub struct ShownByStates {
     pub compared: ComparedLevels,
     /// For each production, the start productions first, whether some state reduces the production.
     pub reduced: Vec<bool>,
@@ -30,12 +30,12 @@ pub struct Shown {
 }
 
 /// The flags, none of which is set.
-fn no_flags(alloc: Global, grammar: &Grammar) -> Result<Shown, Memory>
+fn no_flags(alloc: Global, grammar: &Grammar) -> Result<ShownByStates, Memory>
     requires { IsInRange (plain_of grammar.now) }
     ensures { IfOk result (HasNoFlags grammar.now) }
 {
     let productions = grammar.starts.len() + grammar.productions.len();
-    Ok(Shown {
+    Ok(ShownByStates {
         compared: ComparedLevels {
             tokens: vec![in alloc; false; grammar.tokens.len()]?,
             productions: vec![in alloc; false; productions]?,
@@ -48,7 +48,7 @@ fn no_flags(alloc: Global, grammar: &Grammar) -> Result<Shown, Memory>
 /// Sets the flags for what a state shows.
 fn show_state<const W: usize>(
     alloc: Global,
-    shown: &mut Shown,
+    shown: &mut ShownByStates,
     grammar: &Grammar,
     automaton: &Automaton<W>,
     table: &Table,
@@ -77,7 +77,7 @@ fn show_state<const W: usize>(
 /// Sets the flags for what all states show.
 fn show_all<const W: usize>(
     alloc: Global,
-    shown: &mut Shown,
+    shown: &mut ShownByStates,
     grammar: &Grammar,
     closer: &mut ClosureBuilder<W>,
     automaton: &Automaton<W>,
@@ -98,12 +98,12 @@ fn show_all<const W: usize>(
 }
 
 /// Returns what the states of an automaton and of its table show. Fails only if memory runs out.
-pub fn shown_by<const W: usize>(
+pub fn shown_by_states<const W: usize>(
     alloc: Global,
     grammar: &Grammar,
     automaton: &Automaton<W>,
     table: &Table,
-) -> Result<Shown, Memory>
+) -> Result<ShownByStates, Memory>
     requires fits { FitsSets W grammar.now }
     requires automaton { IsAutomaton (plain_of grammar.now) automaton.now }
     requires table { (mode : Mode) × IsTableOf grammar.now automaton.now mode table.now }

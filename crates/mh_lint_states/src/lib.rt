@@ -10,7 +10,7 @@ mod lines;
 mod reductions;
 mod states;
 
-pub use all_states::{Shown, shown_by};
+pub use all_states::{ShownByStates, shown_by_states};
 pub use comparisons::ComparedLevels;
 pub use laws::automaton_lines_are_unique;
 pub use lines::automaton_findings;

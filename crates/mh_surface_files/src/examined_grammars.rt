@@ -15,7 +15,7 @@ ghost use Rattle.mh_resolve_cells.specs.declared.kinds.Mode.TheVariants.{Merged}
 use mh_grammar::{Grammar, Sequence, from_bytes};
 use mh_items::Automaton;
 use mh_lint::{
-    AcceptedFiles, Built, Examined, Finding, GrammarFile, examine, findings_text, warnings,
+    AcceptedFiles, BuiltGrammar, Examined, Finding, GrammarFile, examine, findings_text, warnings,
 };
 use mh_resolve::{Mode, resolve};
 use mh_surface::{automaton_of, is_small};
@@ -72,7 +72,7 @@ fn check_warnings(
     alloc: Global,
     named: &[GrammarFile],
     files: &AcceptedFiles,
-    built: &Built<'_, 1>,
+    built: &BuiltGrammar<'_, 1>,
 ) -> Result<(), Fail>
     requires short { AreShort named.now }
     requires ready { AreAcceptedReady files.now }
@@ -103,7 +103,7 @@ fn check_built(
     requires automaton { IsAutomaton (plain_of grammar.now) automaton.now }
 {
     let (table, conflicts) = resolve(alloc, grammar, automaton, Mode::Merged)?;
-    let built = Built {
+    let built = BuiltGrammar {
         grammar,
         automaton,
         table: &table,

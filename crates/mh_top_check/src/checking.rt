@@ -24,7 +24,7 @@ ghost use Rattle.mh_top_types.specs.code.Prepared.{IsConsistent};
 
 use mh_grammar::{Memory, Sequence, from_bytes};
 use mh_lint::{
-    AcceptedFiles, Built, Examined, Finding, GrammarFile, Position, examine, finding_at,
+    AcceptedFiles, BuiltGrammar, Examined, Finding, GrammarFile, Position, examine, finding_at,
     findings_text, warnings,
 };
 use mh_opts::Order;
@@ -162,7 +162,7 @@ fn warnings_of<const W: usize>(
         → IfOk result (λ found. AreWarningLines (map (λ file. file.name) named.now) s (built_of prepared.now) (meanings prelude (modules_of s.found)) (lines_of found.items)) }
     ensures within { (prelude : Bool) (s : Stages) → AreStages prelude named.now files.now prepared.now.grammar s → IfOk result (λ found. All (λ f. IsPositionWithin named.now f.at) found.items) }
 {
-    let built = Built {
+    let built = BuiltGrammar {
         grammar: &prepared.grammar,
         automaton: &prepared.tabled.automaton,
         table: prepared.tabled.halting.table(),

@@ -18,7 +18,7 @@ use Rattle.mh_rules.specs.declared.joined.JoinedRule.{JoinedRule}
 use Rattle.mh_lint_findings.specs.Lines.{Line, line}
 use Rattle.mh_lint_findings.specs.declared.findings.Position.TheVariants.{InFile, OfFile}
 use Rattle.mh_lint_states.specs.code.ShownStates.{IsShown}
-use Rattle.mh_lint_states.specs.declared.all_states.Shown.{Shown}
+use Rattle.mh_lint_states.specs.declared.all_states.ShownByStates.{ShownByStates}
 use Rattle.mh_lint.specs.Warnings.{AreLinesOfFile}
 use Rattle.mh_lint.specs.code.LevelUses.{IsPrecUsed}
 use Rattle.mh_lint_faults.specs.code.ReadFiles.{IsSplit}
@@ -118,7 +118,7 @@ pub record IsBeforeFile (c : Checked) (files : AcceptedFiles) (at : ℕ) (u : Us
   pub uses : AreUsesBut c.stages c.built c.meanings at [] u
 
 -- What the states show, of the grammar of the stages.
-pub record IsShownBy (c : Checked) (files : AcceptedFiles) (g : Grammar) (shown : Shown) : Type 0 where
+pub record IsShownBy (c : Checked) (files : AcceptedFiles) (g : Grammar) (shown : ShownByStates) : Type 0 where
   pub stages : AreStagesOf c files
   pub grammar_is : c.stages.grammar ≡ g
   pub is_shown : IsShown g c.built.automaton c.built.table shown

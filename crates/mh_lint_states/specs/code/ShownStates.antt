@@ -11,10 +11,10 @@ use Rattle.mh_lint_states.specs.Comparisons.{IsTokenCompared, IsProductionCompar
 use Rattle.mh_lint_states.specs.Reductions.{IsReduced, IsReducedOnErrors, Reduces, ReducesOnErrors}
 use Rattle.mh_lint_states.specs.code.ComparedPairs.{HasFlags, IsComparable, MarksPairs}
 use Rattle.mh_lint_states.specs.code.Marks.{AreMarked, AreUnset, Marks}
-use Rattle.mh_lint_states.specs.declared.all_states.Shown.{Shown}
+use Rattle.mh_lint_states.specs.declared.all_states.ShownByStates.{ShownByStates}
 
 -- There are flags for all tokens, productions and nonterminals of the grammar.
-pub record AreFlagsOf (g : Grammar) (x : Shown) : Type 0 where
+pub record AreFlagsOf (g : Grammar) (x : ShownByStates) : Type 0 where
   pub compared : HasFlags (length g.tokens) (production_count (plain_of g)) x.compared
   pub reduced : length x.reduced.items ≡ production_count (plain_of g)
   pub on_errors : length x.on_errors.items ≡ length g.nonterminals
@@ -39,13 +39,13 @@ abbrev pub ShownBelow : (ℕ → ℕ → Type 0) → ℕ → ℕ → Type 0
 ShownBelow Shows n i = (s : ℕ) × (s < n) × Shows s i
 
 -- The flags of what state s shows are set, and no others.
-pub record ShowsState (g : Grammar) (a : Automaton) (t : TableData) (s : ℕ) (old new : Shown) : Type 0 where
+pub record ShowsState (g : Grammar) (a : Automaton) (t : TableData) (s : ℕ) (old new : ShownByStates) : Type 0 where
   pub compared : MarksPairs (StateCompares g a s) old.compared new.compared
   pub reduced : Marks (Reduces t s) old.reduced.items new.reduced.items
   pub on_errors : Marks (ReducesOnErrors g a t s) old.on_errors.items new.on_errors.items
 
 -- The flags of what the first n states show are set, and no others.
-pub record AreShown (g : Grammar) (a : Automaton) (t : TableData) (n : ℕ) (x : Shown) : Type 0 where
+pub record AreShown (g : Grammar) (a : Automaton) (t : TableData) (n : ℕ) (x : ShownByStates) : Type 0 where
   pub flags : AreFlagsOf g x
   pub tokens : AreMarked (ShownBelow (ComparesToken g a) n) x.compared.tokens.items
   pub productions : AreMarked (ShownBelow (ComparesProduction g a) n) x.compared.productions.items
@@ -53,11 +53,11 @@ pub record AreShown (g : Grammar) (a : Automaton) (t : TableData) (n : ℕ) (x :
   pub on_errors : AreMarked (ShownBelow (ReducesOnErrors g a t) n) x.on_errors.items
 
 -- No flag is set.
-abbrev pub HasNoFlags : Grammar → Shown → Type 0
+abbrev pub HasNoFlags : Grammar → ShownByStates → Type 0
 HasNoFlags g x = AreFlagsOf g x × AreUnset x.compared.tokens.items × AreUnset x.compared.productions.items × AreUnset x.reduced.items × AreUnset x.on_errors.items
 
 -- The flags say what the states of the automaton and of the table show.
-pub record IsShown (g : Grammar) (a : Automaton) (t : TableData) (x : Shown) : Type 0 where
+pub record IsShown (g : Grammar) (a : Automaton) (t : TableData) (x : ShownByStates) : Type 0 where
   pub flags : AreFlagsOf g x
   pub tokens : AreMarked (IsTokenCompared g a) x.compared.tokens.items
   pub productions : AreMarked (IsProductionCompared g a) x.compared.productions.items
