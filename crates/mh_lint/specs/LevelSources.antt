@@ -62,8 +62,8 @@ pub record HasSource (e : Expanded) (p : ℕ) (source : LevelSource) : Type 0 wh
   pub inlined : IsInlined (with_sources e) grammar
   pub is : slice_get (sources_in grammar) p ≡ Some source
 
--- The source gives the level: nothing gives no level, a token gives its own, and the `%prec` of an alternative gives the
--- level of its name, which may have none.
+-- The source gives the level: nothing gives no level, a token gives its own, and the `%prec` of an alternative gives
+-- the level of its name, which may have none.
 pub data GivesLevel (e : Expanded) : LevelSource → Option Level → Type 0 where
   nothing : GivesLevel e sources.None None
   token : (z : ℕ) (info : TokenInfo) → slice_get e.tokens z ≡ Some info → GivesLevel e (sources.Token z) info.level

@@ -14,8 +14,8 @@ use Rattle.mh_lint.specs.Built.{Built}
 use Rattle.mh_lint.specs.MentionWarnings.{IsWarning}
 use Rattle.mh_lint.specs.Warnings.{IsNamedBefore}
 
--- No name of the files has a warning; each attribute that begins with `[@cost` gives a cost; no file is named twice; some
--- state reduces each ordinary production; and levels decide each conflict.
+-- No name of the files has a warning; each attribute that begins with `[@cost` gives a cost; no file is named twice;
+-- some state reduces each ordinary production; and levels decide each conflict.
 pub record HasNoWarning (names : List Text) (s : Stages) (b : Built) (w : Meanings) : Type 0 where
   pub mentions : (file : ℕ) (before : List Mention) (x : Mention) (text : Text) → Mentions s.found file before x → IsWarning s b w file before x text → ⊥
   pub costs : (file : ℕ) (placed : PlacedModule) → slice_get s.found file ≡ Some placed → placed.bad_costs ≡ []

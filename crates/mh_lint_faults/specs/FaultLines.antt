@@ -1,5 +1,5 @@
--- The lines for the faults of the files of a grammar (this project's own; the faults are those for which the other modes
--- refuse the files, and have their texts).
+-- The lines for the faults of the files of a grammar (this project's own; the faults are those for which the other
+-- modes refuse the files, and have their texts).
 use Rattle.std.specs.Prelude.{◌≡◌, ◌<◌, ◌≤◌, ◌⊎◌, ◌+◌, ◌++◌, ℕ, Bool, false, List, [], ◌∷◌, map, codes, Option, None, Some, slice_get}
 use Rattle.std.specs.List.{Contains, enumerate_from, flat_map}
 use Rattle.mh_grammar.specs.Text.{Text}
@@ -55,7 +55,8 @@ name_lines w e = fault_lines e.0 (name_faults w (e.0 + 1) e.1.module e.1.mention
 abbrev pub grammar_lines : Meanings → List Line
 grammar_lines w = map (λ (f : JoinFault). line (OfFile 0) (join_text f)) (grammar_faults w)
 
--- The lines for all faults for which the files cannot be joined. Those of all files together are reported for the first.
+-- The lines for all faults for which the files cannot be joined. Those of all files together are reported for the
+-- first.
 abbrev pub join_lines : Meanings → List PlacedModule → List Line
 join_lines w found = flat_map (name_lines w) (enumerate_from 0 found) ++ grammar_lines w
 
@@ -133,15 +134,15 @@ pub record IsRuleNamed (joined : Joined) (printed : Text) (number : ℕ) : Type 
 abbrev pub IsFirstNamed : Meanings → List PlacedModule → Joined → Text → ℕ → Type 0
 IsFirstNamed w found joined printed number = (file other : ℕ) (before : List Mention) (x : Mention) → other < number → IsRuleNamed joined printed other → IsDefinition w found file before x other → ⊥
 
--- The position of the first definition of the first rule that begins the printed name and that a file defines; the first
--- file, if no file defines such a rule.
+-- The position of the first definition of the first rule that begins the printed name and that a file defines; the
+-- first file, if no file defines such a rule.
 pub data IsRulePosition (w : Meanings) (found : List PlacedModule) (joined : Joined) (printed : Text) : Position → Type 0 where
   at_definition : (file number : ℕ) (before : List Mention) (x : Mention) → IsRuleNamed joined printed number → IsFirstNamed w found joined printed number → IsFirstDefinition w found file before x number → IsRulePosition w found joined printed (InFile file x.start)
   of_all : ((file number : ℕ) (before : List Mention) (x : Mention) → IsRuleNamed joined printed number → IsDefinition w found file before x number → ⊥) → IsRulePosition w found joined printed (OfFile 0)
 
 -- A wrong number of arguments is reported at its term, if a file has the term (the term may also arise when formals are
--- replaced); every other fault of instances at the first definition of its rule; too many productions, which are a fault
--- of the whole grammar, are reported for the first file.
+-- replaced); every other fault of instances at the first definition of its rule; too many productions, which are a
+-- fault of the whole grammar, are reported for the first file.
 pub data IsFaultAt (w : Meanings) (found : List PlacedModule) (joined : Joined) (fault : GrammarFault) : Position → Type 0 where
   at_term : (file : ℕ) (before : List Mention) (x : Mention) (printed : Text) → fault ≡ front.Expand (expanding.Arity printed) → IsFirstWrongTerm found joined file before x printed → IsFaultAt w found joined fault (InFile file x.start)
   at_rule : (printed : Text) (at : Position) → (HasWrongTerm found joined fault → ⊥) → named_instance fault ≡ Some printed → IsRulePosition w found joined printed at → IsFaultAt w found joined fault at

@@ -1,5 +1,5 @@
--- The faults of the names of a file, each at the place of the name. They are the faults of joined files, of which `join`
--- reports the first (Menhir manual, grammars split into files; the choice is a rule of this project).
+-- The faults of the names of a file, each at the place of the name. They are the faults of joined files, of which
+-- `join` reports the first (Menhir manual, grammars split into files; the choice is a rule of this project).
 use Rattle.std.specs.Prelude.{◌-◌, ◌+◌, ◌++◌, ◌||◌, ◌==◌, ℕ, zero, suc, Bool, true, false, not, List, [], ◌∷◌, length, fold, map, take, if◌then◌else◌, Option, None, Some, slice_get}
 use Rattle.std.specs.List.{list_any, range_with_len}
 use Rattle.mh_grammar.specs.Text.{Text}

@@ -17,8 +17,8 @@ use mh_rules::{Applied, Joined, JoinedAlternative};
 use std::alloc::Global;
 use std::collections::HashSet;
 
-/// A producer of an alternative of a file. Files are counted from 1; alternatives among all of the file, producers among
-/// those of the alternative.
+/// A producer of an alternative of a file. Files are counted from 1; alternatives among all of the file, producers
+/// among those of the alternative.
 #[derive(Clone, Copy, PartialEq, Eq, Hash, Drop)]
 struct ProducerOf {
     file: u64,

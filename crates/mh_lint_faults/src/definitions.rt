@@ -84,8 +84,8 @@ fn begins_with_name(printed: &[u8], name: &[u8]) -> bool
     }
 }
 
-/// The position of the first definition of the rule with which a printed name begins; the first file, if no file defines
-/// such a rule.
+/// The position of the first definition of the rule with which a printed name begins; the first file, if no file
+/// defines such a rule.
 pub(crate) fn position_of(
     alloc: Global,
     names: &SymbolTables,

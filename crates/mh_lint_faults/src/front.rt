@@ -359,8 +359,8 @@ fn examine_read(
 
 /// Examines the files of a grammar, with the prelude or without, and returns their grammar or their faults: the first
 /// syntax fault of each file; if there is none, all faults for which the files cannot be joined, each at its place; if
-/// there is none, the first fault of the instances. Files that are accepted meet the conditions of the calls that report
-/// on them. Fails only if memory runs out.
+/// there is none, the first fault of the instances. Files that are accepted meet the conditions of the calls that
+/// report on them. Fails only if memory runs out.
 pub fn examine(alloc: Global, files: &[GrammarFile], prelude: bool) -> Result<Examined, Memory>
     requires { AreShort files.now }
     ensures examined { IfOk result (IsExaminedAs files.now prelude) }

@@ -13,8 +13,8 @@ pub fn join_faults_have_lines()
         join_lines (meanings prelude (modules_of found)) found ≡ [] → join_faults prelude (modules_of found) ≡ [] }
 {}
 
-/// Law: the files of a grammar have one list of lines for their faults, or one value at each stage of an accepted grammar,
-/// and not both.
+/// Law: the files of a grammar have one list of lines for their faults, or one value at each stage of an accepted
+/// grammar, and not both.
 pub fn files_are_examined_once()
     ensures faulty { (prelude : Bool) (files : List GrammarFile) (left right : List Line) → AreFaultLines prelude files left → AreFaultLines prelude files right → left ≡ right }
     ensures accepted { (prelude : Bool) (files : List GrammarFile) (left right : Stages) → AreAccepted prelude files left → AreAccepted prelude files right → left ≡ right }

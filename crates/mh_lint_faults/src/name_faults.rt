@@ -202,8 +202,8 @@ fn has_first_shape(names: &SymbolTables, rule: &Rule) -> bool
     }
 }
 
-/// Whether a rule agrees with the definitions before: a private rule is the first in its file; a public one has the shape
-/// of the first of all files. The name of a private rule is recorded.
+/// Whether a rule agrees with the definitions before: a private rule is the first in its file; a public one has the
+/// shape of the first of all files. The name of a private rule is recorded.
 fn agrees_with_first(
     names: &SymbolTables,
     public: &HashSet<Name>,
@@ -299,8 +299,8 @@ fn takes_group_prec(precs: &HashSet<u64>, first: u64, last: u64) -> bool
     first <= last && !has_key(precs, &last)
 }
 
-/// The fault of a name or string after the `%prec` of a group. If each alternative of the group has a `%prec` of its own,
-/// that of the group means nothing.
+/// The fault of a name or string after the `%prec` of a group. If each alternative of the group has a `%prec` of its
+/// own, that of the group means nothing.
 fn group_prec_fault(
     names: &SymbolTables,
     precs: &HashSet<u64>,

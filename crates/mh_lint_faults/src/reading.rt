@@ -80,8 +80,8 @@ fn put_files(
     Ok(())
 }
 
-/// Reads the files, and appends the first syntax fault of each file that has one. If there is no syntax fault, the result
-/// has all files.
+/// Reads the files, and appends the first syntax fault of each file that has one. If there is no syntax fault, the
+/// result has all files.
 pub(crate) fn read_files(
     alloc: Global,
     files: &[GrammarFile],

@@ -1,5 +1,5 @@
--- Lemmas on pairs of a production and a token whose levels are compared: those of the looks of an item, and those of the
--- items of a state.
+-- Lemmas on pairs of a production and a token whose levels are compared: those of the looks of an item, and those of
+-- the items of a state.
 use Rattle.std.proofs.Common.{◌≡◌, ℕ, ◌+◌, ◌<◌, ◌⊎◌, List, [], ◌∷◌, ◌++◌, Bool, Option, None, Some, true, length, get_or, take, refl, sym, ap, ◌∙◌, append_assoc, inl, inr}
 use Rattle.std.proofs.lemmas.List.{append-nil}
 use Rattle.std.proofs.lemmas.List.Elements.{Contains-append_left, Contains-append_right, Contains-append_cases}

@@ -107,7 +107,8 @@ module _ (g : Grammar) (a : Automaton) (s : ℕ) (closed : Kernel) (is : IsClose
   ordinary : (p : ℕ) (looks : List Look) → HasFilledCell t s looks p → (length t.grammar.starts ≤ p) × (p < production_count t.grammar)
   ordinary p looks filled = cell_known t s filled.0 p facts filled.2.reduces
 
-  -- A production that the state reduces on errors is an ordinary one, and its left side is a nonterminal of the grammar.
+  -- A production that the state reduces on errors is an ordinary one, and its left side is a nonterminal of the
+  -- grammar.
   pub starts_before : (p : ℕ) (looks : List Look) → HasFilledCell t s looks p → length t.grammar.starts ≤ p
   starts_before p looks filled = (ordinary p looks filled).0
 

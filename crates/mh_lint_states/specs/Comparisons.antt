@@ -8,8 +8,8 @@ use Rattle.mh_resolve_cells.specs.declared.levels.Comparison.TheVariants.{Unknow
 use Rattle.mh_resolve_cells.specs.Precedence.{comparison_on}
 use Rattle.mh_resolve_cells.specs.States.{Raw, state_of}
 
--- The resolution compares the level of production p with the level of token z: some state can shift the token and reduce
--- the production on it, and the levels are comparable.
+-- The resolution compares the level of production p with the level of token z: some state can shift the token and
+-- reduce the production on it, and the levels are comparable.
 pub record IsCompared (g : Grammar) (a : Automaton) (p z : ℕ) : Type 0 where
   pub state : ℕ
   pub target : ℕ

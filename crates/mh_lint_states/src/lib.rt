@@ -1,5 +1,5 @@
-//! What the states of an automaton and of its table show: the levels that are compared, the productions that are reduced,
-//! and the lines for productions that no state reduces and for conflicts.
+//! What the states of an automaton and of its table show: the levels that are compared, the productions that are
+//! reduced, and the lines for productions that no state reduces and for conflicts.
 #![tactic(auto)]
 
 mod all_states;

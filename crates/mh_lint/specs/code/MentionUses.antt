@@ -46,8 +46,8 @@ pub data IsRuleBefore (s : Stages) (w : Meanings) (file : ℕ) (before : List Me
   here : (earlier : List Mention) (y : Mention) (later : List Mention) → before ≡ earlier ++ y ∷ later → IsDefinition w s.found file earlier y number → IsRuleBefore s w file before number
   earlier : (other : ℕ) (others : List Mention) (y : Mention) → other < file → IsDefinition w s.found other others y number → IsRuleBefore s w file before number
 
--- The use of a name in each respect, after these mentions of the file. A token counts as used after its first declaration,
--- a rule after its first definition.
+-- The use of a name in each respect, after these mentions of the file. A token counts as used after its first
+-- declaration, a rule after its first definition.
 pub record AreUsesBut (s : Stages) (b : Built) (w : Meanings) (file : ℕ) (before : List Mention) (u : Uses) : Type 0 where
   pub token_flags : length u.tokens.items ≡ length w.tokens
   pub tokens : (z : ℕ) (name : Text) → w.numbers.token name ≡ Some z → (slice_index_or u.tokens.items z false ≡ true) ↔ (IsTokenUsed s.joined z ⊎ (IsNamedByPrec w s.found name ⊎ IsTokenBefore s file before name))
@@ -89,8 +89,8 @@ pub record AreStagesOf (c : Checked) (files : AcceptedFiles) : Type 0 where
   pub expanded : files.expanded ≡ c.stages.expanded
   pub declarations : length (flat_map (λ (p : PlacedModule). p.module.on_error) c.stages.found) ≡ length files.joined.on_error
 
--- The mention x comes after these mentions of file number k, from 1, which has this module, and the uses are those before
--- the mention.
+-- The mention x comes after these mentions of file number k, from 1, which has this module, and the uses are those
+-- before the mention.
 pub record IsBefore (c : Checked) (files : AcceptedFiles) (k : ℕ) (m : Module) (before : List Mention) (x : Mention) (u : Uses) : Type 0 where
   pub stages : AreStagesOf c files
   pub number : k ≡ c.file + 1
