@@ -34,9 +34,7 @@ impl FindingText {
     pub fn with_name(alloc: Global, words: &[u8], name: &[u8]) -> Result<FindingText, Memory>
         ensures { IfOk result (λ t. t ≡ words.now ++ name.now) }
     {
-        let length = words.len().saturating_add(name.len());
-        let mut bytes = SmallVec::with_capacity(alloc, length)?;
-        bytes.extend_from_slice(words)?;
+        let mut bytes = SmallVec::from_slice(alloc, words)?;
         bytes.extend_from_slice(name)?;
         Ok(FindingText { bytes })
     }
