@@ -2,7 +2,7 @@ pub mod NoWarnings
 mod Gains
 mod UsedTokens
 mod UsedRules
-mod PrecNames
+mod PrecTokens
 mod WarningKinds
 mod WarningsFound
 mod UsesAfter

@@ -2,16 +2,18 @@
 use Rattle.std.proofs.Common.{◌≡◌, ◌↔◌, ◌⊎◌, ℕ, ◌+◌, ◌<◌, ◌≤◌, Bool, true, false, List, Option, Some, length, get_or, arith, sym, subst, ◌∙◌, inl, inr}
 use Rattle.std.specs.List.{slice_get}
 use Rattle.std.specs.HashSet.{HashSet, contains}
+use Rattle.std.proofs.lemmas.Map.Keys.{any_passes_from_place}
 use Rattle.std.proofs.lemmas.Option.{same_Some, slice_get_within}
 use Rattle.mh_grammar.specs.Text.{Text}
 use Rattle.mh_grammar.proofs.Lists.{below_next}
+use Rattle.mh_grammar.proofs.TextEquality.{same_refl}
 use Rattle.mh_join_names.specs.Names.{same}
 use Rattle.mh_reader_places.specs.declared.reading.PlacedModule.{PlacedModule}
 use Rattle.mh_rules.specs.declared.joined.Joined.{Joined}
 use Rattle.mh_lint_states.specs.code.Marks.{AreMarked, Marks}
 use Rattle.mh_lint_states.proofs.MarkedFlags.{marks_none, marks_same, marks_then}
 use Rattle.mh_lint.specs.Uses.{IsTokenUsed}
-use Rattle.mh_lint.specs.code.Uses.{ArePrecNames, IsTokenInUse}
+use Rattle.mh_lint.specs.code.Uses.{ArePrecTokens, IsTokenInUse}
 
 module _ {S : Type 0} (tokens : List Text) (names : HashSet Text S) where
   -- The token has one of the names.
@@ -41,15 +43,15 @@ module _ {S : Type 0} (tokens : List Text) (names : HashSet Text S) where
   all_named n used new past = marks_same (IsNamedBelow n) IsNamed used new (λ z below. below.1) (λ z named. ((let l = slice_get_within tokens z named.0 named.1 in omega (arith, l, past)), named))
 
   -- The tokens that are marked for an alternative, and then those that are named.
-  pub in_use : (j : Joined) (aliased : Text → Option Text) (found : List PlacedModule) (used new : List Bool) → AreMarked (IsTokenUsed j) used → ((x : Text) → (contains same names x ≡ true) ↔ ArePrecNames aliased found x) → Marks IsNamed used new → AreMarked (IsTokenInUse j tokens aliased found) new
+  pub in_use : (j : Joined) (aliased : Text → Option Text) (found : List PlacedModule) (used new : List Bool) → AreMarked (IsTokenUsed j) used → ((x : Text) → (contains same names x ≡ true) ↔ ArePrecTokens tokens aliased found x) → Marks IsNamed used new → AreMarked (IsTokenInUse j tokens aliased found) new
   in_use j aliased found used new h are m z = (to, back)
     where
       to : get_or new z false ≡ true → IsTokenInUse j tokens aliased found z
       to e = elim ((m.each z).0 e) [
         | inl was ↦ inl ((h z).0 was)
-        | inr named ↦ inr (named.0, named.1, (are named.0).0 named.2)
+        | inr named ↦ inr (named.0, named.1, ((are named.0).0 named.2).0)
       ]
 
       back : IsTokenInUse j tokens aliased found z → get_or new z false ≡ true
       back (inl is) = (m.each z).1 (inl ((h z).1 is))
-      back (inr (x, at, is)) = (m.each z).1 (inr (x, at, (are x).1 is))
+      back (inr (x, at, is)) = (m.each z).1 (inr (x, at, (are x).1 (is, any_passes_from_place (same x) tokens z x at (same_refl x))))

@@ -13,11 +13,11 @@ ghost use Rattle.mh_lint.specs.MentionWarnings as warnings;
 ghost use Rattle.mh_lint.specs.Uses.{IsTokenUsed};
 ghost use Rattle.mh_lint_faults.specs.Terms.{heads as heads_of};
 ghost use Rattle.mh_lint_faults.specs.code.ReadFiles.{IsSplit};
-ghost use Rattle.mh_lint.specs.code.Uses.{ArePrecNames, AreUsedRules, HasPlace, IsPlaceOfInstances, IsTokenBelow, PutsPrecName, TokensBelow};
+ghost use Rattle.mh_lint.specs.code.Uses.{ArePrecTokens, AreUsedRules, HasPlace, IsPlaceOfInstances, IsTokenBelow, PutsPrecToken, TokensBelow};
 
 use crate::alternatives::AlternativeOf;
 use mh_grammar::{Memory, Name};
-use mh_join_names::{Aliases, name_by, put_name};
+use mh_join_names::{SymbolTables, name_by, put_name};
 use mh_lint_faults::{ReadFiles, has_key, put_key};
 use mh_reader_places::{Mention, Role};
 use mh_rules::{Applied, Expanded, Head, Joined, JoinedAlternative, JoinedRule};
@@ -85,34 +85,37 @@ pub(crate) fn is_prec(role: Role) -> bool
     matches!(role, Role::Prec { .. } | Role::GroupPrec { .. })
 }
 
-/// Records the name of a mention, if the mention is a name after `%prec`.
-fn put_prec_name(
+/// Records the name of a mention, if the mention is a token after `%prec`.
+fn put_prec_token(
     names: &mut HashSet<Name>,
-    aliases: &Aliases,
+    tables: &SymbolTables,
     mention: &Mention,
 ) -> Result<(), Memory>
-    ensures { OnOk result (PutsPrecName (λ a. get same aliases.now a) mention.now names.old names.new) }
+    ensures { OnOk result (PutsPrecToken tables.now.tokens.keys (λ a. get same tables.now.aliases a) mention.now names.old names.new) }
 {
     if is_prec(mention.role) {
-        if let Some(name) = name_by(aliases, &mention.name) {
-            put_name(names, name)?;
+        if let Some(name) = name_by(&tables.aliases, &mention.name) {
+            if tables.tokens.contains(name) {
+                put_name(names, name)?;
+            }
         }
     }
     Ok(())
 }
 
-/// The names after `%prec`. A string counts as the token with this alias.
-pub(crate) fn prec_names(
+/// The tokens after `%prec`, by their names. A string counts as the token with this alias. Names of levels alone are
+/// left out, since each alternative of a file can have one of its own.
+pub(crate) fn prec_tokens(
     alloc: Global,
-    aliases: &Aliases,
+    tables: &SymbolTables,
     read: &ReadFiles,
 ) -> Result<HashSet<Name>, Memory>
-    ensures { (found : List Placed) → IsSplit found read.now → IfOk result (λ names. (x : Text) → (contains same names x ≡ true) ↔ ArePrecNames (λ a. get same aliases.now a) found x) }
+    ensures { (found : List Placed) → IsSplit found read.now → IfOk result (λ names. (x : Text) → (contains same names x ≡ true) ↔ ArePrecTokens tables.now.tokens.keys (λ a. get same tables.now.aliases a) found x) }
 {
     let mut names = HashSet::new(alloc);
     for mentions in read.mentions.as_slice() {
         for mention in mentions.as_slice() {
-            put_prec_name(&mut names, aliases, mention)?;
+            put_prec_token(&mut names, tables, mention)?;
         }
     }
     Ok(names)

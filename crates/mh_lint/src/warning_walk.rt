@@ -36,7 +36,7 @@ ghost use Rattle.mh_lint.specs.code.MentionUses.{IsActualWarning, AreLinesOfFile
 use crate::levels::{UsedLevels, put_own, used_levels};
 use crate::on_error::{DeclaredName, declared_name, used_declarations};
 use crate::sources::level_sources;
-use crate::uses::{prec_names, used_rules, used_tokens};
+use crate::uses::{prec_tokens, used_rules, used_tokens};
 use mh_grammar::{Grammar, Memory, Name};
 use mh_items_kernels::Automaton;
 use mh_join_names::{Aliases, SymbolTables, name_by, put_name};
@@ -407,7 +407,7 @@ fn tokens_in_use(alloc: Global, files: &AcceptedFiles) -> Result<Vec<bool>, Memo
     ensures used { (found : List Placed) → IsSplit found files.now.read → IfOk result (λ used. AreMarked (IsTokenInUse files.now.joined files.now.names.tokens.keys (λ a. get same files.now.names.aliases a) found) used.items) }
 {
     let mut used = used_tokens(alloc, &files.joined)?;
-    let named = prec_names(alloc, &files.names.aliases, &files.read)?;
+    let named = prec_tokens(alloc, &files.names, &files.read)?;
     mark_names(&mut used, files.names.tokens.as_slice(), &named);
     Ok(used)
 }

@@ -318,13 +318,13 @@ fn group_prec_fault(
 }
 
 impl Context {
-    /// The context of the first mention of a file.
-    fn new(alloc: Global) -> Result<Context, Memory>
+    /// The context of the first mention of a file with this number of rules.
+    fn new(alloc: Global, rules: usize) -> Result<Context, Memory>
         ensures { (starts : List Text) (m : ModuleOf) → IfOk result (IsContext starts m []) }
     {
         Ok(Context {
             token: from_bytes(alloc, b"")?,
-            own: HashSet::new(alloc),
+            own: HashSet::with_capacity(alloc, rules)?,
             rules: 0,
             seen: HashSet::new(alloc),
             formals: formals_of(alloc, &[])?,
@@ -454,7 +454,7 @@ pub(crate) fn put_file_faults(
     ensures { OnOk result (lines_of findings.new.items ≡ lines_of findings.old.items
         ++ fault_lines (file.now.number - 1) (name_faults (meanings_in names.now) file.now.number file.now.module.now mentions.now)) }
 {
-    let mut context = Context::new(alloc)?;
+    let mut context = Context::new(alloc, file.module.rules.len())?;
     for mention in mentions {
         let at = Position::InFile {
             file: file.number as usize - 1,

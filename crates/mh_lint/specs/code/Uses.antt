@@ -1,6 +1,6 @@
 -- Uses of tokens, names and rules, as the code collects them.
 use Rattle.std.specs.Prelude.{◌≡◌, ◌<◌, ◌↔◌, ◌⊎◌, ℕ, Bool, true, List, Option, Some, length, slice_get}
-use Rattle.std.specs.List.{Contains}
+use Rattle.std.specs.List.{Contains, list_any}
 use Rattle.std.specs.HashSet.{HashSet, contains}
 use Rattle.mh_grammar.specs.Text.{Text}
 use Rattle.mh_join_names.specs.Names.{name_by, same}
@@ -32,13 +32,21 @@ TokensBelow n a = (z : ℕ) → Contains (heads_of a) (heads.Token z) → z < n
 abbrev pub NamesByPrec : (Text → Option Text) → Mention → Text → Type 0
 NamesByPrec aliased x name = (is_prec x.role ≡ true) × (name_by aliased x.name ≡ Some name)
 
--- The name of the mention is put into the set, if the mention is a `%prec`.
-abbrev pub PutsPrecName : {S : Type 0} → (Text → Option Text) → Mention → HashSet Text S → HashSet Text S → Type 0
-PutsPrecName aliased x old new = (name : Text) → (contains same new name ≡ true) ↔ ((contains same old name ≡ true) ⊎ NamesByPrec aliased x name)
+-- The mention is a `%prec` with the name of one of these tokens, or with a string that is its alias.
+abbrev pub NamesTokenByPrec : List Text → (Text → Option Text) → Mention → Text → Type 0
+NamesTokenByPrec tokens aliased x name = NamesByPrec aliased x name × (list_any (same name) tokens ≡ true)
+
+-- The name of the mention is put into the set, if the mention is a `%prec` and the name is that of a token.
+abbrev pub PutsPrecToken : {S : Type 0} → List Text → (Text → Option Text) → Mention → HashSet Text S → HashSet Text S → Type 0
+PutsPrecToken tokens aliased x old new = (name : Text) → (contains same new name ≡ true) ↔ ((contains same old name ≡ true) ⊎ NamesTokenByPrec tokens aliased x name)
 
 -- Some `%prec` of the files has the name.
 abbrev pub ArePrecNames : (Text → Option Text) → List PlacedModule → Text → Type 0
 ArePrecNames aliased found name = (file : ℕ) × (before : List Mention) × (x : Mention) × Mentions found file before x × NamesByPrec aliased x name
+
+-- Some `%prec` of the files has the name, which is that of one of these tokens.
+abbrev pub ArePrecTokens : List Text → (Text → Option Text) → List PlacedModule → Text → Type 0
+ArePrecTokens tokens aliased found name = ArePrecNames aliased found name × (list_any (same name) tokens ≡ true)
 
 -- Some alternative has the token, or a `%prec` of the files has its name.
 abbrev pub IsTokenInUse : Joined → List Text → (Text → Option Text) → List PlacedModule → ℕ → Type 0
