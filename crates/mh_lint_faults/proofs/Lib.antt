@@ -29,3 +29,4 @@ pub mod ReadsPlaced
 mod FirstPositions
 mod FileLines
 pub mod FaultLinesUnique
+mod HasRuleKinds

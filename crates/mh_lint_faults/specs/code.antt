@@ -5,3 +5,4 @@ pub mod MentionContexts
 pub mod Arguments
 pub mod FirstMentions
 pub mod Producers
+pub mod RuleKinds

@@ -15,6 +15,7 @@ ghost use Rattle.mh_lint_faults.specs.FaultLines.{IsFaultAt, IsRulePosition, gra
 ghost use Rattle.mh_lint_faults.specs.Stages.{AreRead};
 ghost use Rattle.mh_lint_faults.specs.code.Examining.{AreFaultsWithin, AreJoinedFiles, AreJoinedReady, IsExaminedAs, IsExaminedReady, ReportsAt};
 ghost use Rattle.mh_lint_faults.specs.code.ReadFiles.{HasPlaces, IsSplit};
+ghost use Rattle.mh_lint_faults.specs.code.RuleKinds.{HasRuleKinds};
 ghost use Rattle.mh_lint_findings.specs.Lines.{line, lines_of};
 ghost use Rattle.mh_lint_findings.specs.code.Cursors.{AreShort};
 ghost use Rattle.mh_lint_findings.specs.declared.findings.GrammarFile.{GrammarFile as Given};
@@ -70,6 +71,7 @@ fn put_all_file_faults(
     findings: &mut Vec<Finding>,
 ) -> Result<(), Memory>
     requires places { HasPlaces read.now }
+    requires kinds { HasRuleKinds names.now }
     ensures { OnOk result ((found : List Placed) → IsSplit found read.now → lines_of findings.new.items ≡ lines_of findings.old.items ++ flat_map (name_lines (meanings_in names.now)) (enumerate_from 0 found)) }
 {
     for (at, contents) in read.modules.iter().enumerate() {
@@ -121,6 +123,7 @@ fn join_findings(
     names: &SymbolTables,
 ) -> Result<Vec<Finding>, Memory>
     requires places { HasPlaces read.now }
+    requires kinds { HasRuleKinds names.now }
     ensures { IfOk result (λ findings. (found : List Placed) → IsSplit found read.now → lines_of findings.items ≡ join_lines (meanings_in names.now) found) }
 {
     let mut findings = Vec::new(alloc);
@@ -295,6 +298,7 @@ fn names_fault(
     fault: &JoinFault,
 ) -> Result<Examined, Memory>
     requires places { HasPlaces read.now }
+    requires kinds { HasRuleKinds names.now }
     ensures examined { IfOk result (λ e. (given : List Given) (prelude : Bool) (found : List Placed) → AreRead given found → IsSplit found read.now → HasMeanings prelude read.now.modules.items names.now
         → Joins prelude read.now.modules.items (Err fault.now) → IsExaminedAs given prelude e) }
     ensures ready { IfOk result IsExaminedReady }

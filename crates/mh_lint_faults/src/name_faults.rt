@@ -20,6 +20,7 @@ ghost use Rattle.mh_lint_faults.specs.NameFaults.{faults_in_role, name_faults, r
 ghost use Rattle.mh_lint_faults.specs.NameFaults.{takes_group_prec as takes_prec};
 ghost use Rattle.mh_lint_faults.specs.code.FoundFaults.{listed};
 ghost use Rattle.mh_lint_faults.specs.code.MentionContexts.{HasOwnPrecs, IsContext, rule_agrees};
+ghost use Rattle.mh_lint_faults.specs.code.RuleKinds.{HasRuleKinds};
 
 use crate::keys::{has_key, put_key};
 use mh_front::{GrammarFault, fault_line};
@@ -108,6 +109,15 @@ fn agrees_in_kind(names: &SymbolTables, kind: NameKind, name: &Name) -> bool
         Some(first) => *first == kind,
         None => true,
     }
+}
+
+/// Whether a name may be that of a rule: the first definition of the name, if there is one, is a rule. Few names are
+/// those of tokens, so most names are not looked up among all names.
+fn agrees_in_rule_kind(names: &SymbolTables, name: &Name) -> bool
+    requires { HasRuleKinds names.now }
+    ensures { result ≡ spec.agrees spec.same_kind ((meanings_in names.now).kind name.now) NameKind.Rule }
+{
+    !names.tokens.contains(name) || agrees_in_kind(names, NameKind::Rule, name)
 }
 
 /// The fault of the name of a declared token.
@@ -227,13 +237,14 @@ fn rule_fault(
     own: &mut HashSet<Name>,
     rule: &Rule,
 ) -> Result<Option<JoinFault>, Memory>
+    requires { HasRuleKinds names.now }
     ensures fault { IfOk result (λ found. listed found ≡ unless (rule_agrees (is_public_in names.now file.now.public rule.now.name)
         (spec.agrees spec.same_shape ((meanings_in names.now).joined rule.now.name) rule.now) (contains same own.old rule.now.name)
         && spec.agrees spec.same_kind ((meanings_in names.now).kind rule.now.name) NameKind.Rule) (JoinFault.Duplicate rule.now.name)) }
     ensures own { OnOk result ((x : Text) → contains same own.new x ≡ (contains same own.old x || (not (is_public_in names.now file.now.public rule.now.name) && same x rule.now.name))) }
 {
     let agrees = agrees_with_first(names, &file.public, own, rule)?;
-    let has_kind = agrees_in_kind(names, NameKind::Rule, &rule.name);
+    let has_kind = agrees_in_rule_kind(names, &rule.name);
     duplicate_unless(agrees && has_kind, &rule.name)
 }
 
@@ -341,6 +352,7 @@ impl Context {
     ) -> Result<Option<JoinFault>, Memory>
         requires public { (x : Text) → contains same file.now.public x ≡ marks_public file.now.module.now.rules x }
         requires rules { self.old.rules < usize.MAX }
+        requires kinds { HasRuleKinds names.now }
         ensures fault { (before : List MentionOf) → IsContext names.now.starts.keys file.now.module.now before self.old
             → IfOk result (λ found. listed found ≡ rule_faults (meanings_in names.now) file.now.module.now (rules_in before) (slice_get file.now.module.now.rules (rules_in before))) }
         ensures context { (before : List MentionOf) (x : MentionOf) → x.role ≡ roles.Rule → IsContext names.now.starts.keys file.now.module.now before self.old
@@ -367,6 +379,7 @@ impl Context {
     ) -> Result<Option<JoinFault>, Memory>
         requires public { (x : Text) → contains same file.now.public x ≡ marks_public file.now.module.now.rules x }
         requires rules { self.old.rules < usize.MAX }
+        requires kinds { HasRuleKinds names.now }
         ensures fault { (before : List MentionOf) → IsContext names.now.starts.keys file.now.module.now before self.old
             → IfOk result (λ found. listed found ≡ faults_in_role (meanings_in names.now) file.now.number file.now.module.now before mention.now.name mention.now.role) }
         ensures context { (before : List MentionOf) → IsContext names.now.starts.keys file.now.module.now before self.old
@@ -450,6 +463,7 @@ pub(crate) fn put_file_faults(
     findings: &mut Vec<Finding>,
 ) -> Result<(), Memory>
     requires number { 0 < file.now.number }
+    requires kinds { HasRuleKinds names.now }
     requires public { (x : Text) → contains same file.now.public x ≡ marks_public file.now.module.now.rules x }
     ensures { OnOk result (lines_of findings.new.items ≡ lines_of findings.old.items
         ++ fault_lines (file.now.number - 1) (name_faults (meanings_in names.now) file.now.number file.now.module.now mentions.now)) }

@@ -1,4 +1,5 @@
 use Rattle.std.proofs.lemmas.Result.{IfOk-weaker}
+use Rattle.mh_lint_faults.proofs.HasRuleKinds.{rule_kinds}
 use Rattle.mh_lint_faults.proofs.ReportsAt.{files_joined, tokens_named}
 use Rattle.mh_lint_faults.proofs.front.with_names.Goals as goal
 
@@ -8,6 +9,9 @@ with_joined-requires c = record {
   joined = c.in-Ok.ensures.ready;
   tokens = tokens_named c.args.prelude c.args.read.modules.items c.args.names c.in-Ok.joined c.requires.names (rw c.as_slice.ensures.value at c.in-Ok.ensures.joins);
 }
+
+pub names_fault-requires-clause-kinds : goal.names_fault-requires-clause-kinds
+names_fault-requires-clause-kinds c = rule_kinds c.args.prelude c.args.read.modules.items c.args.names c.requires.names
 
 pub returns-in-Ok-clause-examined : goal.returns-in-Ok-clause-examined
 returns-in-Ok-clause-examined c =
