@@ -154,7 +154,7 @@ impl UsedLevels {
     pub(crate) fn has_name(&self, name: &Name) -> bool
         ensures { result ≡ contains same self.now.names name.now }
     {
-        self.names.contains(name)
+        !self.names.is_empty() && self.names.contains(name)
     }
 
     /// Records that the level of the name that a reference means is compared.

@@ -1,5 +1,6 @@
 -- The context of the next mention, after each kind of mention.
 use Rattle.std.proofs.Common.{◌≡◌, ℕ, suc, ◌+◌, ◌<◌, ◌≤◌, ◌||◌, ◌↔◌, ◌⊎◌, Bool, true, false, List, [], ◌∷◌, ◌++◌, Option, None, Some, take, length, get_or, refl, sym, ap, subst, ◌∙◌, inl, inr, arith}
+use Rattle.std.specs.Borrow.{Bor}
 use Rattle.std.specs.Prelude.{Result, Ok, Err, OnOk, not, ◌==◌}
 use Rattle.std.specs.List.{Contains, list_any, slice_get}
 use Rattle.std.specs.HashMap.{get}
@@ -9,6 +10,7 @@ use Rattle.std.proofs.lemmas.Bool.{or_cases}
 use Rattle.std.proofs.lemmas.Grind.{common_steps}
 use Rattle.std.proofs.lemmas.List.Folds.{list_any-append}
 use Rattle.mh_grammar.specs.Text.{Text}
+use Rattle.mh_grammar.specs.declared.name.Name.{Name}
 use Rattle.mh_grammar.proofs.Lists.{contains_none}
 use Rattle.mh_join_names.specs.Names.{same, formal_number, is_public}
 use Rattle.mh_rules.specs.declared.modules.Module.{Module}
@@ -18,7 +20,7 @@ use Rattle.mh_reader_places.specs.declared.mentions.Mention.{Mention}
 use Rattle.mh_reader_places.specs.declared.mentions.Role.{Role}
 use Rattle.mh_reader_places.specs.declared.mentions.Role.TheVariants as roles
 use Rattle.mh_lint_faults.specs.NameFaults.{formals_after, formals_at, formals_of, formals_with, has_own_prec, is_own_prec, last_token, rule_numbered, rules_in, rules_with, token_with}
-use Rattle.mh_lint_faults.specs.code.MentionContexts.{HasOwnPrecs, IsContext}
+use Rattle.mh_lint_faults.specs.code.MentionContexts.{HasOwnPrecs, IsContext, has_lent}
 use Rattle.mh_lint_faults.specs.declared.name_faults.Context.{Context}
 use Rattle.mh_lint_faults.proofs.MentionSteps.{rules_step, formals_step, token_step, own_step}
 
@@ -27,7 +29,7 @@ pub context_none : (starts : List Text) (m : Module) (c : Context) → c.token �
 context_none starts m c token rules own seen formals precs = record {
   token = token;
   rules = rules;
-  own = λ y private. ap (list_any (same y)) own;
+  own = λ y private. ap (list_any (λ (k : Bor Name). same y k.now)) own;
   seen = λ y. ap (list_any (same y)) seen;
   formals = formals;
   precs = λ n. (λ l. absurd (contains_none n (subst (λ ks. Contains ks n) precs l)), λ e. absurd (let bad : false ≡ true = e in cc));
@@ -37,7 +39,7 @@ context_none starts m c token rules own seen formals precs = record {
 pub record IsContextWith (starts : List Text) (m : Module) (before : List Mention) (name : Text) (role : Role) (c : Context) : Type 0 where
   pub token : c.token ≡ token_with (last_token before) name role
   pub rules : c.rules ≡ rules_with (rules_in before) role
-  pub own : (y : Text) → is_public starts m.rules y ≡ false → contains same c.own y ≡ list_any (λ (r : Rule). same y r.name) (take (rules_with (rules_in before) role) m.rules)
+  pub own : (y : Text) → is_public starts m.rules y ≡ false → has_lent c.own y ≡ list_any (λ (r : Rule). same y r.name) (take (rules_with (rules_in before) role) m.rules)
   pub seen : (y : Text) → contains same c.seen y ≡ list_any (same y) (formals_with (formals_after before) name role)
   pub formals : (y : Text) → get same c.formals y ≡ formal_number (formals_of (rule_numbered m.rules (rules_with (rules_in before) role))) y
   pub precs : (n : ℕ) → Contains c.precs.keys n ↔ ((has_own_prec before n || is_own_prec n role) ≡ true)
@@ -110,7 +112,7 @@ formal_next starts m before x c new e seen token rules own formals precs h =
     context_after starts m before x new (subst (λ role. IsContextWith starts m before (text_of x.name) role new) (sym e) (record {
       token = token ∙ h.token;
       rules = rules ∙ h.rules;
-      own = λ y private. ap (λ s. contains same s y) own ∙ h.own y private;
+      own = λ y private. ap (λ s. has_lent s y) own ∙ h.own y private;
       seen = λ y. seen y ∙ ap (λ b. b || same y (text_of x.name)) (h.seen y) ∙ sym (list_any-append (same y) (formals_after before) (text_of x.name ∷ []) ∙ ap (λ b. list_any (same y) (formals_after before) || b) (or-false (same y (text_of x.name))));
       formals = λ y. ap (λ s. get same s y) formals ∙ h.formals y;
       precs = λ n. (λ l. or-false (has_own_prec before n) ∙ (h.precs n).0 (subst (λ s. Contains s.keys n) precs l), λ f. subst (λ s. Contains s.keys n) (sym precs) ((h.precs n).1 (sym (or-false (has_own_prec before n)) ∙ f)));
@@ -128,7 +130,7 @@ prec_next starts m before x c new alternative e puts token rules own seen formal
     context_after starts m before x new (subst (λ role. IsContextWith starts m before (text_of x.name) role new) (sym e) (record {
       token = token ∙ h.token;
       rules = rules ∙ h.rules;
-      own = λ y private. ap (λ s. contains same s y) own ∙ h.own y private;
+      own = λ y private. ap (λ s. has_lent s y) own ∙ h.own y private;
       seen = λ y. ap (λ s. contains same s y) seen ∙ h.seen y;
       formals = λ y. ap (λ s. get same s y) formals ∙ h.formals y;
       precs = λ n. (

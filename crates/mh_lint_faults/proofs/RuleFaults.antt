@@ -24,7 +24,7 @@ use Rattle.mh_reader_places.specs.declared.mentions.Mention.{Mention}
 use Rattle.mh_reader_places.specs.declared.mentions.Role.TheVariants as roles
 use Rattle.mh_lint_faults.specs.NameFaults.{formals_of, has_own_prec, private_again, rule_faults, rule_numbered, rules_in}
 use Rattle.mh_lint_faults.specs.code.FoundFaults.{listed}
-use Rattle.mh_lint_faults.specs.code.MentionContexts.{IsContext, rule_agrees}
+use Rattle.mh_lint_faults.specs.code.MentionContexts.{IsContext, has_lent, rule_agrees}
 use Rattle.mh_lint_faults.specs.declared.name_faults.Context.{Context}
 use Rattle.mh_lint_faults.proofs.IsContext.{IsContextWith, context_after}
 
@@ -82,12 +82,12 @@ own_more starts rs n r y old new at private before e =
 -- The context after the name of a rule.
 pub rule_next : (starts : List Text) (m : Module) (before : List Mention) (x : Mention) (c new : Context) (r : Rule) → x.role ≡ roles.Rule → slice_get m.rules (rules_in before) ≡ Some r → IsContext starts m before c
     → new.rules ≡ c.rules + 1 → new.token ≡ c.token → new.precs ≡ c.precs → ((y : Text) → contains same new.seen y ≡ false) → ((y : Text) → get same new.formals y ≡ formal_number r.formals y)
-    → ((y : Text) → contains same new.own y ≡ (contains same c.own y || (not (is_public starts m.rules r.name) && same y r.name))) → IsContext starts m (before ++ x ∷ []) new
+    → ((y : Text) → has_lent new.own y ≡ (has_lent c.own y || (not (is_public starts m.rules r.name) && same y r.name))) → IsContext starts m (before ++ x ∷ []) new
 rule_next starts m before x c new r e at h rules token precs seen formals own =
     context_after starts m before x new (subst (λ role. IsContextWith starts m before (text_of x.name) role new) (sym e) (record {
       token = token ∙ h.token;
       rules = omega (arith, rules, h.rules);
-      own = λ y private. own_more starts m.rules (rules_in before) r y (contains same c.own y) (contains same new.own y) at private (h.own y private) (own y);
+      own = λ y private. own_more starts m.rules (rules_in before) r y (has_lent c.own y) (has_lent new.own y) at private (h.own y private) (own y);
       seen = seen;
       formals = λ y. formals y ∙ ap (λ o. formal_number (formals_of o) y) (sym at);
       precs = λ n. (λ l. or-false (has_own_prec before n) ∙ (h.precs n).0 (subst (λ s. Contains s.keys n) precs l), λ f. subst (λ s. Contains s.keys n) (sym precs) ((h.precs n).1 (sym (or-false (has_own_prec before n)) ∙ f)));
@@ -102,7 +102,7 @@ rule_past starts m before x c new e none h rules token precs own seen formals =
     context_after starts m before x new (subst (λ role. IsContextWith starts m before (text_of x.name) role new) (sym e) (record {
       token = token ∙ h.token;
       rules = omega (arith, rules, h.rules);
-      own = λ y private. ap (λ s. contains same s y) own ∙ h.own y private ∙ ap (list_any (λ (q : Rule). same y q.name)) all;
+      own = λ y private. ap (λ s. has_lent s y) own ∙ h.own y private ∙ ap (list_any (λ (q : Rule). same y q.name)) all;
       seen = seen;
       formals = λ y. formals y ∙ ap (λ o. formal_number (formals_of o) y) (sym none);
       precs = λ n. (λ l. or-false (has_own_prec before n) ∙ (h.precs n).0 (subst (λ s. Contains s.keys n) precs l), λ f. subst (λ s. Contains s.keys n) (sym precs) ((h.precs n).1 (sym (or-false (has_own_prec before n)) ∙ f)));

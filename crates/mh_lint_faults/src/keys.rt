@@ -21,5 +21,5 @@ pub fn has_key<K: Eq + Hash>(set: &HashSet<K>, key: &K) -> bool
     requires exact { (x y : K) → K.eq x y ≡ true → x ≡ y }
     ensures { IsTrue result ↔ Contains set.now.keys key.now }
 {
-    set.contains(key)
+    !set.is_empty() && set.contains(key)
 }

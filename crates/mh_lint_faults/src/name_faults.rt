@@ -19,7 +19,7 @@ ghost use Rattle.mh_lint_faults.specs.FaultLines.{fault_lines};
 ghost use Rattle.mh_lint_faults.specs.NameFaults.{faults_in_role, name_faults, rule_faults, rules_in};
 ghost use Rattle.mh_lint_faults.specs.NameFaults.{takes_group_prec as takes_prec};
 ghost use Rattle.mh_lint_faults.specs.code.FoundFaults.{listed};
-ghost use Rattle.mh_lint_faults.specs.code.MentionContexts.{HasOwnPrecs, IsContext, rule_agrees};
+ghost use Rattle.mh_lint_faults.specs.code.MentionContexts.{HasOwnPrecs, IsContext, has_lent, rule_agrees};
 ghost use Rattle.mh_lint_faults.specs.code.RuleKinds.{HasRuleKinds};
 
 use crate::keys::{has_key, put_key};
@@ -46,11 +46,11 @@ pub struct FileNames<'a> {
 
 /// What the earlier mentions of the file say about the next mention.
 #[derive(Drop)]
-struct Context {
+struct Context<'a> {
     /// The token that was declared last.
     token: Name,
     /// The private rules so far.
-    own: HashSet<Name>,
+    own: HashSet<&'a Name>,
     /// The number of rules so far.
     rules: usize,
     /// The formals of the current rule so far, and the numbers of all its formals.
@@ -212,36 +212,45 @@ fn has_first_shape(names: &SymbolTables, rule: &Rule) -> bool
     }
 }
 
+/// Adds a name to a set of lent names, and returns true if the name is new. Fails only if memory runs out.
+fn put_lent<'a>(names: &mut HashSet<&'a Name>, name: &'a Name) -> Result<bool, Memory>
+    ensures names { OnOk result ((x : Text) → has_lent names.new x ≡ (has_lent names.old x || same x name.now)) }
+    ensures is_new { IfOk result (λ b. b ≡ not (has_lent names.old name.now)) }
+{
+    let is_new = names.insert(name)?;
+    Ok(is_new)
+}
+
 /// Whether a rule agrees with the definitions before: a private rule is the first in its file; a public one has the
 /// shape of the first of all files. The name of a private rule is recorded.
-fn agrees_with_first(
+fn agrees_with_first<'a>(
     names: &SymbolTables,
     public: &HashSet<Name>,
-    own: &mut HashSet<Name>,
-    rule: &Rule,
+    own: &mut HashSet<&'a Name>,
+    rule: &'a Rule,
 ) -> Result<bool, Memory>
     ensures agrees { IfOk result (λ agrees. agrees ≡ rule_agrees (is_public_in names.now public.now rule.now.name)
-        (spec.agrees spec.same_shape ((meanings_in names.now).joined rule.now.name) rule.now) (contains same own.old rule.now.name)) }
-    ensures own { OnOk result ((x : Text) → contains same own.new x ≡ (contains same own.old x || (not (is_public_in names.now public.now rule.now.name) && same x rule.now.name))) }
+        (spec.agrees spec.same_shape ((meanings_in names.now).joined rule.now.name) rule.now) (has_lent own.old rule.now.name)) }
+    ensures own { OnOk result ((x : Text) → has_lent own.new x ≡ (has_lent own.old x || (not (is_public_in names.now public.now rule.now.name) && same x rule.now.name))) }
 {
     if is_public(&names.starts, public, &rule.name) {
         return Ok(has_first_shape(names, rule));
     }
-    put_name(own, &rule.name)
+    put_lent(own, &rule.name)
 }
 
 /// The fault of the name of a rule.
-fn rule_fault(
+fn rule_fault<'a>(
     names: &SymbolTables,
-    file: &FileNames<'_>,
-    own: &mut HashSet<Name>,
-    rule: &Rule,
+    file: &FileNames<'a>,
+    own: &mut HashSet<&'a Name>,
+    rule: &'a Rule,
 ) -> Result<Option<JoinFault>, Memory>
     requires { HasRuleKinds names.now }
     ensures fault { IfOk result (λ found. listed found ≡ unless (rule_agrees (is_public_in names.now file.now.public rule.now.name)
-        (spec.agrees spec.same_shape ((meanings_in names.now).joined rule.now.name) rule.now) (contains same own.old rule.now.name)
+        (spec.agrees spec.same_shape ((meanings_in names.now).joined rule.now.name) rule.now) (has_lent own.old rule.now.name)
         && spec.agrees spec.same_kind ((meanings_in names.now).kind rule.now.name) NameKind.Rule) (JoinFault.Duplicate rule.now.name)) }
-    ensures own { OnOk result ((x : Text) → contains same own.new x ≡ (contains same own.old x || (not (is_public_in names.now file.now.public rule.now.name) && same x rule.now.name))) }
+    ensures own { OnOk result ((x : Text) → has_lent own.new x ≡ (has_lent own.old x || (not (is_public_in names.now file.now.public rule.now.name) && same x rule.now.name))) }
 {
     let agrees = agrees_with_first(names, &file.public, own, rule)?;
     let has_kind = agrees_in_rule_kind(names, &rule.name);
@@ -328,9 +337,9 @@ fn group_prec_fault(
     prec_fault(names, reference)
 }
 
-impl Context {
+impl<'a> Context<'a> {
     /// The context of the first mention of a file with this number of rules.
-    fn new(alloc: Global, rules: usize) -> Result<Context, Memory>
+    fn new(alloc: Global, rules: usize) -> Result<Context<'a>, Memory>
         ensures { (starts : List Text) (m : ModuleOf) → IfOk result (IsContext starts m []) }
     {
         Ok(Context {
@@ -348,7 +357,7 @@ impl Context {
         &mut self,
         alloc: Global,
         names: &SymbolTables,
-        file: &FileNames<'_>,
+        file: &FileNames<'a>,
     ) -> Result<Option<JoinFault>, Memory>
         requires public { (x : Text) → contains same file.now.public x ≡ marks_public file.now.module.now.rules x }
         requires rules { self.old.rules < usize.MAX }
@@ -374,7 +383,7 @@ impl Context {
         &mut self,
         alloc: Global,
         names: &SymbolTables,
-        file: &FileNames<'_>,
+        file: &FileNames<'a>,
         mention: &Mention,
     ) -> Result<Option<JoinFault>, Memory>
         requires public { (x : Text) → contains same file.now.public x ≡ marks_public file.now.module.now.rules x }

@@ -1,9 +1,11 @@
 -- What the mentions before a mention say about it.
+use Rattle.std.specs.Borrow.{Bor}
 use Rattle.std.specs.Prelude.{◌≡◌, ◌↔◌, ℕ, Bool, true, false, not, List, take}
 use Rattle.std.specs.List.{Contains, list_any}
 use Rattle.std.specs.HashMap.{get}
-use Rattle.std.specs.HashSet.{contains}
+use Rattle.std.specs.HashSet.{HashSet, contains, contains_by}
 use Rattle.mh_grammar.specs.Text.{Text}
+use Rattle.mh_grammar.specs.declared.name.Name.{Name}
 use Rattle.mh_rules.specs.declared.modules.Module.{Module}
 use Rattle.mh_rules.specs.declared.modules.Rule.{Rule}
 use Rattle.mh_join_names.specs.Names.{same, formal_number, is_public}
@@ -20,11 +22,15 @@ rule_agrees false shape seen = not seen
 abbrev pub HasOwnPrecs : List Mention → List ℕ → Type 0
 HasOwnPrecs before precs = (n : ℕ) → Contains precs n ↔ (has_own_prec before n ≡ true)
 
+-- The set has this name; its members are lent names.
+abbrev pub has_lent : {S : Type 0} → HashSet (Bor Name) S → Text → Bool
+has_lent s x = contains_by (λ k. same x k.now) s
+
 -- The context is that after these mentions of a file.
 pub record IsContext (starts : List Text) (m : Module) (before : List Mention) (c : Context) : Type 0 where
   pub token : c.token ≡ last_token before
   pub rules : c.rules ≡ rules_in before
-  pub own : (x : Text) → is_public starts m.rules x ≡ false → contains same c.own x ≡ list_any (λ (r : Rule). same x r.name) (take (rules_in before) m.rules)
+  pub own : (x : Text) → is_public starts m.rules x ≡ false → has_lent c.own x ≡ list_any (λ (r : Rule). same x r.name) (take (rules_in before) m.rules)
   pub seen : (x : Text) → contains same c.seen x ≡ list_any (same x) (formals_after before)
   pub formals : (x : Text) → get same c.formals x ≡ formal_number (formals_at m before) x
   pub precs : HasOwnPrecs before c.precs.keys
