@@ -1,4 +1,3 @@
-mod LinesText
 mod PlacesWithin
 pub mod AreInOrder
 mod IsMoved

@@ -1,12 +1,12 @@
 //! The line and the column of positions of a file.
-ghost use Rattle.std.specs.Prelude.{◌≡◌, ◌<◌, ◌≤◌, ◌+◌, ◌++◌, ◌^◌, ◌==◌, length, fold, take};
+ghost use Rattle.std.specs.Prelude.{ℕ, List, ◌≡◌, ◌<◌, ◌≤◌, ◌+◌, ◌++◌, ◌^◌, ◌==◌, length, fold, take};
 ghost use Rattle.std.specs.List.{count_by};
 ghost use Rattle.mh_lint_findings.specs.Positions.{next_column};
 ghost use Rattle.mh_lint_findings.specs.code.Cursors.{IsAt};
 
-/// A position of a file, with its line and its column, from 1.
+/// A position of a file, with its line and its column, from 1. Files and positions are counted from 0.
 #[derive(Clone, Copy)]
-pub(crate) struct Cursor {
+pub struct Cursor {
     pub(crate) file: usize,
     pub(crate) at: usize,
     pub(crate) line: u32,
@@ -14,12 +14,13 @@ pub(crate) struct Cursor {
 }
 
 impl Cursor {
-    /// The beginning of a file.
-    pub(crate) fn new(file: usize) -> Cursor
+    /// Returns the beginning of a file.
+    pub fn new(file: usize) -> Cursor
         ensures file { result.file ≡ file }
         ensures at { result.at ≡ 0 }
         ensures line { result.line ≡ 1 }
         ensures column { result.column ≡ 1 }
+        ensures there { (bytes : List ℕ) → IsAt bytes result }
     {
         Cursor {
             file,

@@ -6,6 +6,7 @@ mod finding_text;
 mod findings;
 mod lines;
 
+pub use cursor::Cursor;
 pub use finding_text::FindingText;
 pub use findings::{Finding, GrammarFile, Position, finding_at};
-pub use lines::findings_text;
+pub use lines::write_finding;

@@ -1,9 +1,8 @@
 //! The lines that report findings.
-ghost use Rattle.std.specs.Prelude.{◌≡◌, ◌<◌, ◌≤◌, ◌++◌, ◌^◌, length, Some, slice_get, codes, decimal, IfOk, OnOk};
-ghost use Rattle.std.specs.List.{All};
+ghost use Rattle.std.specs.Prelude.{◌≡◌, ◌<◌, ◌≤◌, ◌++◌, ◌^◌, length, Some, slice_get, codes, decimal, OnOk};
 ghost use Rattle.mh_lint_findings.specs.declared.findings.GrammarFile.{GrammarFile as File};
 ghost use Rattle.mh_lint_findings.specs.Positions.{IsPositionWithin, column_at, position_text};
-ghost use Rattle.mh_lint_findings.specs.Lines.{line_of, line_text, lines_of, lines_text};
+ghost use Rattle.mh_lint_findings.specs.Lines.{line_of, line_text};
 ghost use Rattle.mh_lint_findings.specs.code.Cursors.{IsAt, IsAtIn, AreShort};
 ghost use Rattle.mh_lex_bytes.specs.Lines.{line_at};
 
@@ -11,7 +10,6 @@ use crate::cursor::Cursor;
 use crate::findings::{Finding, GrammarFile, Position};
 use mh_grammar::Memory;
 use mh_grammar_texts::write_number;
-use std::alloc::Global;
 
 /// The cursor at a position of a file. The walk goes on from the old cursor if the cursor is in this file.
 fn cursor_at(cursor: Cursor, file: usize, bytes: &[u8], start: usize) -> Cursor
@@ -95,8 +93,9 @@ fn write_position(
     }
 }
 
-/// Appends the line of a finding.
-fn write_finding(
+/// Appends the line of a finding, and moves the cursor to its position. Fails only if memory runs out. If findings come
+/// in the order of files and positions, the time for all of them is that of one walk over the files.
+pub fn write_finding(
     text: &mut Vec<u8>,
     files: &[GrammarFile],
     cursor: &mut Cursor,
@@ -112,24 +111,4 @@ fn write_finding(
     text.extend_from_slice(found.text.as_slice())?;
     text.push(b'\n')?;
     Ok(())
-}
-
-/// Returns the lines that report these findings, in their order. Fails only if memory runs out. If findings come in the
-/// order of files and positions, the time is that of one walk over the files.
-#[tactic(auto, using(crate::proofs::LinesText::lines_more))]
-pub fn findings_text(
-    alloc: Global,
-    files: &[GrammarFile],
-    findings: &[Finding],
-) -> Result<Vec<u8>, Memory>
-    requires short { AreShort files.now }
-    requires within { All (λ found. IsPositionWithin files.now found.at) findings.now }
-    ensures { IfOk result (λ text. text.items ≡ lines_text files.now (lines_of findings.now)) }
-{
-    let mut text = Vec::new(alloc);
-    let mut cursor = Cursor::new(0);
-    for found in findings {
-        write_finding(&mut text, files, &mut cursor, found)?;
-    }
-    Ok(text)
 }

@@ -15,7 +15,8 @@ ghost use Rattle.mh_resolve_cells.specs.declared.kinds.Mode.TheVariants.{Merged}
 use mh_grammar::{Grammar, Sequence, from_bytes};
 use mh_items::Automaton;
 use mh_lint::{
-    AcceptedFiles, BuiltGrammar, Examined, Finding, GrammarFile, examine, findings_text, warnings,
+    AcceptedFiles, BuiltGrammar, Cursor, Examined, Finding, GrammarFile, examine, warnings,
+    write_finding,
 };
 use mh_resolve::{Mode, resolve};
 use mh_surface::{automaton_of, is_small};
@@ -60,7 +61,12 @@ fn check_lines(
     requires short { AreShort named.now }
     requires within { All (λ f. IsPositionWithin named.now f.at) found.now }
 {
-    let text = findings_text(alloc, named, found)?;
+    let mut text = Vec::new(alloc);
+    for finding in found {
+        // A cursor that is kept would save time on a long file, and need a loop invariant.
+        let mut cursor = Cursor::new(0);
+        write_finding(&mut text, named, &mut cursor, finding)?;
+    }
     assert_eq!(rt; str::from_utf8(&text)?, wanted);
     drop(text);
     Ok(())

@@ -8,7 +8,8 @@ use Rattle.mh_lint_findings.specs.Lines.{lines_of, lines_text}
 use Rattle.mh_lint_findings.specs.declared.findings.Finding.{Finding}
 use Rattle.mh_lint_findings.specs.declared.findings.GrammarFile.{GrammarFile}
 use Rattle.mh_top_drive.specs.ModeBehavior.{ModeEnd}
-use Rattle.mh_top_drive.specs.code.ModeCalls.{EndIsWritten, TextIsWritten}
+use Rattle.mh_top_check.specs.code.WrittenPieces.{WritesInPieces}
+use Rattle.mh_top_drive.specs.code.ModeCalls.{EndIsWritten}
 use Rattle.mh_top_drive.specs.code.StageCalls.{StopsWith}
 use Rattle.mh_top_drive.specs.declared.stop.Cause.{Cause}
 use Rattle.mh_top_drive.specs.declared.stop.Cause.TheVariants.{Refused}
@@ -48,9 +49,9 @@ module _ (files : List GrammarFile) (strict faulty : Bool) (findings : List Find
   refused_end InputFailed tested ends halts = absurd halts
   refused_end WriteFailed tested ends halts = absurd halts
 
-  pub failed_end : (stop : Stop) → TextIsWritten text out0 out1 (Err stop) → EndIsWritten IsEnd out0 out1 (Err stop)
+  pub failed_end : (stop : Stop) → WritesInPieces text out0 out1 (Err stop) → EndIsWritten IsEnd out0 out1 (Err stop)
   failed_end WriteFailed part = (record { cause = cause_of_findings strict faulty (lines_of findings); out = text }, end_with (cause_of_findings strict faulty (lines_of findings)) refl, part)
+  failed_end OutOfMemory part = inr (record { cause = cause_of_findings strict faulty (lines_of findings); out = text }, end_with (cause_of_findings strict faulty (lines_of findings)) refl, part)
   failed_end (Halted cause) part = absurd part
-  failed_end OutOfMemory part = absurd part
   failed_end (ShelfFailed name) part = absurd part
   failed_end InputFailed part = absurd part

@@ -4,4 +4,6 @@ mod AreShort
 mod Examinations
 mod FindingsEnd
 mod IsBareLine
+mod LinesText
 mod Opened
+mod WrittenPieces

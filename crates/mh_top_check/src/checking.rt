@@ -22,15 +22,16 @@ ghost use Rattle.mh_top_plans.specs.code.Modes.{OpenedAndRan};
 ghost use Rattle.mh_top_tables.specs.MayAskForTables.{MayAskForTables};
 ghost use Rattle.mh_top_types.specs.code.Prepared.{IsConsistent};
 
+use crate::writing::write_findings;
 use mh_grammar::{Memory, Sequence, from_bytes};
 use mh_lint::{
     AcceptedFiles, BuiltGrammar, Examined, Finding, GrammarFile, Position, examine, finding_at,
-    findings_text, warnings,
+    warnings,
 };
 use mh_opts::Order;
 use mh_outside::{Shelf, Sink, Source};
 use mh_sets::with_width;
-use mh_top_drive::{Cause, FileFormat, Stop, read_files, refused, write_text};
+use mh_top_drive::{Cause, FileFormat, Stop, read_files, refused};
 use mh_top_plans::{Writer, write_at_end};
 use mh_top_prepare::prepare;
 use mh_top_types::{OrderAndGrammar, Prepared};
@@ -86,8 +87,8 @@ impl Writer for GrammarFindings {
     ghost end = { λ s. Findings s.files.items s.strict s.found.are_faults (lines_of s.found.findings.items) };
 
     fn write<O: Sink>(self, alloc: Global, out: &mut O) -> Result<(), Stop> {
-        let text = findings_text(alloc, self.files.as_slice(), self.found.findings.as_slice())?;
-        match write_text(out, &text) {
+        let findings = self.found.findings.as_slice();
+        match write_findings(alloc, self.files.as_slice(), findings, out) {
             Ok(()) if is_refused(&self.found, self.strict) => Err(refused(alloc, b"", b"", b"")),
             Ok(()) => Ok(()),
             Err(stop) => Err(stop),

@@ -3,5 +3,6 @@
 #![tactic(auto)]
 
 mod checking;
+mod writing;
 
 pub use checking::check_grammar;
