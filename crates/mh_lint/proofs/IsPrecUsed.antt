@@ -1,6 +1,7 @@
 -- The `%prec` that give levels that are compared.
-use Rattle.std.proofs.Common.{◌≡◌, ◌↔◌, ◌≤◌, ℕ, List, sym, subst, ◌∙◌}
+use Rattle.std.proofs.Common.{◌≡◌, ◌↔◌, ◌≤◌, ℕ, List, [], ◌∷◌, length, sym, subst, ◌∙◌}
 use Rattle.std.specs.List.{Contains}
+use Rattle.mh_grammar.proofs.Lists.{contains_none}
 use Rattle.mh_reader_places.specs.declared.mentions.Role.{Role}
 use Rattle.mh_reader_places.specs.declared.mentions.Role.TheVariants as roles
 use Rattle.mh_lint.specs.code.LevelUses.{IsPrecUsed}
@@ -34,6 +35,12 @@ module _ (alternatives : List AlternativeOf) (file : ℕ) (own : List ℕ) (role
   pub used_never : ((n : ℕ) → role ≡ roles.Prec n → ⊥) → ((low high : ℕ) → role ≡ roles.GroupPrec low high → ⊥) → IsPrecUsed alternatives file own role → ⊥
   used_never one group (levels.IsPrecUsed.of_one m f h) = one m f
   used_never one group (levels.IsPrecUsed.of_group a b m f l k free h) = group a b f
+
+-- Without alternatives no `%prec` is used.
+pub used_nowhere : (alternatives : List AlternativeOf) (file : ℕ) (own : List ℕ) (r : Role) → length alternatives ≡ 0 → IsPrecUsed alternatives file own r → ⊥
+used_nowhere [] file own r none (levels.IsPrecUsed.of_one n e h) = contains_none _ h
+used_nowhere [] file own r none (levels.IsPrecUsed.of_group low high n e l k free h) = contains_none _ h
+used_nowhere (a ∷ alternatives) file own r none used = let bad : length (a ∷ alternatives) ≡ 0 = none in cc
 
 -- The same alternatives, and the same that have a `%prec` of their own.
 pub used_same : (alternatives others : List AlternativeOf) (file : ℕ) (own mine : List ℕ) (role : Role) → ((n : ℕ) → HasPlace alternatives file n → HasPlace others file n) → ((n : ℕ) → Contains mine n → Contains own n) → IsPrecUsed alternatives file own role → IsPrecUsed others file mine role

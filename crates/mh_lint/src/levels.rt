@@ -210,6 +210,9 @@ impl UsedLevels {
     ) -> Result<(), Memory>
         ensures { OnOk result (AddsUses (λ x. (at : ℕ) × IsPrecNameOf (λ a. get same aliases.now a) read.now self.old.alternatives.keys at x) NoPlace self.old self.new) }
     {
+        if self.alternatives.is_empty() {
+            return Ok(());
+        }
         for (at, mentions) in read.mentions.iter().enumerate() {
             self.put_precs(alloc, aliases, at as u64 + 1, mentions.as_slice())?;
         }

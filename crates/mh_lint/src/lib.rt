@@ -13,6 +13,8 @@ mod warning_walk;
 
 pub use laws::{productions_have_sources, sources_give_levels};
 pub use mh_lint_faults::{AcceptedFiles, Examined, examine};
-pub use mh_lint_findings::{Cursor, Finding, GrammarFile, Position, finding_at, write_finding};
+pub use mh_lint_findings::{
+    Cursor, Finding, FindingText, GrammarFile, Position, finding_at, write_finding,
+};
 pub use warning_laws::no_line_is_no_warning;
 pub use warning_walk::{BuiltGrammar, warnings};

@@ -82,13 +82,6 @@ struct Uses {
     actuals: HashSet<ActualOf>,
 }
 
-/// The text of a warning: words, and a name after them.
-fn warning(alloc: Global, words: &[u8], name: &[u8]) -> Result<Option<FindingText>, Memory>
-    ensures { IfOk result (λ found. found ≡ Some (words.now ++ name.now)) }
-{
-    Ok(Some(FindingText::with_name(alloc, words, name)?))
-}
-
 /// Whether there is a flag with this number that is not set.
 fn is_unset(flags: &[bool], number: usize) -> bool
     ensures { IsTrue result ↔ (slice_get flags.now number ≡ Some false) }
@@ -100,52 +93,47 @@ fn is_unset(flags: &[bool], number: usize) -> bool
 }
 
 /// The warning, if there is a flag with this number that is not set. Sets the flag.
-fn warning_unless_set(
-    alloc: Global,
+fn warning_unless_set<'a>(
     flags: &mut [bool],
     number: Option<usize>,
-    words: &[u8],
-    name: &[u8],
-) -> Result<Option<FindingText>, Memory>
-    ensures warning { IfOk result (λ found. found ≡ text_unless_set (flag_at flags.old number) (words.now ++ name.now)) }
-    ensures flags { OnOk result (Marks (λ n. (number ≡ Some n) × (n < length flags.old)) flags.old flags.new) }
+    words: &'a [u8],
+    name: &'a [u8],
+) -> Option<FindingText<'a>>
+    ensures warning { result ≡ text_unless_set (flag_at flags.old number) (words.now ++ name.now) }
+    ensures flags { Marks (λ n. (number ≡ Some n) × (n < length flags.old)) flags.old flags.new }
 {
     let Some(number) = number else {
-        return Ok(None);
+        return None;
     };
     if is_unset(flags, number) {
         flags[number] = true;
-        return warning(alloc, words, name);
+        return Some(FindingText::with_name(words, name));
     }
-    Ok(None)
+    None
 }
 
 /// The warning on a name or string in a level declaration.
-fn level_warning(
-    alloc: Global,
-    aliases: &Aliases,
+fn level_warning<'a>(
+    aliases: &'a Aliases,
     levels: &UsedLevels,
-    reference: &Ref,
-) -> Result<Option<FindingText>, Memory>
-    ensures { IfOk result (λ found. found ≡ level_text (λ x. contains same levels.now.names x) (names_spec.name_by (λ a. get same aliases.now a) reference.now)) }
+    reference: &'a Ref,
+) -> Option<FindingText<'a>>
+    ensures { result ≡ level_text (λ x. contains same levels.now.names x) (names_spec.name_by (λ a. get same aliases.now a) reference.now) }
 {
-    let Some(name) = name_by(aliases, reference) else {
-        return Ok(None);
-    };
+    let name = name_by(aliases, reference)?;
     if levels.has_name(name) {
-        return Ok(None);
+        return None;
     }
-    warning(alloc, b"level without use: ", name.as_slice())
+    Some(FindingText::with_name(b"level without use: ", name.as_slice()))
 }
 
 /// The warning on a name or string after `%prec`.
-fn prec_warning(
-    alloc: Global,
+fn prec_warning<'a>(
     levels: &UsedLevels,
     file: u64,
     own: &mut HashSet<u64>,
-    mention: &Mention,
-) -> Result<Option<FindingText>, Memory>
+    mention: &'a Mention,
+) -> Result<Option<FindingText<'a>>, Memory>
     ensures warning { IfOk result (IsUnusedPrec levels.now.alternatives.keys file own.old.keys mention.now) }
     ensures own { OnOk result (PutsOwn mention.now.role own.old.keys own.new.keys) }
 {
@@ -155,17 +143,17 @@ fn prec_warning(
         return Ok(None);
     }
     let name = text_of(&mention.name);
-    warning(alloc, b"level without use: %prec ", name.as_slice())
+    Ok(Some(FindingText::with_name(b"level without use: %prec ", name.as_slice())))
 }
 
 /// The warning on an actual of an `%on_error_reduce` declaration.
-fn declaration_warning(
+fn declaration_warning<'a>(
     alloc: Global,
     joined: &Joined,
     declarations: &HashSet<DeclaredName>,
     before: usize,
     actual: ActualOf,
-) -> Result<Option<FindingText>, Memory>
+) -> Result<Option<FindingText<'a>>, Memory>
     ensures { IfOk result (IsUnusedDeclaration joined.now declarations.now.keys before actual.rank actual.item) }
 {
     let Some(found) = declared_name(alloc, joined, before, actual.rank, actual.item)? else {
@@ -174,22 +162,21 @@ fn declaration_warning(
     if has_key(declarations, &found) {
         return Ok(None);
     }
-    warning(
-        alloc,
-        b"reduction on errors without use: ",
-        found.name.as_slice(),
-    )
+    let mut text = Vec::new(alloc);
+    text.extend_from_slice(b"reduction on errors without use: ")?;
+    text.extend_from_slice(found.name.as_slice())?;
+    Ok(Some(FindingText::from_vec(text)))
 }
 
 /// The warning on a head of an actual of an `%on_error_reduce` declaration. Only the first head of an actual has one.
-fn on_error_warning(
+fn on_error_warning<'a>(
     alloc: Global,
     joined: &Joined,
     declarations: &HashSet<DeclaredName>,
     before: usize,
     actuals: &mut HashSet<ActualOf>,
     actual: ActualOf,
-) -> Result<Option<FindingText>, Memory>
+) -> Result<Option<FindingText<'a>>, Memory>
     ensures warning { IfOk result (IsActualWarning joined.now declarations.now.keys before actuals.old.keys actual) }
     ensures actuals { OnOk result ((a : Actual) → Contains actuals.new.keys a ↔ (Contains actuals.old.keys a ⊎ (a ≡ actual))) }
 {
@@ -200,17 +187,16 @@ fn on_error_warning(
 }
 
 /// The warning on a declared token.
-fn token_warning(
-    alloc: Global,
+fn token_warning<'a>(
     flags: &mut [bool],
     names: &SymbolTables,
-    name: &Name,
-) -> Result<Option<FindingText>, Memory>
-    ensures warning { IfOk result (λ found. found ≡ text_unless_set (flag_at flags.old (position (same name.now) names.now.tokens.keys)) (codes "unused token: " ++ name.now)) }
-    ensures flags { OnOk result (Marks (λ n. (position (same name.now) names.now.tokens.keys ≡ Some n) × (n < length flags.old)) flags.old flags.new) }
+    name: &'a Name,
+) -> Option<FindingText<'a>>
+    ensures warning { result ≡ text_unless_set (flag_at flags.old (position (same name.now) names.now.tokens.keys)) (codes "unused token: " ++ name.now) }
+    ensures flags { Marks (λ n. (position (same name.now) names.now.tokens.keys ≡ Some n) × (n < length flags.old)) flags.old flags.new }
 {
     let number = names.tokens.place_of(name);
-    warning_unless_set(alloc, flags, number, b"unused token: ", name.as_slice())
+    warning_unless_set(flags, number, b"unused token: ", name.as_slice())
 }
 
 /// The number of a rule as an index.
@@ -224,31 +210,30 @@ fn index_of(number: Option<u64>) -> Option<usize>
 }
 
 /// The warning on the name of a rule.
-fn rule_warning(
-    alloc: Global,
+fn rule_warning<'a>(
     flags: &mut [bool],
     names: &SymbolTables,
     file: &FileNames<'_>,
-    mention: &Mention,
-) -> Result<Option<FindingText>, Memory>
+    mention: &'a Mention,
+) -> Option<FindingText<'a>>
     requires public { (x : Text) → contains same file.now.public x ≡ marks_public file.now.module.now.rules x }
-    ensures warning { IfOk result (λ found. found ≡ text_unless_set (flag_at flags.old (faults.rule_at (meanings_in names.now) file.now.number file.now.module.now mention.now)) (codes "unreachable rule: " ++ text_of_ref mention.now.name)) }
-    ensures flags { OnOk result (Marks (λ n. (faults.rule_at (meanings_in names.now) file.now.number file.now.module.now mention.now ≡ Some n) × (n < length flags.old)) flags.old flags.new) }
+    ensures warning { result ≡ text_unless_set (flag_at flags.old (faults.rule_at (meanings_in names.now) file.now.number file.now.module.now mention.now)) (codes "unreachable rule: " ++ text_of_ref mention.now.name) }
+    ensures flags { Marks (λ n. (faults.rule_at (meanings_in names.now) file.now.number file.now.module.now mention.now ≡ Some n) × (n < length flags.old)) flags.old flags.new }
 {
     let number = index_of(rule_at(names, file, mention));
     let name = text_of(&mention.name);
-    warning_unless_set(alloc, flags, number, b"unreachable rule: ", name.as_slice())
+    warning_unless_set(flags, number, b"unreachable rule: ", name.as_slice())
 }
 
 impl Uses {
     /// The warning at a mention, if there is one. The uses are those after the mention from then on.
-    fn warning_at(
+    fn warning_at<'a>(
         &mut self,
         alloc: Global,
-        files: &AcceptedFiles,
+        files: &'a AcceptedFiles,
         file: &FileNames<'_>,
-        mention: &Mention,
-    ) -> Result<Option<FindingText>, Memory>
+        mention: &'a Mention,
+    ) -> Result<Option<FindingText<'a>>, Memory>
         requires public { (x : Text) → contains same file.now.public x ≡ marks_public file.now.module.now.rules x }
         ensures warning { (c : Checked) (before : List MentionOf) → IsBefore c files.now file.now.number file.now.module.now before mention.now self.old → IfOk result (IsWarningFound c.stages c.built c.meanings c.file before mention.now) }
         ensures uses { (c : Checked) (before : List MentionOf) → IsBefore c files.now file.now.number file.now.module.now before mention.now self.old → OnOk result (AreUses c.stages c.built c.meanings c.file (before ++ mention.now ∷ []) self.new) }
@@ -256,14 +241,16 @@ impl Uses {
         match mention.role {
             Role::Token => {
                 let name = text_of(&mention.name);
-                token_warning(alloc, &mut self.tokens, &files.names, name)
+                Ok(token_warning(&mut self.tokens, &files.names, name))
             }
-            Role::Rule => rule_warning(alloc, &mut self.rules, &files.names, file, mention),
-            Role::Level { .. } => {
-                level_warning(alloc, &files.names.aliases, &self.levels, &mention.name)
-            }
+            Role::Rule => Ok(rule_warning(&mut self.rules, &files.names, file, mention)),
+            Role::Level { .. } => Ok(level_warning(
+                &files.names.aliases,
+                &self.levels,
+                &mention.name,
+            )),
             Role::Prec { .. } | Role::GroupPrec { .. } => {
-                prec_warning(alloc, &self.levels, file.number, &mut self.own, mention)
+                prec_warning(&self.levels, file.number, &mut self.own, mention)
             }
             Role::OnError { rank, item } => on_error_warning(
                 alloc,
@@ -293,42 +280,32 @@ fn costs_before(costs: &[usize], place: usize) -> usize
 }
 
 /// Appends the warning on an attribute that begins with `[@cost` and gives no cost.
-fn put_cost(
-    alloc: Global,
-    file: usize,
-    start: usize,
-    findings: &mut Vec<Finding>,
-) -> Result<(), Memory>
+fn put_cost(file: usize, start: usize, findings: &mut Vec<Finding<'_>>) -> Result<(), Memory>
     ensures { OnOk result (lines_of findings.new.items ≡ lines_of findings.old.items ++ cost_line file start ∷ []) }
 {
     let at = Position::InFile { file, start };
-    findings.push(finding_at(alloc, at, b"attribute without a cost")?)?;
+    findings.push(finding_at(at, b"attribute without a cost"))?;
     Ok(())
 }
 
 /// Appends the warnings on the attributes at these positions, which give no cost.
-fn put_costs(
-    alloc: Global,
-    file: usize,
-    costs: &[usize],
-    findings: &mut Vec<Finding>,
-) -> Result<(), Memory>
+fn put_costs(file: usize, costs: &[usize], findings: &mut Vec<Finding<'_>>) -> Result<(), Memory>
     ensures { OnOk result (lines_of findings.new.items ≡ lines_of findings.old.items ++ map (cost_line file) costs.now) }
 {
     for start in costs {
-        put_cost(alloc, file, *start, findings)?;
+        put_cost(file, *start, findings)?;
     }
     Ok(())
 }
 
 /// Appends a warning at a place of a file, if there is one.
-fn put_warning(
+fn put_warning<'a>(
     file: usize,
     start: usize,
-    found: Option<FindingText>,
-    findings: &mut Vec<Finding>,
+    found: Option<FindingText<'a>>,
+    findings: &mut Vec<Finding<'a>>,
 ) -> Result<(), Memory>
-    ensures { OnOk result (lines_of findings.new.items ≡ lines_of findings.old.items ++ warning_lines file start found) }
+    ensures { OnOk result (lines_of findings.new.items ≡ lines_of findings.old.items ++ warning_lines file start found.entry) }
 {
     let Some(text) = found else {
         return Ok(());
@@ -341,13 +318,13 @@ fn put_warning(
 }
 
 /// Appends the lines of a file, in the order of places. The uses are those before the first mention of the file.
-fn put_mention_lines(
+fn put_mention_lines<'a>(
     alloc: Global,
     uses: &mut Uses,
-    files: &AcceptedFiles,
+    files: &'a AcceptedFiles,
     file: &FileNames<'_>,
     at: usize,
-    findings: &mut Vec<Finding>,
+    findings: &mut Vec<Finding<'a>>,
 ) -> Result<(), Memory>
     requires public { (x : Text) → contains same file.now.public x ≡ marks_public file.now.module.now.rules x }
     requires places { HasPlaces files.now.read }
@@ -359,12 +336,12 @@ fn put_mention_lines(
     let mut costs = files.read.bad_costs[at].as_slice();
     for mention in files.read.mentions[at].as_slice() {
         let (before, after) = costs.split_at(costs_before(costs, mention.start));
-        put_costs(alloc, at, before, findings)?;
+        put_costs(at, before, findings)?;
         costs = after;
         let found = uses.warning_at(alloc, files, file, mention)?;
         put_warning(at, mention.start, found, findings)?;
     }
-    put_costs(alloc, at, costs, findings)
+    put_costs(at, costs, findings)
 }
 
 /// The number of declarations of all files up to a file with this number of declarations, which is no greater than the
@@ -376,12 +353,12 @@ fn declarations_after(before: usize, count: usize, all: usize) -> usize
 }
 
 /// Appends the lines of a file, in the order of places. The uses are those after the file from then on.
-fn put_file_lines(
+fn put_file_lines<'a>(
     alloc: Global,
     uses: &mut Uses,
-    files: &AcceptedFiles,
+    files: &'a AcceptedFiles,
     at: usize,
-    findings: &mut Vec<Finding>,
+    findings: &mut Vec<Finding<'a>>,
 ) -> Result<(), Memory>
     requires places { HasPlaces files.now.read }
     requires at { at < length files.now.read.modules.items }
@@ -467,12 +444,12 @@ fn mark_names(used: &mut [bool], tokens: &[Name], names: &HashSet<Name>)
 }
 
 /// Appends the lines of all files.
-fn put_lines(
+fn put_lines<'a>(
     alloc: Global,
-    files: &AcceptedFiles,
+    files: &'a AcceptedFiles,
     grammar: &Grammar,
     shown: &ShownByStates,
-    findings: &mut Vec<Finding>,
+    findings: &mut Vec<Finding<'a>>,
 ) -> Result<(), Memory>
     requires ready { AreAcceptedReady files.now }
     requires flags { AreFlagsOf grammar.now shown.now }
@@ -487,11 +464,10 @@ fn put_lines(
 
 /// Appends the warning on a file, if an earlier file has its name. Records the name.
 fn put_if_repeated(
-    alloc: Global,
     seen: &mut HashSet<Name>,
     file: usize,
     name: &Name,
-    findings: &mut Vec<Finding>,
+    findings: &mut Vec<Finding<'_>>,
 ) -> Result<(), Memory>
     ensures names { OnOk result ((x : Text) → contains same seen.new x ≡ (contains same seen.old x || same x name.now)) }
     ensures lines { OnOk result (lines_of findings.new.items ≡ lines_of findings.old.items ++ repeated_lines (contains same seen.old name.now) file) }
@@ -500,7 +476,7 @@ fn put_if_repeated(
         return Ok(());
     }
     let at = Position::OfFile { file };
-    findings.push(finding_at(alloc, at, b"file named twice")?)?;
+    findings.push(finding_at(at, b"file named twice"))?;
     Ok(())
 }
 
@@ -508,25 +484,25 @@ fn put_if_repeated(
 fn put_repeated(
     alloc: Global,
     named: &[GrammarFile],
-    findings: &mut Vec<Finding>,
+    findings: &mut Vec<Finding<'_>>,
 ) -> Result<(), Memory>
     ensures { OnOk result (AppendsLines (AreInOrder (AreNameLines (map (λ file. file.name) named.now)) (enumerate_from 0 (map (λ file. file.name) named.now))) findings.old.items findings.new.items) }
 {
     let mut seen = HashSet::new(alloc);
     for (number, file) in named.iter().enumerate() {
-        put_if_repeated(alloc, &mut seen, number, &file.name, findings)?;
+        put_if_repeated(&mut seen, number, &file.name, findings)?;
     }
     Ok(())
 }
 
 /// Returns the warnings on an accepted grammar, of its files and of its automaton. `named` has the names and bytes of
-/// the files, and `files` what was read in them. Fails only if memory runs out.
-pub fn warnings<const W: usize>(
+/// the files, and `files` what was read in them, which lends its names to the texts. Fails only if memory runs out.
+pub fn warnings<'a, const W: usize>(
     alloc: Global,
     named: &[GrammarFile],
-    files: &AcceptedFiles,
+    files: &'a AcceptedFiles,
     built: &BuiltGrammar<'_, W>,
-) -> Result<Vec<Finding>, Memory>
+) -> Result<Vec<Finding<'a>>, Memory>
     requires files { AreAcceptedReady files.now }
     requires fits { FitsSets W built.now.grammar.now }
     requires automaton { IsAutomaton (plain_of built.now.grammar.now) built.now.automaton.now }

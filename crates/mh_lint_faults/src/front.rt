@@ -51,7 +51,7 @@ pub struct AcceptedFiles {
 pub enum Examined {
     /// The files have these faults.
     Faulty {
-        findings: Vec<Finding>,
+        findings: Vec<Finding<'static>>,
     },
     /// The files have this grammar.
     Accepted {
@@ -68,7 +68,7 @@ fn put_all_file_faults(
     alloc: Global,
     read: &ReadFiles,
     names: &SymbolTables,
-    findings: &mut Vec<Finding>,
+    findings: &mut Vec<Finding<'_>>,
 ) -> Result<(), Memory>
     requires places { HasPlaces read.now }
     requires kinds { HasRuleKinds names.now }
@@ -86,7 +86,7 @@ fn put_if(
     alloc: Global,
     is_fault: bool,
     fault: JoinFault,
-    findings: &mut Vec<Finding>,
+    findings: &mut Vec<Finding<'_>>,
 ) -> Result<(), Memory>
     ensures { OnOk result (lines_of findings.new.items ≡ lines_of findings.old.items ++ cond is_fault (line (positions.OfFile 0) (join_text fault) ∷ []) []) }
 {
@@ -100,7 +100,7 @@ fn put_if(
 fn put_grammar_faults(
     alloc: Global,
     names: &SymbolTables,
-    findings: &mut Vec<Finding>,
+    findings: &mut Vec<Finding<'_>>,
 ) -> Result<(), Memory>
     ensures { OnOk result (lines_of findings.new.items ≡ lines_of findings.old.items ++ grammar_lines (meanings_in names.now)) }
 {
@@ -121,7 +121,7 @@ fn join_findings(
     alloc: Global,
     read: &ReadFiles,
     names: &SymbolTables,
-) -> Result<Vec<Finding>, Memory>
+) -> Result<Vec<Finding<'static>>, Memory>
     requires places { HasPlaces read.now }
     requires kinds { HasRuleKinds names.now }
     ensures { IfOk result (λ findings. (found : List Placed) → IsSplit found read.now → lines_of findings.items ≡ join_lines (meanings_in names.now) found) }
@@ -133,7 +133,11 @@ fn join_findings(
 }
 
 /// The finding of a fault.
-fn one_fault(alloc: Global, at: Position, fault: &GrammarFault) -> Result<Vec<Finding>, Memory>
+fn one_fault(
+    alloc: Global,
+    at: Position,
+    fault: &GrammarFault,
+) -> Result<Vec<Finding<'static>>, Memory>
     ensures { IfOk result (λ findings. ReportsAt (λ p. p ≡ at) fault.now findings.items) }
 {
     let mut findings = Vec::new(alloc);
@@ -155,7 +159,7 @@ fn named_fault(
     files: &JoinedFiles,
     printed: &Name,
     fault: &GrammarFault,
-) -> Result<Vec<Finding>, Memory>
+) -> Result<Vec<Finding<'static>>, Memory>
     requires places { HasPlaces files.now.read }
     ensures { IfOk result (λ findings. (found : List Placed) → IsSplit found files.now.read → ReportsAt (IsRulePosition (meanings_in files.now.names) found files.now.joined printed.now) fault.now findings.items) }
 {
@@ -175,7 +179,7 @@ fn arity_fault(
     files: &JoinedFiles,
     printed: &Name,
     fault: &GrammarFault,
-) -> Result<Vec<Finding>, Memory>
+) -> Result<Vec<Finding<'static>>, Memory>
     requires places { HasPlaces files.now.read }
     requires arity { fault.now ≡ faults.Expand (expanding.Arity printed.now) }
     ensures { IfOk result (λ findings. (found : List Placed) → IsSplit found files.now.read → ReportsAt (IsFaultAt (meanings_in files.now.names) found files.now.joined fault.now) fault.now findings.items) }
@@ -192,7 +196,7 @@ fn expansion_finding(
     files: &JoinedFiles,
     expansion: &ExpandFault,
     fault: &GrammarFault,
-) -> Result<Vec<Finding>, Memory>
+) -> Result<Vec<Finding<'static>>, Memory>
     requires places { HasPlaces files.now.read }
     requires expansion { fault.now ≡ faults.Expand expansion.now }
     ensures { IfOk result (λ findings. (found : List Placed) → IsSplit found files.now.read → ReportsAt (IsFaultAt (meanings_in files.now.names) found files.now.joined fault.now) fault.now findings.items) }
@@ -210,7 +214,7 @@ fn inlining_finding(
     files: &JoinedFiles,
     inlining: &InlineFault,
     fault: &GrammarFault,
-) -> Result<Vec<Finding>, Memory>
+) -> Result<Vec<Finding<'static>>, Memory>
     requires places { HasPlaces files.now.read }
     requires inlining { fault.now ≡ faults.Inline inlining.now }
     ensures { IfOk result (λ findings. (found : List Placed) → IsSplit found files.now.read → ReportsAt (IsFaultAt (meanings_in files.now.names) found files.now.joined fault.now) fault.now findings.items) }
@@ -229,7 +233,7 @@ fn instances_finding(
     alloc: Global,
     files: &JoinedFiles,
     fault: &GrammarFault,
-) -> Result<Vec<Finding>, Memory>
+) -> Result<Vec<Finding<'static>>, Memory>
     requires places { HasPlaces files.now.read }
     ensures { IfOk result (λ findings. (found : List Placed) → IsSplit found files.now.read → ReportsAt (IsFaultAt (meanings_in files.now.names) found files.now.joined fault.now) fault.now findings.items) }
 {

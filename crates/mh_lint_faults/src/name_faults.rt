@@ -421,7 +421,7 @@ impl<'a> Context<'a> {
 /// Appends a fault at a position.
 pub(crate) fn put_fault(
     alloc: Global,
-    findings: &mut Vec<Finding>,
+    findings: &mut Vec<Finding<'_>>,
     at: Position,
     fault: &GrammarFault,
 ) -> Result<(), Memory>
@@ -438,7 +438,7 @@ pub(crate) fn put_fault(
 /// Appends the line for a fault of a name, if there is one.
 fn put_found(
     alloc: Global,
-    findings: &mut Vec<Finding>,
+    findings: &mut Vec<Finding<'_>>,
     at: Position,
     found: Option<JoinFault>,
 ) -> Result<(), Memory>
@@ -469,7 +469,7 @@ pub(crate) fn put_file_faults(
     names: &SymbolTables,
     file: &FileNames<'_>,
     mentions: &[Mention],
-    findings: &mut Vec<Finding>,
+    findings: &mut Vec<Finding<'_>>,
 ) -> Result<(), Memory>
     requires number { 0 < file.now.number }
     requires kinds { HasRuleKinds names.now }

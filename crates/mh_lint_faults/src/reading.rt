@@ -32,15 +32,14 @@ fn put_module(read: &mut ReadFiles, placed: PlacedModule) -> Result<(), Memory>
 
 /// Appends the syntax fault of a file.
 fn put_syntax_fault(
-    alloc: Global,
-    findings: &mut Vec<Finding>,
+    findings: &mut Vec<Finding<'_>>,
     file: usize,
     start: usize,
 ) -> Result<(), Memory>
     ensures { OnOk result (lines_of findings.new.items ≡ lines_of findings.old.items ++ line (positions.InFile file start) (codes "syntax error") ∷ []) }
 {
     let at = Position::InFile { file, start };
-    findings.push(finding_at(alloc, at, b"syntax error")?)?;
+    findings.push(finding_at(at, b"syntax error"))?;
     Ok(())
 }
 
@@ -50,14 +49,14 @@ fn read_file(
     read: &mut ReadFiles,
     number: usize,
     file: &GrammarFile,
-    findings: &mut Vec<Finding>,
+    findings: &mut Vec<Finding<'_>>,
 ) -> Result<(), Memory>
     requires { length file.now.bytes < 2 ^ 31 }
     ensures { OnOk result (ReadsFile number file.now read.old findings.old.items read.new findings.new.items) }
 {
     match read_placed(alloc, file.bytes.as_slice()) {
         Ok(placed) => put_module(read, placed),
-        Err(PlacedFault::Syntax { place }) => put_syntax_fault(alloc, findings, number, place),
+        Err(PlacedFault::Syntax { place }) => put_syntax_fault(findings, number, place),
         Err(PlacedFault::Memory) => Err(Memory),
     }
 }
@@ -67,7 +66,7 @@ fn put_files(
     alloc: Global,
     read: &mut ReadFiles,
     files: &[GrammarFile],
-    findings: &mut Vec<Finding>,
+    findings: &mut Vec<Finding<'_>>,
 ) -> Result<(), Memory>
     requires short { AreShort files.now }
     requires nothing { IsSplit [] read.old }
@@ -85,7 +84,7 @@ fn put_files(
 pub(crate) fn read_files(
     alloc: Global,
     files: &[GrammarFile],
-    findings: &mut Vec<Finding>,
+    findings: &mut Vec<Finding<'_>>,
 ) -> Result<ReadFiles, Memory>
     requires short { AreShort files.now }
     requires none { findings.old.items ≡ [] }

@@ -1,5 +1,5 @@
 -- The beginning of a line that reports a finding: the name of the file, the line and the column (this project's own).
-use Rattle.std.specs.Prelude.{◌≡◌, ◌<◌, ◌≤◌, ◌+◌, ◌++◌, ◌==◌, ℕ, if◌then◌else◌, fold, List, [], length, take, codes, decimal, Option, None, Some, slice_get, ⊤}
+use Rattle.std.specs.Prelude.{◌≡◌, ◌≤◌, ◌+◌, ◌++◌, ◌==◌, ℕ, if◌then◌else◌, fold, List, [], length, take, codes, decimal, Option, None, Some, slice_get, ⊤}
 use Rattle.mh_grammar.specs.Text.{Text}
 use Rattle.mh_lex_bytes.specs.Lines.{line_at}
 use Rattle.mh_lint_findings.specs.declared.findings.GrammarFile.{GrammarFile}

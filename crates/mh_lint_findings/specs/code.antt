@@ -1,2 +1,3 @@
 pub mod Cursors
 pub mod AppendedLines
+pub mod Parts

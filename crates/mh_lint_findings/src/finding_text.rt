@@ -1,64 +1,66 @@
 //! The type of the texts of findings.
-ghost use Rattle.std.specs.Prelude.{◌≡◌, ◌++◌, IfOk};
+ghost use Rattle.std.specs.Prelude.{◌≡◌, ◌++◌, OnOk};
 
-use mh_grammar::Memory;
-use smallvec::SmallVec;
-use std::alloc::Global;
+use mh_grammar::{Memory, Sequence};
 use std::marker::Model;
 
-/// The text of a finding: a byte string. A text of at most 40 bytes takes no memory of its own, since each line of a
-/// file can have a warning, and most warnings are a few words and a short name.
-pub struct FindingText {
-    bytes: SmallVec<u8, 40>,
+/// What the text is made of.
+#[derive(Drop)]
+enum Parts<'a> {
+    /// Words, and a name after them. Both are lent: a file can have a warning on each line, and most warnings are a few
+    /// words and a name of the file.
+    Lent { words: &'a [u8], name: &'a [u8] },
+    /// Bytes of its own.
+    Own { bytes: Sequence<u8> },
 }
 
-impl Model for FindingText {
+/// The text of a finding: a byte string, which is lent or its own.
+#[derive(Drop)]
+pub struct FindingText<'a> {
+    parts: Parts<'a>,
+}
+
+impl<'a> Model for FindingText<'a> {
     ghost use Rattle.std.specs.Prelude.{List, ℕ};
+    ghost use Rattle.mh_lint_findings.specs.code.Parts.{parts_text};
 
     ghost Value = { List ℕ };
 
-    ghost view = { λ t. t.bytes.items };
+    ghost view = { λ t. parts_text t.parts };
 }
 
-impl FindingText {
-    /// Creates the text with these bytes. It fails only for lack of memory.
-    pub fn from_bytes(alloc: Global, bytes: &[u8]) -> Result<FindingText, Memory>
-        ensures { IfOk result (λ t. t ≡ bytes.now) }
-    {
-        Ok(FindingText {
-            bytes: SmallVec::from_slice(alloc, bytes)?,
-        })
-    }
-
-    /// Creates the text of these words with a name after them. It fails only for lack of memory.
-    pub fn with_name(alloc: Global, words: &[u8], name: &[u8]) -> Result<FindingText, Memory>
-        ensures { IfOk result (λ t. t ≡ words.now ++ name.now) }
-    {
-        let mut bytes = SmallVec::from_slice(alloc, words)?;
-        bytes.extend_from_slice(name)?;
-        Ok(FindingText { bytes })
-    }
-
-    /// The text with the bytes of this vector.
-    pub fn from_vec(bytes: Vec<u8>) -> FindingText
-        ensures { result ≡ bytes.items }
+impl<'a> FindingText<'a> {
+    /// The text of these words with a name after them.
+    pub fn with_name(words: &'a [u8], name: &'a [u8]) -> FindingText<'a>
+        ensures { result ≡ words.now ++ name.now }
     {
         FindingText {
-            bytes: SmallVec::from_vec(bytes),
+            parts: Parts::Lent { words, name },
         }
     }
 
-    /// The bytes of the text.
-    pub fn as_slice(&self) -> &[u8]
-        ensures { result.now ≡ self.now }
+    /// The text with the bytes of this vector.
+    pub fn from_vec(bytes: Vec<u8>) -> FindingText<'a>
+        ensures { result ≡ bytes.items }
     {
-        self.bytes.as_slice()
+        FindingText {
+            parts: Parts::Own {
+                bytes: Sequence::from_vec(bytes),
+            },
+        }
     }
-}
 
-impl Drop for FindingText {
-    fn drop(self) {
-        let FindingText { bytes } = self;
-        drop(bytes);
+    /// Appends the text. Fails only if memory runs out.
+    pub fn append_to(&self, text: &mut Vec<u8>) -> Result<(), Memory>
+        ensures { OnOk result (text.new.items ≡ text.old.items ++ self.now) }
+    {
+        match &self.parts {
+            Parts::Lent { words, name } => {
+                text.extend_from_slice(words)?;
+                text.extend_from_slice(name)?;
+            }
+            Parts::Own { bytes } => text.extend_from_slice(bytes.as_slice())?,
+        }
+        Ok(())
     }
 }

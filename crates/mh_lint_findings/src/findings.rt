@@ -1,9 +1,8 @@
 //! The types of findings.
-ghost use Rattle.std.specs.Prelude.{◌≡◌, IfOk};
+ghost use Rattle.std.specs.Prelude.{◌≡◌};
 
 use crate::finding_text::FindingText;
-use mh_grammar::{Memory, Name, Sequence};
-use std::alloc::Global;
+use mh_grammar::{Name, Sequence};
 
 /// A grammar file: its name, as the command line gives it, and its bytes.
 #[derive(Drop)]
@@ -23,18 +22,18 @@ pub enum Position {
 
 /// A fault or a warning, with the text that reports it.
 #[derive(Drop)]
-pub struct Finding {
+pub struct Finding<'a> {
     pub at: Position,
-    pub text: FindingText,
+    pub text: FindingText<'a>,
 }
 
-/// Returns the finding with a text. Fails only if memory runs out.
-pub fn finding_at(alloc: Global, at: Position, text: &[u8]) -> Result<Finding, Memory>
-    ensures position { IfOk result (λ found. found.at ≡ at) }
-    ensures text { IfOk result (λ found. found.text ≡ text.now) }
+/// The finding with these words.
+pub fn finding_at<'a>(at: Position, words: &'a [u8]) -> Finding<'a>
+    ensures position { result.at ≡ at }
+    ensures text { result.text ≡ words.now }
 {
-    Ok(Finding {
+    Finding {
         at,
-        text: FindingText::from_bytes(alloc, text)?,
-    })
+        text: FindingText::with_name(words, b""),
+    }
 }

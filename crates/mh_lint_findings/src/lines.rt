@@ -99,7 +99,7 @@ pub fn write_finding(
     text: &mut Vec<u8>,
     files: &[GrammarFile],
     cursor: &mut Cursor,
-    found: &Finding,
+    found: &Finding<'_>,
 ) -> Result<(), Memory>
     requires short { AreShort files.now }
     requires within { IsPositionWithin files.now found.now.at }
@@ -108,7 +108,7 @@ pub fn write_finding(
     ensures there { OnOk result (IsAtIn files.now cursor.new) }
 {
     write_position(text, files, cursor, found.at)?;
-    text.extend_from_slice(found.text.as_slice())?;
+    found.text.append_to(text)?;
     text.push(b'\n')?;
     Ok(())
 }

@@ -31,7 +31,7 @@ use mh_resolve_cells::{Conflict, ConflictKind};
 use std::alloc::Global;
 
 /// Appends a finding without a place.
-fn put_line(findings: &mut Vec<Finding>, text: Vec<u8>) -> Result<(), Memory>
+fn put_line(findings: &mut Vec<Finding<'_>>, text: Vec<u8>) -> Result<(), Memory>
     ensures { OnOk result (lines_of findings.new.items ≡ lines_of findings.old.items ++ line positions.OfAutomaton text.items ∷ []) }
 {
     findings.push(Finding {
@@ -57,7 +57,7 @@ fn put_production(
     grammar: &Grammar,
     reduced: &[bool],
     production: u32,
-    findings: &mut Vec<Finding>,
+    findings: &mut Vec<Finding<'_>>,
 ) -> Result<(), Memory>
     requires { production < length reduced.now }
     ensures { OnOk result (lines_of findings.new.items ≡ lines_of findings.old.items ++ unreduced_line grammar.now reduced.now production) }
@@ -73,7 +73,7 @@ fn put_productions(
     alloc: Global,
     grammar: &Grammar,
     reduced: &[bool],
-    findings: &mut Vec<Finding>,
+    findings: &mut Vec<Finding<'_>>,
 ) -> Result<(), Memory>
     requires range { IsInRange (plain_of grammar.now) }
     requires flags { length reduced.now ≡ production_count (plain_of grammar.now) }
@@ -138,7 +138,7 @@ fn put_conflict<const W: usize>(
     automaton: &Automaton<W>,
     state: &ClosedState<W>,
     conflict: &Conflict,
-    findings: &mut Vec<Finding>,
+    findings: &mut Vec<Finding<'_>>,
 ) -> Result<(), Memory>
     requires fits { FitsSets W grammar.now }
     requires automaton { IsAutomaton (plain_of grammar.now) automaton.now }
@@ -165,7 +165,7 @@ fn put_conflicts<const W: usize>(
     closer: &mut ClosureBuilder<W>,
     automaton: &Automaton<W>,
     conflicts: &[Conflict],
-    findings: &mut Vec<Finding>,
+    findings: &mut Vec<Finding<'_>>,
 ) -> Result<(), Memory>
     requires fits { FitsSets W grammar.now }
     requires automaton { IsAutomaton (plain_of grammar.now) automaton.now }
@@ -192,7 +192,7 @@ pub fn automaton_findings<const W: usize>(
     automaton: &Automaton<W>,
     conflicts: &[Conflict],
     reduced: &[bool],
-    findings: &mut Vec<Finding>,
+    findings: &mut Vec<Finding<'_>>,
 ) -> Result<(), Memory>
     requires fits { FitsSets W grammar.now }
     requires automaton { IsAutomaton (plain_of grammar.now) automaton.now }

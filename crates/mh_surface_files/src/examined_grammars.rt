@@ -55,7 +55,7 @@ fn check_lines(
     rt: &impl Abort,
     alloc: Global,
     named: &[GrammarFile],
-    found: &[Finding],
+    found: &[Finding<'_>],
     wanted: &str,
 ) -> Result<(), Fail>
     requires short { AreShort named.now }

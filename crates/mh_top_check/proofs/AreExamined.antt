@@ -1,50 +1,51 @@
 -- The results of reading grammar files and of examining them are results of both stages together.
-use Rattle.std.proofs.Common.{◌≡◌, ℕ, List, Option, refl, subst}
-use Rattle.std.specs.Prelude.{Result, Ok, Err, Vec}
-use Rattle.std.specs.declared.alloc.Global.{Global}
-use Rattle.mh_lint_findings.specs.Lines.{lines_of}
+use Rattle.std.proofs.Common.{◌≡◌, inl, inr, Bool, List, Option, refl, subst}
+use Rattle.std.specs.Prelude.{Result, Ok, Err}
+use Rattle.mh_grammar.specs.Text.{Text}
+use Rattle.mh_lint_findings.specs.Lines.{Line}
 use Rattle.mh_lint_findings.specs.declared.findings.GrammarFile.{GrammarFile}
 use Rattle.mh_opts.specs.declared.order.Order.{Order}
 use Rattle.mh_outside.specs.Shelf.{Files}
-use Rattle.mh_top_check.specs.Examination.{IsGrammarFile, OfGrammar, OfTables}
-use Rattle.mh_top_check.specs.code.Findings.{ExaminesFiles, FindsIn}
-use Rattle.mh_top_check.specs.declared.checking.Found.{Found}
-use Rattle.mh_top_check.specs.declared.checking.GrammarFindings.{GrammarFindings}
+use Rattle.mh_top_check.proofs.Opened.{IsMode}
+use Rattle.mh_top_check.specs.Examination.{IsExamination, IsGrammarFile, IsNextOfCheck, IsPlanOfCheck, OfGrammar, OfTables}
+use Rattle.mh_top_check.specs.code.Findings.{AreTablesNext, IsPlanOfFiles, plan_of_files}
 use Rattle.mh_top_drive.specs.FileContents.{AreFileContents}
 use Rattle.mh_top_drive.specs.NextFile.{IsNextFile}
-use Rattle.mh_top_drive.specs.StageResults.{Go, Halt}
-use Rattle.mh_top_drive.specs.code.ModeCalls.{ModeShelfCounts}
-use Rattle.mh_top_drive.specs.code.StageCalls.{FileStageGives, StageShelfCounts}
+use Rattle.mh_top_drive.specs.StageResults.{StageResult, Go, Halt}
+use Rattle.mh_top_drive.specs.code.StageCalls.{FileStageGives}
 use Rattle.mh_top_drive.specs.declared.stop.Stop.{Stop}
 use Rattle.mh_top_drive.specs.declared.stop.Stop.TheVariants.{Halted, InputFailed, OutOfMemory, ShelfFailed, WriteFailed}
+use Rattle.mh_top_plans.specs.Plan.{Plan}
+use Rattle.mh_top_plans.specs.code.Modes.{IsUnopened, OpenedAndRan, Opens}
 
 module _ (files : Option Files) (order : Order) where
-  pub reading_stops : (stop : Stop) → FileStageGives {A = List GrammarFile} (AreFileContents files IsGrammarFile order.grammars) (IsNextFile files IsGrammarFile order.grammars) (Err stop) → ExaminesFiles files order (Err stop)
-  reading_stops (Halted cause) has = (Halt cause, has, refl)
+  pub reading_stops : (stop : Stop) → FileStageGives {A = List GrammarFile} (AreFileContents files IsGrammarFile order.grammars) (IsNextFile files IsGrammarFile order.grammars) (Err stop) → Opens IsMode (IsPlanOfCheck order files) (IsNextOfCheck order files) (Err stop)
+  reading_stops (Halted cause) has = (Halt cause, (Halt cause, has, refl), refl)
   reading_stops (ShelfFailed name) has = OfGrammar has
   reading_stops OutOfMemory has = tt
   reading_stops InputFailed has = absurd has
   reading_stops WriteFailed has = absurd has
 
   module _ (named : List GrammarFile) (are : AreFileContents files IsGrammarFile order.grammars (Go named)) where
-    pub examining_stops : (stop : Stop) → FindsIn files order named (Err stop) → ExaminesFiles files order (Err stop)
-    examining_stops (Halted cause) is = (Go named, are, (Halt cause, is, refl))
-    examining_stops (ShelfFailed name) next = OfTables named next.stages are next.accepts next.named_is
-    examining_stops OutOfMemory is = tt
-    examining_stops InputFailed is = absurd is
-    examining_stops WriteFailed is = absurd is
+    examined_plan : (plan : Plan) (s : StageResult (Bool × List Line)) → IsExamination files order named s → plan ≡ plan_of_files order named s → IsPlanOfCheck order files plan
+    examined_plan plan (Go result) is same = (Go (named, result), (Go named, are, (Go result, is, refl)), same)
+    examined_plan plan (Halt cause) is same = (Halt cause, (Go named, are, (Halt cause, is, refl)), same)
 
-  pub are_examined : (mode : GrammarFindings) → AreFileContents files IsGrammarFile order.grammars (Go mode.files.items) → FindsIn files order mode.files.items (Ok mode.found) → mode.strict ≡ order.strict → ExaminesFiles files order (Ok mode)
-  are_examined mode are is same = ((Go mode.files.items, are, (Go (mode.found.are_faults, lines_of mode.found.findings.items), is.0, refl)), same, is.1)
+    tables_next : (r : Result (Unit {0}) Stop) → IsUnopened (AreTablesNext order named) r → IsUnopened (IsNextOfCheck order files) r
+    tables_next (Err (ShelfFailed name)) next = OfTables named next.stages are next.accepts next.named_is
+    tables_next (Err OutOfMemory) next = tt
+    tables_next (Err (Halted cause)) next = absurd next
+    tables_next (Err InputFailed) next = absurd next
+    tables_next (Err WriteFailed) next = absurd next
+    tables_next (Ok u) next = absurd next
 
--- What is found in the files of a list is found in those of an equal list, with the same files on the shelf.
-pub finds_same : (order : Order) (r : Result Found Stop) (old new : Option Files) (given named : List GrammarFile) → new ≡ old → given ≡ named → FindsIn new order given r → FindsIn old order named r
-finds_same order r old new given named kept same is = subst (λ (files : Option Files). FindsIn files order named r) kept (subst (λ (gs : List GrammarFile). FindsIn new order gs r) same is)
+    -- A run on the files that were read is a run of the whole mode.
+    pub files_checked : (in0 in1 out0 out1 : Option Text) (r : Result (Unit {0}) Stop) → OpenedAndRan (IsPlanOfFiles files order named) (AreTablesNext order named) in0 in1 out0 out1 r → OpenedAndRan (IsPlanOfCheck order files) (IsNextOfCheck order files) in0 in1 out0 out1 r
+    files_checked in0 in1 out0 out1 r (inl ran) = inl (ran.0, examined_plan ran.0 ran.1.0 ran.1.1 ran.1.2, ran.2)
+    files_checked in0 in1 out0 out1 r (inr unopened) = inr (tables_next r unopened.0, unopened.1, unopened.2)
 
--- The counts of faults of the shelf if reading stops.
-pub reading_counts : (n m : ℕ) (stop : Stop) → StageShelfCounts {A = Vec GrammarFile Global} n m (Err stop) → ModeShelfCounts {T = GrammarFindings} n m (Err stop)
-reading_counts n m (Halted cause) counts = counts
-reading_counts n m (ShelfFailed name) counts = counts
-reading_counts n m OutOfMemory counts = counts
-reading_counts n m InputFailed counts = absurd counts
-reading_counts n m WriteFailed counts = absurd counts
+-- A run on the files of a list is a run on those of an equal list, with the same files on the shelf.
+pub runs_same : (order : Order) (old new : Option Files) (given named : List GrammarFile) (in0 in1 out0 out1 : Option Text) (r : Result (Unit {0}) Stop) → new ≡ old → given ≡ named → OpenedAndRan (IsPlanOfFiles new order given) (AreTablesNext order given) in0 in1 out0 out1 r → OpenedAndRan (IsPlanOfFiles old order named) (AreTablesNext order named) in0 in1 out0 out1 r
+runs_same order old new given named in0 in1 out0 out1 r kept same ran =
+    subst (λ (files : Option Files). OpenedAndRan (IsPlanOfFiles files order named) (AreTablesNext order named) in0 in1 out0 out1 r) kept
+    (subst (λ (gs : List GrammarFile). OpenedAndRan (IsPlanOfFiles new order gs) (AreTablesNext order gs) in0 in1 out0 out1 r) same ran)

@@ -1,12 +1,12 @@
 -- The text of lines grows by one line.
-use Rattle.std.proofs.Common.{◌≡◌, ℕ, ◌+◌, ◌<◌, List, [], ◌∷◌, ◌++◌, length, get_or, take, map, flat_map, ap, ◌∙◌, refl, sym}
+use Rattle.std.proofs.Common.{◌≡◌, ℕ, ◌+◌, ◌<◌, List, [], ◌∷◌, ◌++◌, length, get_or, take, ap, ◌∙◌, refl, sym}
 use Rattle.std.proofs.lemmas.Grind.{flat_map-append}
 use Rattle.std.proofs.lemmas.List.{append-nil}
 use Rattle.mh_grammar.specs.Text.{Text}
 use Rattle.mh_grammar.proofs.Lists.{map_step}
 use Rattle.mh_lint_findings.specs.declared.findings.Finding.{Finding}
 use Rattle.mh_lint_findings.specs.declared.findings.GrammarFile.{GrammarFile}
-use Rattle.mh_lint_findings.specs.Lines.{Line, line_of, line_text, lines_of, lines_text}
+use Rattle.mh_lint_findings.specs.Lines.{line_of, line_text, lines_of, lines_text}
 
 -- The text of the first i + 1 lines is that of the first i lines, and then the line of the next finding.
 pub lines_more : (files : List GrammarFile) (xs : List Finding) (i : ℕ) (x : Finding) (old new : Text) → i < length xs → x ≡ get_or xs i x → old ≡ lines_text files (lines_of (take i xs)) → new ≡ old ++ line_text files (line_of x) → new ≡ lines_text files (lines_of (take (i + 1) xs))

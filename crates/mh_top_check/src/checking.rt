@@ -15,7 +15,7 @@ ghost use Rattle.mh_opts.specs.Orders.{IsWithinLimits};
 ghost use Rattle.mh_opts.specs.declared.jobs.Job.TheVariants.{Check};
 ghost use Rattle.mh_rules.specs.Limits.{max_tokens};
 ghost use Rattle.mh_top_check.specs.Examination.{IsBareLine, IsNextOfCheck, IsPlanOfCheck, built_of};
-ghost use Rattle.mh_top_check.specs.code.Findings.{AllowsTable, ExaminesAutomaton, ExaminesFiles, FindsIn, GivesFinding, IsAcceptedBy};
+ghost use Rattle.mh_top_check.specs.code.Findings.{AllowsTable, AreTablesNext, ExaminesAutomaton, GivesFinding, IsAcceptedBy, IsPlanOfFiles};
 ghost use Rattle.mh_top_drive.specs.code.ModeCalls.{InputAndOutCounts, ModeShelfCounts};
 ghost use Rattle.mh_top_drive.specs.declared.stop.Stop.TheVariants.{Halted};
 ghost use Rattle.mh_top_plans.specs.code.Modes.{OpenedAndRan};
@@ -25,7 +25,7 @@ ghost use Rattle.mh_top_types.specs.code.Prepared.{IsConsistent};
 use crate::writing::write_findings;
 use mh_grammar::{Memory, Sequence, from_bytes};
 use mh_lint::{
-    AcceptedFiles, BuiltGrammar, Examined, Finding, GrammarFile, Position, examine, finding_at,
+    AcceptedFiles, BuiltGrammar, Examined, Finding, FindingText, GrammarFile, Position, examine,
     warnings,
 };
 use mh_opts::Order;
@@ -56,39 +56,39 @@ impl FileFormat<GrammarFile> for ExaminedFiles {
 
 /// What was found in the grammar files.
 #[derive(Drop)]
-struct Found {
+struct Found<'a> {
     /// Whether the findings are faults; otherwise they are warnings.
     are_faults: bool,
-    findings: Vec<Finding>,
+    findings: Vec<Finding<'a>>,
 }
 
 /// The mode of `--check`, as a writer of the lines on the grammar files.
 #[derive(Drop)]
-struct GrammarFindings {
-    files: Vec<GrammarFile>,
-    found: Found,
+struct GrammarFindings<'a> {
+    files: &'a [GrammarFile],
+    found: Found<'a>,
     strict: bool,
 }
 
 /// Returns true if the work is refused: if the findings are faults, and under `--strict` if there is a finding.
-fn is_refused(found: &Found, strict: bool) -> bool
+fn is_refused(found: &Found<'_>, strict: bool) -> bool
     ensures { result ≡ (found.now.are_faults || (strict && has_some found.now.findings.items)) }
 {
     found.are_faults || (strict && !found.findings.is_empty())
 }
 
-impl Writer for GrammarFindings {
+impl<'a> Writer for GrammarFindings<'a> {
     ghost use Rattle.mh_lint_findings.specs.Lines.{lines_of};
     ghost use Rattle.mh_top_check.specs.code.Findings.{AreReportable};
     ghost use Rattle.mh_top_plans.specs.Plan.{Findings};
 
-    ghost is_ready = { λ s. AreReportable s.files.items s.found.findings.items };
+    ghost is_ready = { λ s. AreReportable s.files.now s.found.findings.items };
 
-    ghost end = { λ s. Findings s.files.items s.strict s.found.are_faults (lines_of s.found.findings.items) };
+    ghost end = { λ s. Findings s.files.now s.strict s.found.are_faults (lines_of s.found.findings.items) };
 
     fn write<O: Sink>(self, alloc: Global, out: &mut O) -> Result<(), Stop> {
         let findings = self.found.findings.as_slice();
-        match write_findings(alloc, self.files.as_slice(), findings, out) {
+        match write_findings(alloc, self.files, findings, out) {
             Ok(()) if is_refused(&self.found, self.strict) => Err(refused(alloc, b"", b"", b"")),
             Ok(()) => Ok(()),
             Err(stop) => Err(stop),
@@ -111,14 +111,17 @@ fn bare_line(line: &[u8]) -> &[u8]
 }
 
 /// The finding for a refusal with this line.
-fn refusal_finding(alloc: Global, line: &[u8]) -> Result<Finding, Memory>
+fn refusal_finding<'a>(alloc: Global, line: &[u8]) -> Result<Finding<'a>, Memory>
     ensures { IfOk result (λ found. (found.at ≡ OfAutomaton) × IsBareLine line.now found.text) }
 {
-    finding_at(alloc, Position::OfAutomaton, bare_line(line))
+    Ok(Finding {
+        at: Position::OfAutomaton,
+        text: FindingText::from_vec(bare_line(line).to_vec(alloc)?),
+    })
 }
 
 /// The finding for a cause that refuses the grammar's automaton; any other cause stops the work.
-fn finding_of_cause(alloc: Global, cause: Cause) -> Result<Finding, Stop>
+fn finding_of_cause<'a>(alloc: Global, cause: Cause) -> Result<Finding<'a>, Stop>
     ensures { GivesFinding (Halted cause) result }
 {
     match cause {
@@ -128,7 +131,7 @@ fn finding_of_cause(alloc: Global, cause: Cause) -> Result<Finding, Stop>
 }
 
 /// The finding for a stop that refuses the grammar's automaton; any other stop as it is.
-fn finding_of(alloc: Global, stop: Stop) -> Result<Finding, Stop>
+fn finding_of<'a>(alloc: Global, stop: Stop) -> Result<Finding<'a>, Stop>
     ensures { GivesFinding stop result }
 {
     match stop {
@@ -138,8 +141,8 @@ fn finding_of(alloc: Global, stop: Stop) -> Result<Finding, Stop>
 }
 
 /// What is found if the files have one fault.
-fn one_fault(alloc: Global, finding: Finding) -> Result<Found, Memory>
-    ensures { IfOk result (λ found. (found.are_faults ≡ true) × (found.findings.items ≡ finding ∷ [])) }
+fn one_fault<'a>(alloc: Global, finding: Finding<'a>) -> Result<Found<'a>, Memory>
+    ensures { IfOk result (λ found. (found.are_faults ≡ true) × (found.findings.items ≡ finding.entry ∷ [])) }
 {
     let mut findings = Vec::new(alloc);
     findings.push(finding)?;
@@ -150,12 +153,12 @@ fn one_fault(alloc: Global, finding: Finding) -> Result<Found, Memory>
 }
 
 /// The warnings on a prepared grammar. `named` has the names and bytes of the files, and `files` what was read in them.
-fn warnings_of<const W: usize>(
+fn warnings_of<'a, const W: usize>(
     alloc: Global,
     prepared: &Prepared<W>,
     named: &[GrammarFile],
-    files: &AcceptedFiles,
-) -> Result<Vec<Finding>, Memory>
+    files: &'a AcceptedFiles,
+) -> Result<Vec<Finding<'a>>, Memory>
     requires fits { FitsSets W prepared.now.grammar }
     requires consistent { IsConsistent prepared.now }
     requires ready { AreAcceptedReady files.now }
@@ -174,13 +177,13 @@ fn warnings_of<const W: usize>(
 
 /// What is found in a grammar whose files have no fault: why the grammar has no table, or the warnings. `drop` frees
 /// the table at once, because freeing one field after the other at the end of the scope takes long to prove.
-fn examine_automaton<F: Shelf, const W: usize>(
+fn examine_automaton<'a, F: Shelf, const W: usize>(
     alloc: Global,
     front: OrderAndGrammar,
     shelf: &mut F,
     named: &[GrammarFile],
-    files: &AcceptedFiles,
-) -> Result<Found, Stop>
+    files: &'a AcceptedFiles,
+) -> Result<Found<'a>, Stop>
     requires fits { FitsSets W front.grammar }
     requires front { AllowsTable front }
     requires tables { MayAskForTables front.order (F.MayAsk shelf.old) }
@@ -207,13 +210,13 @@ fn examine_automaton<F: Shelf, const W: usize>(
 }
 
 /// What is found in a grammar, with the least width of lookahead sets that holds the tokens.
-fn examine_at_width<F: Shelf>(
+fn examine_at_width<'a, F: Shelf>(
     alloc: Global,
     front: OrderAndGrammar,
     shelf: &mut F,
     named: &[GrammarFile],
-    files: &AcceptedFiles,
-) -> Result<Found, Stop>
+    files: &'a AcceptedFiles,
+) -> Result<Found<'a>, Stop>
     requires tokens { length front.grammar.tokens ≤ max_tokens }
     requires range { IsInRange (plain_of front.grammar) }
     requires front { AllowsTable front }
@@ -226,61 +229,59 @@ fn examine_at_width<F: Shelf>(
     with_width!(front.grammar.tokens.len(); examine_automaton; F; alloc, front, shelf, named, files)
 }
 
-/// What is found in grammar files.
-fn found_in<F: Shelf>(
+/// Examines grammar files that were read, and writes the lines on them. `drop` frees the accepted files at once, because
+/// freeing one field after the other at the end of the scope takes long to prove.
+fn check_files<F: Shelf, I: Source, O: Sink>(
     alloc: Global,
     order: Order,
     shelf: &mut F,
     named: &[GrammarFile],
-) -> Result<Found, Stop>
+    input: &mut I,
+    out: &mut O,
+) -> Result<(), Stop>
     requires short { AreShort named.now }
     requires limits { IsWithinLimits order.job }
     requires tables { MayAskForTables order (F.MayAsk shelf.old) }
-    ensures found { FindsIn (F.files shelf.old) order named.now result }
-    ensures counts { ModeShelfCounts (F.faults shelf.old) (F.faults shelf.new) result }
+    requires may_read { I.MayRead input.old }
+    requires may_write { O.MayWrite out.old }
+    ensures ran { OpenedAndRan (IsPlanOfFiles (F.files shelf.old) order named.now) (AreTablesNext order named.now)
+        (I.left input.old) (I.left input.new) (O.written out.old) (O.written out.new) result }
+    ensures counts { InputAndOutCounts (I.faults input.old) (I.faults input.new)
+        (O.faults out.old) (O.faults out.new) result }
+    ensures read { ModeShelfCounts (F.faults shelf.old) (F.faults shelf.new) result }
     ensures kept { F.files shelf.new ≡ F.files shelf.old }
 {
+    let strict = order.strict;
     match examine(alloc, named, order.stdlib)? {
         Examined::Faulty { findings } => {
             drop(order);
-            Ok(Found {
+            let found = Found {
                 are_faults: true,
                 findings,
-            })
+            };
+            let mode = GrammarFindings {
+                files: named,
+                found,
+                strict,
+            };
+            write_at_end(alloc, mode, input, out)
         }
         Examined::Accepted { files, grammar } => {
             let front = OrderAndGrammar { order, grammar };
-            let found = examine_at_width(alloc, front, shelf, named, &files);
+            let ran = match examine_at_width(alloc, front, shelf, named, &files) {
+                Ok(found) => {
+                    let mode = GrammarFindings {
+                        files: named,
+                        found,
+                        strict,
+                    };
+                    write_at_end(alloc, mode, input, out)
+                }
+                Err(stop) => Err(stop),
+            };
             drop(files);
-            found
+            ran
         }
-    }
-}
-
-/// Reads the grammar files of the order and examines them.
-fn examined<F: Shelf>(alloc: Global, order: Order, shelf: &mut F) -> Result<GrammarFindings, Stop>
-    requires limits { IsWithinLimits order.job }
-    requires asked { All (F.MayAsk shelf.old) order.grammars }
-    requires tables { MayAskForTables order (F.MayAsk shelf.old) }
-    ensures examined { ExaminesFiles (F.files shelf.old) order result }
-    ensures counts { ModeShelfCounts (F.faults shelf.old) (F.faults shelf.new) result }
-    ensures kept { F.files shelf.new ≡ F.files shelf.old }
-{
-    let files = match read_files(alloc, shelf, &ExaminedFiles, order.grammars.as_slice()) {
-        Ok(files) => files,
-        Err(stop) => {
-            drop(order);
-            return Err(stop);
-        }
-    };
-    let strict = order.strict;
-    match found_in(alloc, order, shelf, files.as_slice()) {
-        Ok(found) => Ok(GrammarFindings {
-            files,
-            found,
-            strict,
-        }),
-        Err(stop) => Err(stop),
     }
 }
 
@@ -306,8 +307,12 @@ pub fn check_grammar<F: Shelf, I: Source, O: Sink>(
     ensures read { ModeShelfCounts (F.faults shelf.old) (F.faults shelf.new) result }
     ensures kept { F.files shelf.new ≡ F.files shelf.old }
 {
-    match examined(alloc, order, shelf) {
-        Ok(mode) => write_at_end(alloc, mode, input, out),
-        Err(stop) => Err(stop),
-    }
+    let files = match read_files(alloc, shelf, &ExaminedFiles, order.grammars.as_slice()) {
+        Ok(files) => files,
+        Err(stop) => {
+            drop(order);
+            return Err(stop);
+        }
+    };
+    check_files(alloc, order, shelf, files.as_slice(), input, out)
 }

@@ -38,7 +38,7 @@ fn write_if_long<O: Sink>(text: &mut Vec<u8>, out: &mut O) -> Result<(), Stop>
 pub(crate) fn write_findings<O: Sink>(
     alloc: Global,
     files: &[GrammarFile],
-    findings: &[Finding],
+    findings: &[Finding<'_>],
     out: &mut O,
 ) -> Result<(), Stop>
     requires short { AreShort files.now }

@@ -1,12 +1,12 @@
 -- What is found in grammar files, as the code keeps it.
-use Rattle.std.specs.Prelude.{◌≡◌, ◌<◌, length, List, Option, Some, Result, Ok, Err, ⊤}
+use Rattle.std.specs.Prelude.{◌≡◌, ◌<◌, length, Bool, List, Option, Some, Result, Ok, Err, ⊤}
 use Rattle.std.specs.List.{All}
 use Rattle.mh_grammar.specs.Costs.{HaveCosts}
 use Rattle.mh_grammar.specs.Text.{Text}
 use Rattle.mh_lint_faults.specs.Stages.{AreAccepted, Stages}
 use Rattle.mh_lint_faults.specs.code.Examining.{AreAcceptedReady, AreStages}
 use Rattle.mh_lint_faults.specs.declared.front.AcceptedFiles.{AcceptedFiles}
-use Rattle.mh_lint_findings.specs.Lines.{lines_of}
+use Rattle.mh_lint_findings.specs.Lines.{Line, lines_of}
 use Rattle.mh_lint_findings.specs.Positions.{IsPositionWithin}
 use Rattle.mh_lint_findings.specs.code.Cursors.{AreShort}
 use Rattle.mh_lint_findings.specs.declared.findings.Finding.{Finding}
@@ -15,13 +15,13 @@ use Rattle.mh_lint_findings.specs.declared.findings.Position.TheVariants.{OfAuto
 use Rattle.mh_opts.specs.Orders.{IsWithinLimits}
 use Rattle.mh_opts.specs.declared.order.Order.{Order}
 use Rattle.mh_outside.specs.Shelf.{Files}
-use Rattle.mh_top_check.specs.Examination.{AreExamined, IsBareLine, IsExamination, IsNextOfCheck}
+use Rattle.mh_top_check.specs.Examination.{IsBareLine, IsExamination}
 use Rattle.mh_top_check.specs.declared.checking.Found.{Found}
-use Rattle.mh_top_check.specs.declared.checking.GrammarFindings.{GrammarFindings}
-use Rattle.mh_top_drive.specs.StageResults.{Go, Halt}
+use Rattle.mh_top_drive.specs.StageResults.{StageResult, Go, Halt}
 use Rattle.mh_top_drive.specs.declared.stop.Cause.TheVariants.{Refused}
 use Rattle.mh_top_drive.specs.declared.stop.Stop.{Stop}
 use Rattle.mh_top_drive.specs.declared.stop.Stop.TheVariants.{Halted, ShelfFailed, OutOfMemory}
+use Rattle.mh_top_plans.specs.Plan.{Ends, Findings, Plan, plan_of_stage}
 use Rattle.mh_top_types.specs.declared.front.OrderAndGrammar.{OrderAndGrammar}
 use Rattle.mh_validate_valid.specs.Valid.{AreTokenNamesDistinct}
 
@@ -69,10 +69,10 @@ FindsIn files order named (Err _) = ⊥
 abbrev pub ExaminesAutomaton : Option Files → OrderAndGrammar → List GrammarFile → Result Found Stop → Type 0
 ExaminesAutomaton files front named result = FindsIn files front.order named result
 
--- The files of the order are read, and what is found in them is that of their examination.
-abbrev pub ExaminesFiles : Option Files → Order → Result GrammarFindings Stop → Type 0
-ExaminesFiles files order (Ok mode) = AreExamined files order (Go (mode.files.items, (mode.found.are_faults, lines_of mode.found.findings.items))) × (mode.strict ≡ order.strict) × AreReportable mode.files.items mode.found.findings.items
-ExaminesFiles files order (Err (Halted cause)) = AreExamined files order (Halt cause)
-ExaminesFiles files order (Err (ShelfFailed name)) = IsNextOfCheck order files name
-ExaminesFiles files order (Err OutOfMemory) = ⊤
-ExaminesFiles files order (Err _) = ⊥
+-- The plan that writes the lines on these files, or stops the work.
+abbrev pub plan_of_files : Order → List GrammarFile → StageResult (Bool × List Line) → Plan
+plan_of_files order named s = plan_of_stage (λ (x : Bool × List Line). Ends (Findings named order.strict x.0 x.1)) s
+
+-- The plan is that of the examination of these files.
+abbrev pub IsPlanOfFiles : Option Files → Order → List GrammarFile → Plan → Type 0
+IsPlanOfFiles files order named plan = (s : StageResult (Bool × List Line)) × IsExamination files order named s × (plan ≡ plan_of_files order named s)

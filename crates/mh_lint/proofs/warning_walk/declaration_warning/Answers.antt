@@ -1,6 +1,5 @@
-use Rattle.std.proofs.Common.{◌++◌, Option, Some, ap, refl, subst, sym, ◌∙◌}
+use Rattle.std.proofs.Common.{◌≡◌, ◌++◌, Option, Some, ap, refl, subst, sym, ◌∙◌}
 use Rattle.std.specs.Prelude.{codes}
-use Rattle.std.proofs.lemmas.Result.{IfOk-weaker}
 use Rattle.mh_grammar.specs.Text.{Text}
 use Rattle.mh_lint.specs.code.MentionUses.{IsUnusedDeclaration}
 use Rattle.mh_lint.proofs.IsUnusedDeclaration.{no_actual, unused_actual, used_actual}
@@ -14,6 +13,7 @@ returns-then-has_key c = used_actual c.args.joined.now c.args.declarations.now.k
 
 pub returns : goal.returns
 returns c =
-    IfOk-weaker c.warning.result _ _
-    (λ text e. subst (λ (o : Option Text). IsUnusedDeclaration c.args.joined.now c.args.declarations.now.keys c.args.before c.args.actual.rank c.args.actual.item o) (sym (e ∙ ap (λ (n : Text). Some (codes "reduction on errors without use: " ++ n)) c.as_slice.ensures)) (unused_actual c.args.joined.now c.args.declarations.now.keys c.args.before c.args.actual.rank c.args.actual.item c.in-Some.found (rw c.in-Some.is at c.in_ok-found.ensures) (λ has. (let bad = c.if-has_key.ensures.1 has in cc))))
-    c.warning.ensures
+    let words = codes "reduction on errors without use: " in
+    let is : c.from_vec.result ≡ words ++ c.in-Some.found.name = c.from_vec.ensures ∙ c.in_ok-extend_from_slice-2.ensures.items ∙ (λ i. (c.in_ok-extend_from_slice.ensures.items ∙ ap (λ (xs : Text). xs ++ words) c.new-text.ensures.items) i ++ c.as_slice.ensures i) in
+    subst (λ (o : Option Text). IsUnusedDeclaration c.args.joined.now c.args.declarations.now.keys c.args.before c.args.actual.rank c.args.actual.item o) (sym (ap Some is))
+    (unused_actual c.args.joined.now c.args.declarations.now.keys c.args.before c.args.actual.rank c.args.actual.item c.in-Some.found (rw c.in-Some.is at c.in_ok-found.ensures) (λ has. (let bad = c.if-has_key.ensures.1 has in cc)))
