@@ -46,10 +46,10 @@ impl FileFormat<GrammarFile> for ExaminedFiles {
 
     ghost Spells = { λ s. IsGrammarFile };
 
-    fn spell(&self, alloc: Global, name: &[u8], bytes: &[u8]) -> Result<GrammarFile, Stop> {
+    fn spell(&self, alloc: Global, name: &[u8], bytes: Vec<u8>) -> Result<GrammarFile, Stop> {
         Ok(GrammarFile {
             name: from_bytes(alloc, name)?,
-            bytes: Sequence::from_vec(bytes.to_vec(alloc)?),
+            bytes: Sequence::from_vec(bytes),
         })
     }
 }

@@ -22,10 +22,10 @@ pub trait FileFormat<T> {
     /// The relation between the name and the bytes of a file and its content, or the cause for which the work stops.
     ghost Spells: { Self → Text → Text → StageResult T → Type 0 };
 
-    /// The content of the named file, which has these bytes.
-    fn spell(&self, alloc: Global, name: &[u8], bytes: &[u8]) -> Result<T, Stop>
-        requires { length bytes.now < 2 ^ 31 }
-        ensures { StageGives (Spells self.now name.now bytes.now) result };
+    /// The content of the named file, which has these bytes. The content can keep the vector, which spares a copy.
+    fn spell(&self, alloc: Global, name: &[u8], bytes: Vec<u8>) -> Result<T, Stop>
+        requires { length bytes.items < 2 ^ 31 }
+        ensures { StageGives (Spells self.now name.now bytes.items) result };
 }
 
 /// The reason to stop the work for a missing file.
@@ -94,7 +94,7 @@ pub fn read_file<F: Shelf, T: Drop, S: FileFormat<T>>(
     ensures counts { StageShelfCounts (F.faults shelf.old) (F.faults shelf.new) result }
 {
     match load(alloc, shelf, name) {
-        Ok(bytes) => spelling.spell(alloc, name, &bytes),
+        Ok(bytes) => spelling.spell(alloc, name, bytes),
         Err(stop) => Err(stop),
     }
 }

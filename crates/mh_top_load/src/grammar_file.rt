@@ -49,7 +49,7 @@ impl FileFormat<Module> for GrammarFiles {
 
     ghost Spells = { λ s. IsModule };
 
-    fn spell(&self, alloc: Global, name: &[u8], bytes: &[u8]) -> Result<Module, Stop> {
-        module_in(alloc, name, bytes)
+    fn spell(&self, alloc: Global, name: &[u8], bytes: Vec<u8>) -> Result<Module, Stop> {
+        module_in(alloc, name, bytes.as_slice())
     }
 }

@@ -103,8 +103,8 @@ impl FileFormat<Compiled> for MessagesFiles<'_> {
 
     ghost Spells = { λ s. AreMessages s.grammar.now s.table.now };
 
-    fn spell(&self, alloc: Global, name: &[u8], bytes: &[u8]) -> Result<Compiled, Stop> {
-        messages_in(alloc, self, name, bytes)
+    fn spell(&self, alloc: Global, name: &[u8], bytes: Vec<u8>) -> Result<Compiled, Stop> {
+        messages_in(alloc, self, name, bytes.as_slice())
     }
 }
 
@@ -113,9 +113,9 @@ impl FileFormat<MsgFile> for MessagesFiles<'_> {
 
     ghost Spells = { λ s. IsMessagesFile s.grammar.now };
 
-    fn spell(&self, alloc: Global, name: &[u8], bytes: &[u8]) -> Result<MsgFile, Stop> {
+    fn spell(&self, alloc: Global, name: &[u8], bytes: Vec<u8>) -> Result<MsgFile, Stop> {
         self.table.table().facts();
-        spelled_in(alloc, self.grammar, name, bytes)
+        spelled_in(alloc, self.grammar, name, bytes.as_slice())
     }
 }
 
@@ -140,8 +140,8 @@ impl FileFormat<LooseFile> for LooseFiles {
 
     ghost Spells = { λ s. IsLooseFile };
 
-    fn spell(&self, alloc: Global, name: &[u8], bytes: &[u8]) -> Result<LooseFile, Stop> {
-        loose_in(alloc, name, bytes)
+    fn spell(&self, alloc: Global, name: &[u8], bytes: Vec<u8>) -> Result<LooseFile, Stop> {
+        loose_in(alloc, name, bytes.as_slice())
     }
 }
 
@@ -154,8 +154,8 @@ impl FileFormat<LooseBlocks> for ExaminedFiles {
 
     ghost Spells = { λ s. AreLooseBlocks };
 
-    fn spell(&self, alloc: Global, _name: &[u8], bytes: &[u8]) -> Result<LooseBlocks, Stop> {
-        match read_blocks(alloc, bytes) {
+    fn spell(&self, alloc: Global, _name: &[u8], bytes: Vec<u8>) -> Result<LooseBlocks, Stop> {
+        match read_blocks(alloc, bytes.as_slice()) {
             Ok(blocks) => Ok(blocks),
             Err(Memory) => Err(Stop::OutOfMemory),
         }

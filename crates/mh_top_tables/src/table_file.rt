@@ -49,7 +49,7 @@ impl FileFormat<RawTable> for TableFiles {
 
     ghost Spells = { λ s. IsTableFile };
 
-    fn spell(&self, alloc: Global, name: &[u8], bytes: &[u8]) -> Result<RawTable, Stop> {
-        raw_in(alloc, name, bytes)
+    fn spell(&self, alloc: Global, name: &[u8], bytes: Vec<u8>) -> Result<RawTable, Stop> {
+        raw_in(alloc, name, bytes.as_slice())
     }
 }

@@ -9,7 +9,7 @@ returns-in-Ok-clause-item g c =
     let files = g.F.Shelf.files c.args.shelf.now in
     let name : Text = c.args.name.now in
     then_on (IsLoaded files name) (g.S.FileFormat.Spells c.args.spelling.now name) (λ other. other ≡ name) c.in-Ok.bytes.items c.spell.result c.in-Ok.ensures.bytes
-    (no_names (g.S.FileFormat.Spells c.args.spelling.now name c.in-Ok.bytes.items) (λ other. other ≡ name) c.spell.result (rw c.deref.ensures.value at c.spell.ensures))
+    (no_names (g.S.FileFormat.Spells c.args.spelling.now name c.in-Ok.bytes.items) (λ other. other ≡ name) c.spell.result c.spell.ensures)
 
 pub returns-in-Err-clause-item : goal.returns-in-Err-clause-item
 returns-in-Err-clause-item g c =
