@@ -3,7 +3,7 @@
 #![tactic(auto)]
 
 ghost use Rattle.std.specs.Process.{exit_status};
-ghost use Rattle.mh_top_warnings.specs.code.LastLine.{WritesLastLine};
+ghost use Rattle.mh_top_prepare.specs.code.LastLine.{WritesLastLine};
 
 use mh_outside::{FileShelf, Sink, StdSink, StdSource, write_whole};
 use mh_top::{run, status};

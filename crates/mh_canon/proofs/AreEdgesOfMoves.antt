@@ -10,9 +10,9 @@ use Rattle.mh_grammar.proofs.Lists.{all_at, contains_map}
 use Rattle.mh_items_kernels.specs.KernelTypes.{Items, Kernel}
 use Rattle.mh_items_kernels.specs.code.KernelMoves.{IsAfterDot, IsMove}
 use Rattle.mh_items.specs.code.AllMoves.{Move, AreMoves, symbols_of}
-use Rattle.mh_canon_states.specs.Canonical.{CanonicalExceeds}
-use Rattle.mh_canon_states.specs.code.FoundStates.{IsStateClosure, AreCanonicalStates, AreStateEdges}
-use Rattle.mh_canon_states.proofs.AreCanonicalStates.{AreStateEdges-none, AreStateEdges-push, CanonicalExceeds-placed}
+use Rattle.mh_canon.specs.Canonical.{CanonicalExceeds}
+use Rattle.mh_canon.specs.code.FoundStates.{IsStateClosure, AreCanonicalStates, AreStateEdges}
+use Rattle.mh_canon.proofs.AreCanonicalStates.{AreStateEdges-none, AreStateEdges-push, CanonicalExceeds-placed}
 
 pub record PlacedSoFar (g : PlainGrammar) (moves front : List Move) (old new : List Kernel) (row : List Edge) : Type 0 where
   pub edges : (closed : Items) → AreMoves g closed moves → AreStateEdges g closed (symbols_of front) old new row

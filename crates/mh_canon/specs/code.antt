@@ -1,1 +1,2 @@
+pub mod FoundStates
 pub mod EdgesOfMoves

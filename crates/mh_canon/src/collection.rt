@@ -3,15 +3,15 @@
 ghost use Rattle.std.specs.Prelude.{◌≡◌, ◌<◌, ◌≤◌, ℕ, [], length, Err, IfOk, OnOk};
 ghost use Rattle.mh_grammar.specs.Plain.{plain_of};
 ghost use Rattle.mh_items_kernels.specs.Automaton.{IsAutomaton};
-ghost use Rattle.mh_canon_states.specs.Canonical.{IsCanonical, CanonicalExceeds};
+ghost use Rattle.mh_canon.specs.Canonical.{IsCanonical, CanonicalExceeds};
 ghost use Rattle.mh_items_kernels.specs.KernelTypes.{Kernel as KernelOf};
 ghost use Rattle.mh_items_kernels.specs.Collection.{AreStarts};
 ghost use Rattle.mh_items.specs.Fitting.{FitsSets};
 ghost use Rattle.mh_items.specs.code.AllMoves.{AreMoves};
 ghost use Rattle.mh_items.specs.code.MoveBuilder.{IsMoveBuilder};
-ghost use Rattle.mh_canon_states.specs.code.FoundStates.{IsStateClosure, AreCanonicalStates};
+ghost use Rattle.mh_canon.specs.code.FoundStates.{IsStateClosure, AreCanonicalStates};
 ghost use Rattle.mh_canon.specs.code.EdgesOfMoves.{AreEdgesOfMoves, HasEdges};
-ghost use Rattle.mh_canon_states.specs.Limits.{max_states};
+ghost use Rattle.mh_canon.specs.Limits.{max_states};
 
 use crate::kernel_set::KernelIndex;
 use mh_grammar::{Edge, Grammar, Sequence};

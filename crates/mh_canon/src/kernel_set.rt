@@ -1,10 +1,10 @@
 //! The kernels of a collection in an index by hash.
 ghost use Rattle.std.specs.Prelude.{◌≡◌, ◌<◌, ◌≤◌, ℕ, [], Err, IfOk};
 ghost use Rattle.mh_grammar.specs.Placed.{Placed};
-ghost use Rattle.mh_canon_states.specs.Limits.{max_states};
+ghost use Rattle.mh_canon.specs.Limits.{max_states};
 
+use crate::limits::number;
 use indexmap::IndexSet;
-use mh_canon_states::number;
 use mh_items_kernels::{Kernel, StatesFault};
 use std::alloc::{AllocError, AllocFailed, Global};
 

@@ -1,7 +1,7 @@
 //! Uniqueness of the canonical automaton.
 ghost use Rattle.std.specs.Prelude.{◌≡◌};
 ghost use Rattle.mh_grammar.specs.Plain.{plain_of};
-ghost use Rattle.mh_canon_states.specs.Canonical.{IsCanonical};
+ghost use Rattle.mh_canon.specs.Canonical.{IsCanonical};
 
 use mh_grammar::Grammar;
 use mh_items_kernels::Automaton;

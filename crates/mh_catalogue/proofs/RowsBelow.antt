@@ -14,10 +14,10 @@ use Rattle.mh_facts.specs.Costs.{cap}
 use Rattle.mh_facts.proofs.Complete.{failing_is_refused}
 use Rattle.mh_facts.proofs.Sound.{reaches_known}
 use Rattle.mh_reach.specs.Reaching.{LeastCost}
-use Rattle.mh_catalogue_rows.specs.declared.rows.CatalogueFault.{CatalogueFault}
-use Rattle.mh_catalogue_rows.specs.declared.rows.CatalogueFault.TheVariants.{TooLong}
-use Rattle.mh_catalogue_rows.specs.declared.rows.Row.{Row}
-use Rattle.mh_catalogue_rows.specs.Rows.{row_of, rows_of, IsCatalogueResult}
+use Rattle.mh_catalogue.specs.declared.rows.CatalogueFault.{CatalogueFault}
+use Rattle.mh_catalogue.specs.declared.rows.CatalogueFault.TheVariants.{TooLong}
+use Rattle.mh_catalogue.specs.declared.rows.Row.{Row}
+use Rattle.mh_catalogue.specs.Rows.{row_of, rows_of, IsCatalogueResult}
 use Rattle.mh_catalogue.specs.code.RowsBelow.{RowsBelow}
 
 pub rows_push : (rows : List Row) (r : Row) → rows_of (rows ++ r ∷ []) ≡ rows_of rows ++ row_of r ∷ []

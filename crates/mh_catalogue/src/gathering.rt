@@ -2,10 +2,10 @@
 ghost use Rattle.std.specs.Prelude.{◌≡◌, ◌<◌, ◌+◌, ℕ, Err, OnOk, length};
 ghost use Rattle.mh_tables_core.specs.Facts.{Facts};
 ghost use Rattle.mh_tables_core.specs.Failing.{TooLongAt};
-ghost use Rattle.mh_catalogue_rows.specs.Rows.{rows_of, IsCatalogueResult};
+ghost use Rattle.mh_catalogue.specs.Rows.{rows_of, IsCatalogueResult};
 ghost use Rattle.mh_catalogue.specs.code.RowsBelow.{RowsBelow};
 
-use mh_catalogue_rows::{CatalogueFault, Row};
+use crate::rows::{CatalogueFault, Row};
 use mh_grammar::Memory;
 use mh_reach::Reach;
 use std::alloc::Global;

@@ -4,6 +4,7 @@
 
 mod gathering;
 mod making;
+mod rows;
 
 pub use making::catalogue;
-pub use mh_catalogue_rows::{CatalogueFault, Row};
+pub use rows::{CatalogueFault, Row};

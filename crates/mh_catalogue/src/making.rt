@@ -1,10 +1,10 @@
 //! The catalogue of a table.
 ghost use Rattle.std.specs.Prelude.{◌≡◌, ℕ, Err, IfOk};
 ghost use Rattle.mh_tables_core.specs.Failing.{Catalogue, TooLongAt};
-ghost use Rattle.mh_catalogue_rows.specs.Rows.{rows_of, AreShort};
+ghost use Rattle.mh_catalogue.specs.Rows.{rows_of, AreShort};
 
 use crate::gathering::all_rows;
-use mh_catalogue_rows::{CatalogueFault, Row};
+use crate::rows::{CatalogueFault, Row};
 use mh_grammar::Memory;
 use mh_reach::reach;
 use mh_tables_core::Halting;

@@ -42,8 +42,8 @@ use Rattle.mh_rules.specs.Ready.{IsModuleReady, AreModulesReady, IsHeadBelow, Is
 use Rattle.mh_grammar.proofs.Lists.{get_cases, at_contains, recursion-from, nil_parts}
 use Rattle.mh_grammar.proofs.TextEquality.{equal_from_same, same_refl}
 use Rattle.mh_join_names.proofs.Lists.{position-push, is_some-position}
-use Rattle.mh_join_gather.proofs.InsertsRules.{none_from}
-use Rattle.mh_join_gather.proofs.HasMeanings.{find_position}
+use Rattle.mh_join_parts.proofs.InsertsRules.{none_from}
+use Rattle.mh_join_parts.proofs.HasMeanings.{find_position}
 use Rattle.mh_join.proofs.CostsInRange.{tokens_costed}
 use Rattle.mh_join_names.proofs.Resolved.{known_unless}
 use Rattle.mh_join.proofs.PreludeResolved.{and_left, and_right, owner_is}

@@ -6,9 +6,8 @@ ghost use Rattle.mh_join_names.specs.Prelude as spec;
 ghost use Rattle.mh_rules.specs.Ready.{AreModulesReady, IsJoinedReady};
 
 use crate::checking::check;
-use mh_join_gather::names_of;
 use mh_join_names::{JoinFault, SymbolTables};
-use mh_join_parts::{joined, prelude_rules};
+use mh_join_parts::{joined, names_of, prelude_rules};
 use mh_rules::{Joined, Module, Rule};
 use std::alloc::Global;
 

@@ -1,1 +1,4 @@
+pub mod AddsDefiningFile
+pub mod InsertsRules
+pub mod HasMeanings
 pub mod AddsAlternatives

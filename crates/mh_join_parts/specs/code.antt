@@ -1,1 +1,2 @@
+pub mod EmptyTables
 pub mod CanJoin

@@ -10,10 +10,10 @@ use Rattle.mh_tables_core.specs.Table.{TableData}
 use Rattle.mh_msgfile.specs.Sentences.{vocabulary_of, sentence_in}
 use Rattle.mh_msgfile.specs.declared.loose.LooseLine.{LooseLine}
 use Rattle.mh_msgfile.specs.declared.loose.LooseEntry.{LooseEntry}
-use Rattle.mh_rebase_form.specs.Decisions.{DecidedLine}
-use Rattle.mh_rebase_form.specs.RebasedText.{DecidedEntry, without_decisions, lines_in}
+use Rattle.mh_rebase.specs.Decisions.{DecidedLine}
+use Rattle.mh_rebase.specs.RebasedText.{DecidedEntry, without_decisions, lines_in}
 use Rattle.mh_rebase.specs.code.Parts.{AreKeptLines}
-use Rattle.mh_rebase_form.specs.ErrorLines.{AreLineDecisions, decision_text, decision_texts, entry_text, entries_text, is_unwritten, last_line, unwritten_text}
+use Rattle.mh_rebase.specs.ErrorLines.{AreLineDecisions, decision_text, decision_texts, entry_text, entries_text, is_unwritten, last_line, unwritten_text}
 use Rattle.mh_lint_messages.specs.code.Findings.{DecidesLine, DecidesLines, DecidesEntries}
 use Rattle.mh_lint_messages.specs.declared.lines.Findings.{Findings}
 

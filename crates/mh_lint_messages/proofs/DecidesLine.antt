@@ -19,13 +19,13 @@ use Rattle.mh_run.specs.declared.outcome.Verdict.{Verdict}
 use Rattle.mh_run.specs.declared.outcome.Verdict.TheVariants as verdicts
 use Rattle.mh_msgfile.specs.Sentences.{vocabulary_of, LineResult, IsSentence, sentence_in, ReadsSentence}
 use Rattle.mh_msgfile.specs.declared.sentence.SentenceFault.{SentenceFault}
-use Rattle.mh_rebase_form.specs.declared.reason.DropReason.{DropReason}
-use Rattle.mh_rebase_form.specs.declared.reason.DropReason.TheVariants as reasons
-use Rattle.mh_rebase_form.specs.Decisions.{Keep, Drop, DecidedLine, IsReason, SentenceIsNotRefused, SentenceIsRefusedEarly, StateIsShared}
+use Rattle.mh_rebase.specs.declared.reason.DropReason.{DropReason}
+use Rattle.mh_rebase.specs.declared.reason.DropReason.TheVariants as reasons
+use Rattle.mh_rebase.specs.Decisions.{Keep, Drop, DecidedLine, IsReason, SentenceIsNotRefused, SentenceIsRefusedEarly, StateIsShared}
 use Rattle.mh_rebase.specs.code.Reasons.{IsReasonOfVerdict, IsStateToKeep}
 use Rattle.mh_rebase.specs.code.Parts.{AreKeptLines}
 use Rattle.mh_rebase.proofs.AreKeptLines.{places_drop, places_keep}
-use Rattle.mh_rebase_form.specs.ErrorLines.{decision_text}
+use Rattle.mh_rebase.specs.ErrorLines.{decision_text}
 use Rattle.mh_lint_messages.specs.code.Findings.{DecidesLine, WritesFault}
 use Rattle.mh_lint_messages.specs.declared.lines.Findings.{Findings}
 

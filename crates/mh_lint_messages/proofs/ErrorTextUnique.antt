@@ -11,11 +11,11 @@ use Rattle.mh_msgfile.specs.Sentences.{vocabulary_of, IsSentence}
 use Rattle.mh_msgfile.specs.declared.loose.LooseLine.{LooseLine}
 use Rattle.mh_msgfile.specs.declared.loose.LooseEntry.{LooseEntry}
 use Rattle.mh_msgfile.specs.declared.blocks.LooseBlocks.{LooseBlocks}
-use Rattle.mh_rebase_form.specs.Decisions.{Decision, Keep, Drop, DecidedLine}
-use Rattle.mh_rebase_form.specs.RebasedText.{DecidedEntry, without_decisions, lines_in, is_new_row}
+use Rattle.mh_rebase.specs.Decisions.{Decision, Keep, Drop, DecidedLine}
+use Rattle.mh_rebase.specs.RebasedText.{DecidedEntry, without_decisions, lines_in, is_new_row}
 use Rattle.mh_rebase.proofs.AllAreKept.{reason_never, state_once}
 use Rattle.mh_rebase.proofs.RebasedUnique.{reason_once}
-use Rattle.mh_rebase_form.specs.ErrorLines.{IsLineDecision, AreLineDecisions, entries_text, missing_texts, unpaired_text, IsErrorText}
+use Rattle.mh_rebase.specs.ErrorLines.{IsLineDecision, AreLineDecisions, entries_text, missing_texts, unpaired_text, IsErrorText}
 
 module _ (g : Grammar) (t : TableData) where
   decision_once : (before : List DecidedLine) (text : Text) (d e : Decision) → IsLineDecision g t before text d → IsLineDecision g t before text e → d ≡ e

@@ -26,12 +26,12 @@ use Rattle.mh_msgfile.specs.declared.messages.MsgSentence.{MsgSentence}
 use Rattle.mh_msgfile.proofs.AreLines.{lines_once}
 use Rattle.mh_msgfile.proofs.PrintedAgain.{filter_on}
 use Rattle.mh_check.specs.Checks.{sentences_of}
-use Rattle.mh_rebase_form.specs.Decisions.{Decision, Keep, Drop, DecidedLine, is_keep, kept_line}
-use Rattle.mh_rebase_form.specs.RebasedText.{DecidedEntry, without_decisions, lines_in, is_new_row, reason_text}
+use Rattle.mh_rebase.specs.Decisions.{Decision, Keep, Drop, DecidedLine, is_keep, kept_line}
+use Rattle.mh_rebase.specs.RebasedText.{DecidedEntry, without_decisions, lines_in, is_new_row, reason_text}
 use Rattle.mh_rebase.proofs.AllAreKept.{IsKeep, reason_never, rising_before, state_once}
 use Rattle.mh_rebase.proofs.CompleteIsKept.{with_states, with_states_same, with_states_fail, with_states_apart, with_states_has}
 use Rattle.mh_rebase.proofs.StatesOfSentences.{FailingSentence, OtherState, HasSentenceIn, content, failing_of_decision, failing_of_lines, has_line, sentence_of_kept_line, sound_by, complete_by}
-use Rattle.mh_rebase_form.specs.ErrorLines.{IsLineDecision, AreLineDecisions, place, decision_text, decision_texts, entry_text, entries_text, is_unwritten, last_line, missing_text, missing_texts, unpaired_text, unwritten_text, IsErrorText}
+use Rattle.mh_rebase.specs.ErrorLines.{IsLineDecision, AreLineDecisions, place, decision_text, decision_texts, entry_text, entries_text, is_unwritten, last_line, missing_text, missing_texts, unpaired_text, unwritten_text, IsErrorText}
 use Rattle.mh_lint_messages.specs.Complete.{IsFaultless}
 use Rattle.mh_lint_messages.proofs.ErrorTextUnique.{decided_split}
 

@@ -8,16 +8,16 @@ use Rattle.mh_grammar.specs.declared.types.Grammar.{Grammar}
 use Rattle.mh_grammar.specs.Text.{Text}
 use Rattle.mh_tables_core.specs.Table.{TableData}
 use Rattle.mh_tables_core.specs.Failing.{CatalogueRow, Catalogue}
-use Rattle.mh_catalogue_rows.specs.Rows.{row_of, rows_of}
-use Rattle.mh_catalogue_rows.specs.declared.rows.Row.{Row}
+use Rattle.mh_catalogue.specs.Rows.{row_of, rows_of}
+use Rattle.mh_catalogue.specs.declared.rows.Row.{Row}
 use Rattle.mh_msgfile.proofs.PrintedAgain.{filter_on}
 use Rattle.mh_msgfile.specs.declared.blocks.LooseBlocks.{LooseBlocks}
-use Rattle.mh_rebase_form.specs.RebasedText.{lines_in, is_new_row}
+use Rattle.mh_rebase.specs.RebasedText.{lines_in, is_new_row}
 use Rattle.mh_rebase.specs.code.Reasons.{kept_line_in}
 use Rattle.mh_rebase.specs.code.Parts.{AreKeptLines}
 use Rattle.mh_rebase.specs.code.Rows.{has_no_kept_line}
 use Rattle.mh_rebase.proofs.WritesRows.{filter_append, filter_same}
-use Rattle.mh_rebase_form.specs.ErrorLines.{entries_text, missing_text, missing_texts, unpaired_text, IsErrorText}
+use Rattle.mh_rebase.specs.ErrorLines.{entries_text, missing_text, missing_texts, unpaired_text, IsErrorText}
 use Rattle.mh_lint_messages.specs.code.Findings.{DecidesEntries}
 use Rattle.mh_lint_messages.specs.declared.lines.Findings.{Findings}
 

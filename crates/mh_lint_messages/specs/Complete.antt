@@ -11,7 +11,7 @@ use Rattle.mh_msgfile.specs.declared.messages.Entry.{Entry}
 use Rattle.mh_msgfile.specs.declared.messages.MsgFile.{MsgFile}
 use Rattle.mh_msgfile.specs.declared.messages.MsgSentence.{MsgSentence}
 use Rattle.mh_check.specs.Checks.{FailsIn, Sound, sentences_of}
-use Rattle.mh_rebase_form.specs.ErrorLines.{is_unwritten}
+use Rattle.mh_rebase.specs.ErrorLines.{is_unwritten}
 
 -- The bytes spell a messages file that `compile` takes, with a sentence for each state in which some sentence fails. No
 -- message has the line that `--list-errors` writes in place of a message.

@@ -2,15 +2,14 @@
 ghost use Rattle.std.specs.Prelude.{◌≡◌, ◌++◌, ◌∷◌, [], ℕ, Err, IfOk, OnOk, filter};
 ghost use Rattle.mh_grammar.specs.Plain.{plain_of, IsInRange};
 ghost use Rattle.mh_tables_core.specs.Failing.{Catalogue, TooLongAt};
-ghost use Rattle.mh_catalogue_rows.specs.Rows.{row_of, rows_of};
+ghost use Rattle.mh_catalogue.specs.Rows.{row_of, rows_of};
 ghost use Rattle.mh_msgfile.specs.LooseFiles.{HasShortLines};
 ghost use Rattle.mh_rebase.specs.code.Rows.{has_no_kept_line};
 ghost use Rattle.mh_lint_messages.specs.code.Findings.{HasFoundNothing};
-ghost use Rattle.mh_rebase_form.specs.ErrorLines.{missing_text, missing_texts, unpaired_text, IsErrorText};
+ghost use Rattle.mh_rebase.specs.ErrorLines.{missing_text, missing_texts, unpaired_text, IsErrorText};
 
 use crate::lines::{Examined, Findings, add_entries, write_place};
-use mh_catalogue::catalogue;
-use mh_catalogue_rows::{CatalogueFault, Row};
+use mh_catalogue::{CatalogueFault, Row, catalogue};
 use mh_grammar::{Grammar, Memory};
 use mh_grammar_texts::write_between;
 use mh_msgfile::{Lexicon, LooseBlocks, write_sentence};

@@ -3,7 +3,7 @@
 ghost use Rattle.std.specs.Prelude.{◌≡◌, ◌↔◌, [], List, ℕ};
 ghost use Rattle.mh_msgfile.specs.FileBlocks.{HasBlocks};
 ghost use Rattle.mh_msgfile.specs.declared.blocks.LooseBlocks.{LooseBlocks};
-ghost use Rattle.mh_rebase_form.specs.ErrorLines.{IsErrorText};
+ghost use Rattle.mh_rebase.specs.ErrorLines.{IsErrorText};
 ghost use Rattle.mh_lint_messages.specs.Complete.{IsFaultless};
 
 use mh_grammar::Grammar;

@@ -4,8 +4,8 @@ ghost use Rattle.std.specs.Prelude.{◌≡◌, ◌++◌, ◌<◌, ◌^◌, [], �
 ghost use Rattle.std.specs.List.{All, AllByRecursion};
 ghost use Rattle.mh_grammar.specs.Plain.{plain_of};
 ghost use Rattle.mh_msgfile.specs.Sentences.{vocabulary_in, vocabulary_of, IsSentence, sentence_in};
-ghost use Rattle.mh_rebase_form.specs.Decisions.{Drop};
-ghost use Rattle.mh_rebase_form.specs.ErrorLines as spec;
+ghost use Rattle.mh_rebase.specs.Decisions.{Drop};
+ghost use Rattle.mh_rebase.specs.ErrorLines as spec;
 ghost use Rattle.mh_lint_messages.specs.code.Findings.{DecidesEntries, DecidesLine, DecidesLines, WritesFault};
 
 use bstr::ByteSlice;
@@ -40,7 +40,7 @@ pub(crate) struct Findings {
 }
 
 /// Appends the name of the file and the number of a line.
-#[tactic(auto, unfolding(mh_rebase_form::specs::ErrorLines::place))]
+#[tactic(auto, unfolding(mh_rebase::specs::ErrorLines::place))]
 pub(crate) fn write_place(text: &mut Vec<u8>, name: &[u8], line: u32) -> Result<(), Memory>
     ensures { OnOk result (text.new.items ≡ text.old.items ++ spec.place name.now line) }
 {
@@ -145,7 +145,7 @@ fn add_lines(
 }
 
 /// Whether a message still has the line that `--list-errors` writes in place of a message.
-#[tactic(auto, unfolding(mh_rebase_form::specs::ErrorLines::unwritten_line))]
+#[tactic(auto, unfolding(mh_rebase::specs::ErrorLines::unwritten_line))]
 fn is_unwritten(message: &[u8]) -> bool
     ensures { result ≡ spec.is_unwritten message.now }
 {

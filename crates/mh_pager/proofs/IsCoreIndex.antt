@@ -12,11 +12,11 @@ use Rattle.mh_grammar.specs.Plain.{PlainGrammar}
 use Rattle.mh_grammar.proofs.Lists.{get_left, get_last, get_cases, contains_here, contains_there, contains_cases, contains_none, contains_push, get_within, set_here, set_elsewhere, set_cases, rising-push}
 use Rattle.mh_items_kernels.specs.KernelTypes.{Kernel}
 use Rattle.mh_items_kernels.specs.Kernels.{Holds, IsItemList}
-use Rattle.mh_pager_steps.specs.WeakCompatibility.{HaveSameCore, IsJoin}
-use Rattle.mh_pager_steps.proofs.PlacesMove.{join_extends}
-use Rattle.mh_pager_steps.specs.code.Cores.{core_of, IsBefore, AreCandidates}
+use Rattle.mh_pager.specs.WeakCompatibility.{HaveSameCore, IsJoin}
+use Rattle.mh_pager.proofs.PlacesMove.{join_extends}
+use Rattle.mh_pager.specs.code.Cores.{core_of, IsBefore, AreCandidates}
 use Rattle.mh_pager.specs.code.CoreIndex.{GroupNumbers, AreGroupsOfCores, HasGroupNumber, IsCoreIndex}
-use Rattle.mh_pager_steps.proofs.HaveSameCore.{core_same}
+use Rattle.mh_pager.proofs.HaveSameCore.{core_same}
 
 -- A join has the core of its parts.
 pub joined_core : (g : PlainGrammar) (k move joined : Kernel) → IsItemList g k → IsItemList g joined → HaveSameCore (Holds k) (Holds move) → IsJoin (Holds k) (Holds move) (Holds joined) → core_of joined ≡ core_of k

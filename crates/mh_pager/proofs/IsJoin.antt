@@ -9,8 +9,8 @@ use Rattle.mh_grammar.specs.Edges.{IsRising}
 use Rattle.mh_grammar.proofs.Lists.{contains_at, at_contains, get_cases, recursion-from, recursion_at, recursion_contains, get_within}
 use Rattle.mh_items_kernels.specs.KernelTypes.{KernelItem, Kernel}
 use Rattle.mh_items_kernels.specs.Kernels.{Holds, IsItemList, IsKernelItem, IsItemBefore, HasLooksOfBoth}
-use Rattle.mh_pager_steps.specs.code.ItemLists.{HaveSameCoreList}
-use Rattle.mh_pager_steps.specs.WeakCompatibility.{IsJoin}
+use Rattle.mh_pager.specs.code.ItemLists.{HaveSameCoreList}
+use Rattle.mh_pager.specs.WeakCompatibility.{IsJoin}
 
 pub record JoinedSoFar (xs ys zs : List KernelItem) (n : ℕ) : Type 0 where
   pub len : length zs ≡ n

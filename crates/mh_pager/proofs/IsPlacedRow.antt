@@ -12,13 +12,13 @@ use Rattle.mh_items_kernels.specs.KernelTypes.{Items, Kernel}
 use Rattle.mh_items_kernels.specs.Kernels.{Holds, IsItemList}
 use Rattle.mh_items_kernels.specs.Collection.{HasItem, targets_of}
 use Rattle.mh_items_kernels.specs.code.KernelMoves.{IsAfterDot}
-use Rattle.mh_canon_states.proofs.ItemSets.{AreSameItems-sym, AreSameItems-trans, HasItem-same, Moved-same, Holds-core_item}
+use Rattle.mh_canon.proofs.ItemSets.{AreSameItems-sym, AreSameItems-trans, HasItem-same, Moved-same, Holds-core_item}
 use Rattle.mh_pager.specs.code.MergeStep.{IsPlacedRow, ExceedsAtPrefix}
-use Rattle.mh_pager_steps.specs.code.ReachedByMerging.{IsWellFormed}
-use Rattle.mh_pager_steps.specs.MergeSteps.{MergeState, PlacesMove, IsMoveOf, PlacesMoves, AreMoveSymbols, IsMergeStep, StepExceeds}
+use Rattle.mh_pager.specs.code.ReachedByMerging.{IsWellFormed}
+use Rattle.mh_pager.specs.MergeSteps.{MergeState, PlacesMove, IsMoveOf, PlacesMoves, AreMoveSymbols, IsMergeStep, StepExceeds}
 use Rattle.mh_pager.proofs.IsWellFormed.{all_put_push, all_put_well_formed}
 use Rattle.mh_items_kernels.proofs.SymbolAtDot.{drop_from-slice_get}
-use Rattle.mh_canon_states.proofs.IsEdgeRow.{after_dot_of_moved}
+use Rattle.mh_canon.proofs.IsEdgeRow.{after_dot_of_moved}
 
 -- A move of a closure is a move of the kernel.
 module _ (g : PlainGrammar) (closed : Items) (move : Kernel) (X : Symbol) (valid : IsItemList g move) (same : AreSameItems (Holds move) (Moved g (Holds closed) X)) (some : HasItem (Moved g (Holds closed) X)) where

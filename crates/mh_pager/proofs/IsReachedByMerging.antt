@@ -10,13 +10,13 @@ use Rattle.mh_grammar.specs.Plain.{PlainGrammar, IsInRange}
 use Rattle.mh_grammar.proofs.Lists.{get_left, get_last, at_contains}
 use Rattle.mh_items_kernels.specs.KernelTypes.{Kernel}
 use Rattle.mh_items_kernels.specs.Automaton.{start_kernel}
-use Rattle.mh_canon_states.specs.Limits.{max_states}
-use Rattle.mh_pager_steps.specs.code.ReachedByMerging.{IsWellFormed, IsReachedByMerging, IsInitialUpTo}
-use Rattle.mh_pager_steps.specs.MergeSteps.{MergeState, IsMergeStep, MergeSteps, none, more, IsInitial, StepExceeds, MergingExceeds, start_numbers}
+use Rattle.mh_canon.specs.Limits.{max_states}
+use Rattle.mh_pager.specs.code.ReachedByMerging.{IsWellFormed, IsReachedByMerging, IsInitialUpTo}
+use Rattle.mh_pager.specs.MergeSteps.{MergeState, IsMergeStep, MergeSteps, none, more, IsInitial, StepExceeds, MergingExceeds, start_numbers}
 use Rattle.mh_pager.proofs.IsWellFormed.{step_well_formed}
-use Rattle.mh_pager_steps.proofs.StepsInvariant.{initial_invariant, start_numbers_at}
+use Rattle.mh_pager.proofs.StepsInvariant.{initial_invariant, start_numbers_at}
 use Rattle.mh_pager.proofs.TerminationMeasure.{weight, step_weight}
-use Rattle.mh_pager_steps.proofs.StartNumbers.{range_push}
+use Rattle.mh_pager.proofs.StartNumbers.{range_push}
 
 -- The list of all start kernels is the first moment of the construction.
 pub is_initial : (g : PlainGrammar) (w : MergeState) → IsInitialUpTo (length g.starts) w → IsInitial g w

@@ -11,9 +11,9 @@ use Rattle.mh_grammar.proofs.Lists.{contains_there, contains_one}
 use Rattle.mh_items_kernels.specs.KernelTypes.{Kernel}
 use Rattle.mh_items_kernels.specs.Kernels.{IsItemList}
 use Rattle.mh_items_kernels.specs.Collection.{targets_of, edge_symbols}
-use Rattle.mh_pager_steps.specs.code.ReachedByMerging.{IsWellFormed}
-use Rattle.mh_pager_steps.specs.MergeSteps.{MergeState, Enqueues, PlacesMove, IsMoveOf, PlacesMoves, IsMergeStep}
-use Rattle.mh_pager_steps.proofs.PlacesMove.{KernelOrigin, stays, joins, fresh, kernel_origin, put_length}
+use Rattle.mh_pager.specs.code.ReachedByMerging.{IsWellFormed}
+use Rattle.mh_pager.specs.MergeSteps.{MergeState, Enqueues, PlacesMove, IsMoveOf, PlacesMoves, IsMergeStep}
+use Rattle.mh_pager.proofs.PlacesMove.{KernelOrigin, stays, joins, fresh, kernel_origin, put_length}
 
 module _ (g : PlainGrammar) (move : Kernel) (old new : MergeState) (n : ℕ) (valid : IsItemList g move) (ready : IsWellFormed g old) where
   of_came : (m : ℕ) (k : Kernel) → KernelOrigin g move old new m k → IsItemList g k

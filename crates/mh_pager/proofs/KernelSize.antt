@@ -10,7 +10,7 @@ use Rattle.mh_grammar.specs.Plain.{PlainGrammar, production_count, rhs_of, IsLoo
 use Rattle.mh_grammar.proofs.Lists.{contains_here, contains_there, contains_cases, contains_none, recursion_contains}
 use Rattle.mh_items_kernels.specs.KernelTypes.{KernelItem, Kernel}
 use Rattle.mh_items_kernels.specs.Kernels.{Holds, IsKernelItem, IsItemList}
-use Rattle.mh_pager_steps.specs.WeakCompatibility.{Covers}
+use Rattle.mh_pager.specs.WeakCompatibility.{Covers}
 use Rattle.mh_pager.proofs.SumBelow.{sum_below, sum_le, sum_same, bit, bit_le, bit_back, bit_one}
 
 has_look : (looks : List Look) (a : Look) → Contains looks a ⊎ (Contains looks a → ⊥)

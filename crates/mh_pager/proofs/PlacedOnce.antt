@@ -1,6 +1,6 @@
 -- Proves, as a double negation, that for each move there is a state to which a step of merging adds its items.
-use Rattle.mh_pager_steps.specs.code.ReachedByMerging.{IsWellFormed}
-use Rattle.mh_pager_steps.specs.FirstState.{HasNoneWith, IsFirst}
+use Rattle.mh_pager.specs.code.ReachedByMerging.{IsWellFormed}
+use Rattle.mh_pager.specs.FirstState.{HasNoneWith, IsFirst}
 use Rattle.std.proofs.Common.{◌≡◌, ℕ, zero, suc, ◌+◌, ◌<◌, ◌≤◌, ◌⊎◌, inl, inr, List, [], ◌∷◌, ◌++◌, Some, length, set, refl, sym, ap, subst, ◌∙◌, arith, below_more}
 use Rattle.std.specs.List.{slice_get, Contains}
 use Rattle.std.proofs.lemmas.Option.{slice_get_within}
@@ -10,11 +10,11 @@ use Rattle.mh_grammar.specs.ItemSets.{ItemSet}
 use Rattle.mh_grammar.proofs.Lists.{get_within}
 use Rattle.mh_items_kernels.specs.KernelTypes.{Kernel}
 use Rattle.mh_items_kernels.specs.Kernels.{Holds, IsItemList}
-use Rattle.mh_pager_steps.specs.MergeSteps.{MergeState, ContainsMove, IsCompatibleWithMove, PlacesMove, Enqueues}
+use Rattle.mh_pager.specs.MergeSteps.{MergeState, ContainsMove, IsCompatibleWithMove, PlacesMove, Enqueues}
 use Rattle.mh_grammar.specs.NotLacking.{NotLacking}
 use Rattle.mh_grammar.proofs.NotLacking.{given, chain, decided}
-use Rattle.mh_canon_states.proofs.ListedKernels.{HasItemsInRange, listed}
-use Rattle.mh_canon_states.proofs.MovedKernels.{kernel_in}
+use Rattle.mh_canon.proofs.ListedKernels.{HasItemsInRange, listed}
+use Rattle.mh_canon.proofs.MovedKernels.{kernel_in}
 
 module _ (P : Kernel → Type 0) (kernels : List Kernel) where
   abbrev Found : ℕ → Type 0

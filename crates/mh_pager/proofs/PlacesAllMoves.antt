@@ -12,7 +12,7 @@ use Rattle.mh_items_kernels.specs.code.KernelMoves.{IsMove}
 use Rattle.mh_items_kernels.specs.Collection.{HasItem}
 use Rattle.mh_items.specs.code.AllMoves.{Move, AreMoves}
 use Rattle.mh_pager.specs.code.MergeStep.{IsPlacedRow, ExceedsAtPrefix}
-use Rattle.mh_pager_steps.specs.MergeSteps.{MergeState, PlacesMove}
+use Rattle.mh_pager.specs.MergeSteps.{MergeState, PlacesMove}
 use Rattle.mh_pager.proofs.IsPlacedRow.{IsPlacedRow-none, IsPlacedRow-push, ExceedsAtPrefix-push, has_move_if_after_dot}
 
 abbrev pub symbols_in : List Move → List Symbol

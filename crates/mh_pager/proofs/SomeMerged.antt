@@ -1,7 +1,7 @@
 -- Proves the double negation (`NotLacking`) of: a grammar has a merged automaton within a limit, or a list of more
 -- states than the limit.
 use Rattle.mh_pager.specs.code.MergeStep.{IsPlacedRow, ExceedsAtPrefix}
-use Rattle.mh_pager_steps.specs.code.ReachedByMerging.{IsWellFormed, IsReachedByMerging}
+use Rattle.mh_pager.specs.code.ReachedByMerging.{IsWellFormed, IsReachedByMerging}
 use Rattle.mh_items_kernels.specs.code.KernelMoves.{IsAfterDot}
 use Rattle.std.proofs.Common.{◌≡◌, ℕ, zero, suc, ◌+◌, ◌<◌, ◌≤◌, ◌⊎◌, inl, inr, List, [], ◌∷◌, ◌++◌, Some, length, set, replicate, refl, sym, ap, subst, ◌∙◌, append_assoc, arith}
 use Rattle.std.specs.List.{slice_get, Contains, All, AllByRecursion, AllZip}
@@ -17,16 +17,16 @@ use Rattle.mh_items_kernels.specs.KernelTypes.{Kernel, Automaton}
 use Rattle.mh_items_kernels.specs.Kernels.{Holds, IsItemList}
 use Rattle.mh_items_kernels.specs.Automaton.{start_kernel}
 use Rattle.mh_items_kernels.specs.Collection.{AreStarts}
-use Rattle.mh_canon_states.proofs.PartialCollection.{AreStarts-none}
-use Rattle.mh_pager_steps.specs.MergeSteps.{MergeState, IsMergeStep, MergeSteps, none, more, IsInitial, StepExceeds, IsMerged, MergingExceeds, start_numbers}
-use Rattle.mh_pager_steps.proofs.IsMerged.{starts_within, AreTargetsInRange-list, IsMerged-list, few_list}
-use Rattle.mh_pager_steps.proofs.StepsInvariant.{steps_invariant}
+use Rattle.mh_canon.proofs.PartialCollection.{AreStarts-none}
+use Rattle.mh_pager.specs.MergeSteps.{MergeState, IsMergeStep, MergeSteps, none, more, IsInitial, StepExceeds, IsMerged, MergingExceeds, start_numbers}
+use Rattle.mh_pager.proofs.IsMerged.{starts_within, AreTargetsInRange-list, IsMerged-list, few_list}
+use Rattle.mh_pager.proofs.StepsInvariant.{steps_invariant}
 use Rattle.mh_pager.proofs.IsPlacedRow.{IsPlacedRow-none, IsPlacedRow-push, ExceedsAtPrefix-push, has_move_if_after_dot, merge_step_of_row, step_exceeds, row_ready}
 use Rattle.mh_pager.proofs.TerminationMeasure.{weight, step_weight}
 use Rattle.mh_pager.proofs.IsReachedByMerging.{is_well_formed}
 use Rattle.mh_grammar.specs.NotLacking.{NotLacking}
 use Rattle.mh_grammar.proofs.NotLacking.{given, chain}
-use Rattle.mh_canon_states.proofs.MovedKernels.{Moving, moving, move}
+use Rattle.mh_canon.proofs.MovedKernels.{Moving, moving, move}
 use Rattle.mh_pager.proofs.PlacedOnce.{put}
 use Rattle.mh_pager.proofs.SomeRenumbering.{reached, pick}
 

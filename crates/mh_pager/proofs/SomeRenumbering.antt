@@ -1,5 +1,5 @@
 -- Proves, as a double negation, that the states that are reached from the start states have new numbers.
-use Rattle.mh_pager_steps.specs.code.Renumbering.{IsRenumbered, AreReachedStates, AreTargetsInRange}
+use Rattle.mh_pager.specs.code.Renumbering.{IsRenumbered, AreReachedStates, AreTargetsInRange}
 use Rattle.std.proofs.Common.{◌≡◌, ℕ, zero, suc, ◌+◌, ◌<◌, ◌≤◌, ◌⊎◌, inl, inr, List, [], ◌∷◌, ◌++◌, Some, length, refl, sym, ap, subst, ◌∙◌, append_assoc, arith}
 use Rattle.std.specs.List.{slice_get, Contains, All, AllByRecursion, AllZip}
 use Rattle.std.proofs.lemmas.Bool.{cases_lt}
@@ -10,7 +10,7 @@ use Rattle.mh_grammar.specs.declared.edges.Edge.{Edge}
 use Rattle.mh_grammar.specs.Placed.{Placed}
 use Rattle.mh_grammar.proofs.Lists.{get_last, get_within, contains_at, at_contains}
 use Rattle.mh_items_kernels.specs.KernelTypes.{Kernel}
-use Rattle.mh_pager_steps.proofs.RenumberingInvariant.{RenumberingInvariant, RenumberingInvariant-start, RenumberingInvariant-step, AreReachedStates-done, IsRenumbered-none, IsRenumbered-push, below_few}
+use Rattle.mh_pager.proofs.RenumberingInvariant.{RenumberingInvariant, RenumberingInvariant-start, RenumberingInvariant-step, AreReachedStates-done, IsRenumbered-none, IsRenumbered-push, below_few}
 use Rattle.mh_grammar.specs.NotLacking.{NotLacking}
 use Rattle.mh_grammar.proofs.NotLacking.{given, chain, decided}
 

@@ -8,8 +8,8 @@ use Rattle.mh_grammar.specs.declared.edges.Edge.{Edge}
 use Rattle.mh_grammar.specs.Plain.{PlainGrammar}
 use Rattle.mh_items_kernels.specs.KernelTypes.{Kernel}
 use Rattle.mh_items_kernels.specs.Collection.{targets_of, edge_symbols}
-use Rattle.mh_pager_steps.specs.MergeSteps.{MergeState, Enqueues, JoinsState, AppendsState, PlacesMove, PlacesMoves, IsMergeStep}
-use Rattle.mh_pager_steps.proofs.StepsAreUnique.{all_put_longer}
+use Rattle.mh_pager.specs.MergeSteps.{MergeState, Enqueues, JoinsState, AppendsState, PlacesMove, PlacesMoves, IsMergeStep}
+use Rattle.mh_pager.proofs.StepsAreUnique.{all_put_longer}
 use Rattle.mh_pager.proofs.KernelSize.{size, max_size, size_within_max, size_covers}
 
 -- The number of triples that the kernels lack, summed over all kernels.

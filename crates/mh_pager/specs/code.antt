@@ -1,3 +1,9 @@
+pub mod Cores
+pub mod StateTests
+pub mod QueueFlags
+pub mod ItemLists
+pub mod ReachedByMerging
+pub mod Renumbering
 pub mod CoreIndex
 pub mod MergeStep
 pub mod Worklist

@@ -4,9 +4,9 @@ ghost use Rattle.mh_grammar.specs.Plain.{plain_of};
 ghost use Rattle.mh_items.specs.Fitting.{FitsSets};
 ghost use Rattle.mh_items.specs.code.MoveBuilder.{IsMoveBuilder};
 ghost use Rattle.mh_pager.specs.code.Worklist.{merge_state_of, IsConsistentWorklist};
-ghost use Rattle.mh_pager_steps.specs.code.ReachedByMerging.{IsReachedByMerging, IsInitialUpTo};
-ghost use Rattle.mh_pager_steps.specs.MergeSteps.{MergingExceeds};
-ghost use Rattle.mh_canon_states.specs.Limits.{max_states};
+ghost use Rattle.mh_pager.specs.code.ReachedByMerging.{IsReachedByMerging, IsInitialUpTo};
+ghost use Rattle.mh_pager.specs.MergeSteps.{MergingExceeds};
+ghost use Rattle.mh_canon.specs.Limits.{max_states};
 
 use crate::stepping::step;
 use crate::worklist::Worklist;

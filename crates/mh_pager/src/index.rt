@@ -1,7 +1,7 @@
 //! An index of the states by core. Only states with the core of a move can be its target.
 ghost use Rattle.std.specs.Prelude.{◌≡◌, ◌≤◌, List, [], IfOk, OnOk};
 ghost use Rattle.mh_items_kernels.specs.KernelTypes.{Kernel as KernelOf};
-ghost use Rattle.mh_pager_steps.specs.code.Cores.{core_item, core_of};
+ghost use Rattle.mh_pager.specs.code.Cores.{core_item, core_of};
 ghost use Rattle.mh_pager.specs.code.CoreIndex.{AreGroupsOfCores, HasGroupNumber, IsCoreIndex};
 
 use mh_grammar::{Memory, Sequence};

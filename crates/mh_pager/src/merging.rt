@@ -3,14 +3,14 @@ ghost use Rattle.std.specs.Prelude.{◌≡◌, ◌↔◌, ◌≤◌, [], length,
 ghost use Rattle.mh_grammar.specs.Plain.{plain_of};
 ghost use Rattle.mh_items_kernels.specs.KernelTypes.{Automaton as AutomatonOf};
 ghost use Rattle.mh_items_kernels.specs.Automaton.{IsAutomaton};
-ghost use Rattle.mh_canon_states.specs.Canonical.{IsCanonical};
+ghost use Rattle.mh_canon.specs.Canonical.{IsCanonical};
 ghost use Rattle.mh_items_kernels.specs.Conflicts.{AutomatonHasConflict, AutomatonHasAnyConflict};
-ghost use Rattle.mh_pager_steps.specs.CoversPaths.{CoversPaths};
+ghost use Rattle.mh_pager.specs.CoversPaths.{CoversPaths};
 ghost use Rattle.mh_pager.specs.code.Worklist.{merge_state_of, IsConsistentWorklist};
-ghost use Rattle.mh_pager_steps.specs.code.ReachedByMerging.{IsReachedByMerging};
-ghost use Rattle.mh_pager_steps.specs.MergeSteps.{IsMerged, MergingExceeds};
+ghost use Rattle.mh_pager.specs.code.ReachedByMerging.{IsReachedByMerging};
+ghost use Rattle.mh_pager.specs.MergeSteps.{IsMerged, MergingExceeds};
 ghost use Rattle.mh_items.specs.Fitting.{FitsSets};
-ghost use Rattle.mh_canon_states.specs.Limits.{max_states};
+ghost use Rattle.mh_canon.specs.Limits.{max_states};
 
 use crate::construction::list_all;
 use crate::numbering::{pick, reach};

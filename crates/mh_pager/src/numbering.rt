@@ -1,9 +1,9 @@
 //! The states that the starts reach, renumbered breadth-first.
 ghost use Rattle.std.specs.Prelude.{◌≡◌, ◌<◌, ◌≤◌, [], ℕ, Some, length, slice_get, IfOk, OnOk};
 ghost use Rattle.std.specs.List.{All, AllZip, range_with_len};
-ghost use Rattle.mh_pager_steps.specs.code.Renumbering.{AreWithinLimit, IsRenumbered, AreReachedStates, AreTargetsInRange};
-ghost use Rattle.mh_pager_steps.specs.MergeSteps.{start_numbers};
-ghost use Rattle.mh_canon_states.specs.Limits.{max_states};
+ghost use Rattle.mh_pager.specs.code.Renumbering.{AreWithinLimit, IsRenumbered, AreReachedStates, AreTargetsInRange};
+ghost use Rattle.mh_pager.specs.MergeSteps.{start_numbers};
+ghost use Rattle.mh_canon.specs.Limits.{max_states};
 
 use crate::starts::place_state;
 use crate::unions::copied;

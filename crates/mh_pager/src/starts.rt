@@ -2,7 +2,7 @@
 ghost use Rattle.std.specs.Prelude.{◌≡◌, ◌≤◌, IfOk};
 ghost use Rattle.std.specs.List.{range_with_len};
 ghost use Rattle.mh_grammar.specs.Placed.{Placed};
-ghost use Rattle.mh_canon_states.specs.Limits.{max_states};
+ghost use Rattle.mh_canon.specs.Limits.{max_states};
 
 use indexmap::IndexSet;
 use mh_grammar::Memory;

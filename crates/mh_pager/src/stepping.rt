@@ -8,9 +8,9 @@ ghost use Rattle.mh_items.specs.code.AllMoves.{AreMoves};
 ghost use Rattle.mh_items.specs.code.MoveBuilder.{IsMoveBuilder};
 ghost use Rattle.mh_pager.specs.code.MergeStep.{with_oldest, PlacesAllMoves, ExceedsForMoves};
 ghost use Rattle.mh_pager.specs.code.Worklist.{merge_state_of, IsConsistentWorklist};
-ghost use Rattle.mh_pager_steps.specs.code.ReachedByMerging.{IsWellFormed};
-ghost use Rattle.mh_pager_steps.specs.MergeSteps.{IsMergeStep, StepExceeds};
-ghost use Rattle.mh_canon_states.specs.Limits.{max_states};
+ghost use Rattle.mh_pager.specs.code.ReachedByMerging.{IsWellFormed};
+ghost use Rattle.mh_pager.specs.MergeSteps.{IsMergeStep, StepExceeds};
+ghost use Rattle.mh_canon.specs.Limits.{max_states};
 
 use crate::worklist::Worklist;
 use mh_grammar::{Edge, Grammar, Sequence};

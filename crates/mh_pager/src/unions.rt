@@ -2,7 +2,7 @@
 ghost use Rattle.std.specs.Prelude.{◌≡◌, ◌<◌, ◌≤◌, length, IfOk};
 ghost use Rattle.mh_grammar.specs.Plain.{PlainGrammar, plain_of};
 ghost use Rattle.mh_items_kernels.specs.Kernels.{Holds, IsItemList};
-ghost use Rattle.mh_pager_steps.specs.WeakCompatibility.{HaveSameCore, IsJoin};
+ghost use Rattle.mh_pager.specs.WeakCompatibility.{HaveSameCore, IsJoin};
 
 use mh_grammar::{Grammar, Memory, Sequence};
 use mh_items_kernels::{Kernel, copied_item, joined_item};

@@ -4,19 +4,20 @@ ghost use Rattle.mh_grammar.specs.Plain.{plain_of};
 ghost use Rattle.mh_items_kernels.specs.Kernels.{IsItemList};
 ghost use Rattle.mh_items_kernels.specs.KernelTypes.{Kernel as KernelOf};
 ghost use Rattle.mh_pager.specs.code.Worklist.{merge_state_of, IsConsistentWorklist, HasGroupNumberIn, JoinsMoveAt, AppendsMove, HasSameCoreAt};
-ghost use Rattle.mh_pager_steps.specs.code.StateTests.{HasCoreAndPasses};
-ghost use Rattle.mh_pager_steps.specs.FirstState.{IsFirst, HasNoneWith};
-ghost use Rattle.mh_pager_steps.specs.code.ReachedByMerging.{IsWellFormed};
-ghost use Rattle.mh_pager_steps.specs.MergeSteps.{MergeState, ContainsMove, PlacesMove};
+ghost use Rattle.mh_pager.specs.code.StateTests.{HasCoreAndPasses};
+ghost use Rattle.mh_pager.specs.FirstState.{IsFirst, HasNoneWith};
+ghost use Rattle.mh_pager.specs.code.ReachedByMerging.{IsWellFormed};
+ghost use Rattle.mh_pager.specs.MergeSteps.{MergeState, ContainsMove, PlacesMove};
 ghost use Rattle.mh_items.specs.Fitting.{FitsSets};
-ghost use Rattle.mh_canon_states.specs.Limits.{max_states};
+ghost use Rattle.mh_canon.specs.Limits.{max_states};
 
+use crate::finding::{StateTest, first_fitting};
 use crate::index::CoreIndex;
+use crate::queue::Queue;
 use crate::unions::joined;
-use mh_canon_states::number;
+use mh_canon::number;
 use mh_grammar::{Edge, Grammar, Memory, Sequence};
 use mh_items_kernels::{Kernel, StatesFault};
-use mh_pager_steps::{Queue, StateTest, first_fitting};
 use std::alloc::Global;
 
 /// The states during the construction, with the queue of those that need edges.

@@ -18,10 +18,10 @@ use Rattle.mh_facts.proofs.LeastSentences.{candidate_fails, fails_candidate}
 use Rattle.mh_facts.proofs.WordCosts.{capped_one, min_cap, option_unique, order_laws, weigh_word}
 use Rattle.mh_reach_words.specs.code.Words.{Words, spelled}
 use Rattle.mh_reach_words.proofs.ComparisonOrder.{no_later_trans}
-use Rattle.mh_reach_found.specs.declared.arrivals.StateAndNext.{StateAndNext}
-use Rattle.mh_reach_found.specs.code.Arrivals.{LabelNoLater, labels_at}
-use Rattle.mh_reach_found.specs.code.SentenceComparison.{numbers_of}
-use Rattle.mh_reach_found.proofs.LabelOrder.{both_over, by_numbers, cheaper_at, label_laws}
+use Rattle.mh_reach_words.specs.declared.arrivals.StateAndNext.{StateAndNext}
+use Rattle.mh_reach_words.specs.code.Arrivals.{LabelNoLater, labels_at}
+use Rattle.mh_reach_words.specs.code.SentenceComparison.{numbers_of}
+use Rattle.mh_reach_words.proofs.LabelOrder.{both_over, by_numbers, cheaper_at, label_laws}
 use Rattle.mh_reach_spots.specs.declared.spots.SpotArrival.{SpotArrival}
 use Rattle.mh_reach_spots.specs.declared.spots.Spots.{Spots}
 use Rattle.mh_reach_spots.specs.code.Spots.{AreLeastArrivals, IsWordAt, SpotList, arrival_at}

@@ -16,9 +16,9 @@ use Rattle.mh_facts.specs.code.TokenClasses.{rep_of}
 use Rattle.mh_reach.proofs.Coming.{comes_if_reached, reaches_if_comes}
 use Rattle.mh_facts.proofs.Sound.{reaches_known}
 use Rattle.mh_facts.proofs.WordCosts.{option_unique, weigh_word}
-use Rattle.mh_reach_found.specs.declared.arrivals.StateAndNext.{StateAndNext}
-use Rattle.mh_reach_found.specs.code.Arrivals.{LabelNoLater, labels_at}
-use Rattle.mh_reach_found.specs.code.SentenceComparison.{numbers_of}
+use Rattle.mh_reach_words.specs.declared.arrivals.StateAndNext.{StateAndNext}
+use Rattle.mh_reach_words.specs.code.Arrivals.{LabelNoLater, labels_at}
+use Rattle.mh_reach_words.specs.code.SentenceComparison.{numbers_of}
 use Rattle.mh_reach_words.specs.code.Words.{Words}
 use Rattle.mh_reach_spots.specs.declared.spots.SpotArrival.{SpotArrival}
 use Rattle.mh_reach_spots.specs.declared.spots.Spots.{Spots}

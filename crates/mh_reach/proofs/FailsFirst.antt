@@ -6,7 +6,7 @@ use Rattle.mh_tables_core.specs.Table.{TableData}
 use Rattle.mh_tables_core.specs.Failing.{Fails, FailsFirst, FailsWithinMaxCost, SentenceAtMost, cost_of_word, max_sentence_cost}
 use Rattle.mh_facts.specs.Costs.{cap}
 use Rattle.mh_reach_words.specs.code.Words.{Words}
-use Rattle.mh_reach_found.specs.code.SentenceComparison.{numbers_of}
+use Rattle.mh_reach_words.specs.code.SentenceComparison.{numbers_of}
 use Rattle.mh_reach_spots.specs.code.Spots.{IsWordAt}
 use Rattle.mh_reach.specs.declared.sentences.FailureCandidate.{FailureCandidate}
 use Rattle.mh_reach.specs.code.Candidates.{InOrderOr, IsBestCandidate}

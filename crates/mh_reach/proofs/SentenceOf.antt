@@ -3,7 +3,7 @@ use Rattle.std.proofs.Common.{◌≡◌, ◌<◌, ◌∙◌, ℕ, List, ◌∷�
 use Rattle.std.specs.Prelude.{slice_index_or}
 use Rattle.mh_facts.specs.code.BestFirst.{Label}
 use Rattle.mh_reach_words.specs.code.Words.{Words, letters_of}
-use Rattle.mh_reach_found.specs.code.SentenceComparison.{numbers_of}
+use Rattle.mh_reach_words.specs.code.SentenceComparison.{numbers_of}
 use Rattle.mh_reach_spots.specs.code.Spots.{IsWordAt}
 
 module _ (book : Words) (n : ℕ) (letters : List ℕ) (spelled : letters ≡ letters_of book n) (l : Label) (h : IsWordAt book n (numbers_of l)) where

@@ -9,9 +9,8 @@ ghost use Rattle.mh_reach.specs.code.Candidates.{AreBest, AreKnownSentences, Cos
 use crate::sentences::{FailureCandidate, Reach};
 use mh_facts::{CAP, TokenClasses, add_token, class_of};
 use mh_grammar::{Memory, Token};
-use mh_reach_found::StateAndNext;
 use mh_reach_spots::{Spots, arrival_at};
-use mh_reach_words::{LastPart, Rests, WordParts, no_rests};
+use mh_reach_words::{LastPart, Rests, StateAndNext, WordParts, no_rests};
 use mh_tables_core::{Halting, NextAction, Table, choose};
 use std::alloc::Global;
 use std::cmp::Ordering;

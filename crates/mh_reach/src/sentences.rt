@@ -10,9 +10,8 @@ ghost use Rattle.mh_reach.specs.Reaching.{LeastCost, LeastCostTo};
 
 use mh_facts::{TokenClasses, class_of};
 use mh_grammar::{Memory, Sentence, Sequence, Token};
-use mh_reach_found::StateAndNext;
 use mh_reach_spots::{Spots, arrival_at};
-use mh_reach_words::Book;
+use mh_reach_words::{Book, StateAndNext};
 use mh_tables_core::{Halting, Table};
 use std::alloc::Global;
 use std::marker::Model;

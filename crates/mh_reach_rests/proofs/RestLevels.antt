@@ -20,9 +20,9 @@ use Rattle.mh_facts.specs.code.WordCosts.{WordNoLater}
 use Rattle.mh_facts.proofs.WordCosts.{no_later_at_cap, no_later_if_cheaper, order_laws}
 use Rattle.mh_reach_words.specs.code.Words.{IsBook, Words}
 use Rattle.mh_reach_words.specs.code.Numbering.{AreBelowGroup}
-use Rattle.mh_reach_found.specs.code.QueueDraws.{DrawsNone, DrawsOne}
-use Rattle.mh_reach_found.specs.code.WordNumbers.{IsNumberOfWord}
-use Rattle.mh_reach_found.proofs.QueueDraws.{above, moves_drained, moves_higher, moves_pushed, moves_sorted, moves_taken}
+use Rattle.mh_reach_words.specs.code.QueueDraws.{DrawsNone, DrawsOne}
+use Rattle.mh_reach_words.specs.code.WordNumbers.{IsNumberOfWord}
+use Rattle.mh_reach_words.proofs.QueueDraws.{above, moves_drained, moves_higher, moves_pushed, moves_sorted, moves_taken}
 use Rattle.mh_reach_rests.specs.declared.numbering.RestBook.{RestBook}
 use Rattle.mh_reach_rests.specs.declared.settled.SettledWords.{SettledWords}
 use Rattle.mh_reach_rests.specs.declared.settling.RankedWord.{RankedWord}

@@ -31,7 +31,7 @@ use Rattle.mh_reach_words.specs.declared.word_parts.WordParts.{WordParts}
 use Rattle.mh_reach_words.specs.code.Words.{GroupedWord, IsBook, IsProperPrefix, LessAtDifference, Words, group_in, group_of, letters_of, spelled}
 use Rattle.mh_reach_words.specs.code.Numbering.{AreBelowGroup, AreKnown, ArePrefixFree, IsNumberingOf}
 use Rattle.mh_reach_words.proofs.ComparisonOrder.{before_no_later}
-use Rattle.mh_reach_found.specs.code.WordNumbers.{IsNumberOfWord}
+use Rattle.mh_reach_words.specs.code.WordNumbers.{IsNumberOfWord}
 use Rattle.mh_reach_rests.specs.declared.numbering.RestBook.{RestBook}
 use Rattle.mh_reach_rests.specs.declared.settled.SettledWord.{SettledWord}
 use Rattle.mh_reach_rests.specs.declared.settled.SettledWords.{SettledWords}

@@ -24,8 +24,8 @@ use Rattle.mh_facts.specs.code.TokenClasses.{AreTokenClasses, rep_of, place_of}
 use Rattle.mh_facts.specs.code.WordCosts.{WordNoLater, cost_up_to_cap, weigh}
 use Rattle.mh_facts.proofs.OrderLaws.{cost_append}
 use Rattle.mh_facts.proofs.WordCosts.{no_later_at_cap, order_laws, part_of_cost_zero, word_of_cost_zero}
-use Rattle.mh_reach_found.specs.code.QueueDraws.{DrawsOne}
-use Rattle.mh_reach_found.specs.code.WordNumbers.{IsNumberOfWord}
+use Rattle.mh_reach_words.specs.code.QueueDraws.{DrawsOne}
+use Rattle.mh_reach_words.specs.code.WordNumbers.{IsNumberOfWord}
 use Rattle.mh_reach_rests.specs.declared.settled.SettledWord.{SettledWord}
 use Rattle.mh_reach_rests.specs.declared.settled.SettledWords.{SettledWords}
 use Rattle.mh_reach_rests.specs.declared.settling.RestsFound.{RestsFound}

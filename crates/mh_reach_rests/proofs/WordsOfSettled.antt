@@ -15,7 +15,7 @@ use Rattle.mh_facts.proofs.AssociationLists.{AreKeys, at_kept, at_last, at_cases
 use Rattle.mh_facts.proofs.FactKeys.{fact_keys}
 use Rattle.mh_facts.proofs.WordCosts.{option_unique}
 use Rattle.mh_reach_words.specs.code.Words.{GroupedWord, Words, letters_in, group_in}
-use Rattle.mh_reach_found.specs.code.WordNumbers.{IsNumberOfWord}
+use Rattle.mh_reach_words.specs.code.WordNumbers.{IsNumberOfWord}
 use Rattle.mh_reach_rests.specs.declared.settled.SettledWord.{SettledWord}
 use Rattle.mh_reach_rests.specs.declared.settled.SettledWords.{SettledWords}
 use Rattle.mh_reach_rests.specs.declared.sought.Sought.{Sought}

@@ -10,8 +10,7 @@ use crate::waiting::{Origin, WaitingWord};
 use mh_facts::queue::{Queue, empty_queue, push};
 use mh_facts::{CAP, FactKey, GotoFact};
 use mh_grammar::{Memory, Token};
-use mh_reach_found::{EMPTY, token_before};
-use mh_reach_words::{Book, LastPart, WordParts};
+use mh_reach_words::{Book, EMPTY, LastPart, WordParts, token_before};
 use mh_tables_core::Table;
 use std::alloc::Global;
 

@@ -12,8 +12,8 @@ use Rattle.mh_facts.proofs.IsPathEnd.{leading_token_in_range}
 use Rattle.mh_facts.proofs.Sound.{derives_known, reaches_known, shift_known}
 use Rattle.mh_facts.proofs.StackBuilt.{leading_token-derives}
 use Rattle.mh_facts.proofs.WordCosts.{order_laws}
-use Rattle.mh_reach_found.specs.code.Arrivals.{LabelNoLater}
-use Rattle.mh_reach_found.proofs.LabelOrder.{label_laws}
+use Rattle.mh_reach_words.specs.code.Arrivals.{LabelNoLater}
+use Rattle.mh_reach_words.proofs.LabelOrder.{label_laws}
 use Rattle.mh_reach_rests.specs.code.ClosedRests.{GotoWords}
 use Rattle.mh_reach_spots.specs.code.GotoRows.{AreLeastGotos, HasGotoWord}
 

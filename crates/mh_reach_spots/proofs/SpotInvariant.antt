@@ -24,11 +24,11 @@ use Rattle.mh_facts.proofs.Sound.{shift_known}
 use Rattle.mh_facts.proofs.WordCosts.{capped_both, capped_one, min_cap, no_lower, option_unique}
 use Rattle.mh_reach_words.specs.declared.word_parts.LastPart.TheVariants as lasts
 use Rattle.mh_reach_words.specs.code.Words.{Words, IsBook, letters_of}
-use Rattle.mh_reach_found.specs.declared.arrivals.StateAndNext.{StateAndNext}
-use Rattle.mh_reach_found.specs.code.Arrivals.{LabelNoLater, labels_at, spot}
-use Rattle.mh_reach_found.specs.code.SentenceComparison.{numbers_of}
-use Rattle.mh_reach_found.proofs.LabelOrder.{label_laws, over_from, same_label}
-use Rattle.mh_reach_found.proofs.StateAndNextKeys.{spot_keys}
+use Rattle.mh_reach_words.specs.declared.arrivals.StateAndNext.{StateAndNext}
+use Rattle.mh_reach_words.specs.code.Arrivals.{LabelNoLater, labels_at, spot}
+use Rattle.mh_reach_words.specs.code.SentenceComparison.{numbers_of}
+use Rattle.mh_reach_words.proofs.LabelOrder.{label_laws, over_from, same_label}
+use Rattle.mh_reach_words.proofs.StateAndNextKeys.{spot_keys}
 use Rattle.mh_reach_rests.specs.code.ClosedRests.{GotoWords}
 use Rattle.mh_reach_spots.specs.declared.goto_rows.NumberedGoto.{NumberedGoto}
 use Rattle.mh_reach_spots.specs.declared.spots.SpotArrival.{SpotArrival}

@@ -11,11 +11,11 @@ use Rattle.mh_facts.proofs.WordCosts.{no_lower, no_lower_back, option_unique}
 use Rattle.mh_reach_words.specs.declared.word_parts.WordParts.{WordParts}
 use Rattle.mh_reach_words.specs.code.Words.{Words, HasParts}
 use Rattle.mh_reach_words.proofs.LongerBook.{letters_kept, made_below, spelled_kept}
-use Rattle.mh_reach_found.specs.declared.arrivals.StateAndNext.{StateAndNext}
-use Rattle.mh_reach_found.specs.code.Arrivals.{LabelNoLater, with_value_at}
-use Rattle.mh_reach_found.specs.code.SentenceComparison.{numbers_of}
-use Rattle.mh_reach_found.proofs.LabelOrder.{both_over, label_laws}
-use Rattle.mh_reach_found.proofs.StateAndNextKeys.{spot_keys}
+use Rattle.mh_reach_words.specs.declared.arrivals.StateAndNext.{StateAndNext}
+use Rattle.mh_reach_words.specs.code.Arrivals.{LabelNoLater, with_value_at}
+use Rattle.mh_reach_words.specs.code.SentenceComparison.{numbers_of}
+use Rattle.mh_reach_words.proofs.LabelOrder.{both_over, label_laws}
+use Rattle.mh_reach_words.proofs.StateAndNextKeys.{spot_keys}
 use Rattle.mh_reach_spots.specs.declared.spots.SpotArrival.{SpotArrival}
 use Rattle.mh_reach_spots.specs.declared.waiting.WaitingSpot.{WaitingSpot}
 use Rattle.mh_reach_spots.specs.code.SpotLevels.{IsLabelOf}

@@ -18,10 +18,10 @@ use Rattle.mh_reach_words.specs.code.Words.{Words, HasParts, LessAtDifference, l
 use Rattle.mh_reach_words.proofs.ComparisonOrder.{before_no_later}
 use Rattle.mh_reach_words.proofs.LongerBook.{spelled_kept}
 use Rattle.mh_reach_words.proofs.MergeSort.{rises_all}
-use Rattle.mh_reach_found.specs.code.Arrivals.{LabelNoLater}
-use Rattle.mh_reach_found.specs.code.SentenceComparison.{numbers_of}
-use Rattle.mh_reach_found.proofs.LabelOrder.{both_over, by_numbers, cheaper_at, label_laws}
-use Rattle.mh_reach_found.proofs.QueueDraws.{above, moves_drained, moves_higher, moves_pushed, moves_sorted, moves_taken}
+use Rattle.mh_reach_words.specs.code.Arrivals.{LabelNoLater}
+use Rattle.mh_reach_words.specs.code.SentenceComparison.{numbers_of}
+use Rattle.mh_reach_words.proofs.LabelOrder.{both_over, by_numbers, cheaper_at, label_laws}
+use Rattle.mh_reach_words.proofs.QueueDraws.{above, moves_drained, moves_higher, moves_pushed, moves_sorted, moves_taken}
 use Rattle.mh_reach_rests.specs.code.ClosedRests.{GotoWords}
 use Rattle.mh_reach_spots.specs.declared.waiting.RankedSpot.{RankedSpot}
 use Rattle.mh_reach_spots.specs.declared.waiting.WaitingSpot.{WaitingSpot}

@@ -20,7 +20,7 @@ use Rattle.mh_reach_words.specs.declared.word_parts.WordParts.{WordParts}
 use Rattle.mh_reach_words.specs.code.Words.{Words, HasParts, IsBook, IsProperPrefix, group_of, spelled}
 use Rattle.mh_reach_words.specs.code.Numbering.{AreBelowGroup, ArePrefixFree, IsNumberingOf}
 use Rattle.mh_reach_words.proofs.LongerBook.{group_kept}
-use Rattle.mh_reach_found.specs.code.SentenceComparison.{numbers_of}
+use Rattle.mh_reach_words.specs.code.SentenceComparison.{numbers_of}
 use Rattle.mh_reach_spots.specs.declared.waiting.RankedSpot.{RankedSpot}
 use Rattle.mh_reach_spots.specs.declared.waiting.WaitingSpot.{WaitingSpot}
 use Rattle.mh_reach_spots.specs.code.SpotLevels.{IsLabelOf}

@@ -3,9 +3,9 @@
 use Rattle.std.proofs.Common.{◌≡◌, ℕ, ◌<◌, [], ◌∷◌, ◌++◌, None}
 use Rattle.std.specs.Prelude.{◌^◌}
 use Rattle.mh_facts.proofs.SumBelow.{sum_below, total_le, total_less, one_if_absent, bit_le, bit_less, wide, narrow}
-use Rattle.mh_reach_found.specs.declared.arrivals.StateAndNext.{StateAndNext}
-use Rattle.mh_reach_found.specs.code.Arrivals.{spot}
-use Rattle.mh_reach_found.proofs.StateAndNextKeys.{spot_keys}
+use Rattle.mh_reach_words.specs.declared.arrivals.StateAndNext.{StateAndNext}
+use Rattle.mh_reach_words.specs.code.Arrivals.{spot}
+use Rattle.mh_reach_words.proofs.StateAndNextKeys.{spot_keys}
 use Rattle.mh_reach_spots.specs.declared.spots.SpotArrival.{SpotArrival}
 use Rattle.mh_reach_spots.specs.code.Spots.{SpotList, arrival_at}
 

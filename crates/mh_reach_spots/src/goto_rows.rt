@@ -10,8 +10,8 @@ ghost use Rattle.mh_reach_spots.specs.code.GotoRows.{FilesGotos, FilesRows, HasG
 
 use mh_facts::{GotoFact, TokenClasses, class_of};
 use mh_grammar::Memory;
-use mh_reach_found::EMPTY;
 use mh_reach_rests::{RestsFound, SettledGoto, SettledWords, empty_rows, word_of_goto};
+use mh_reach_words::EMPTY;
 use mh_tables_core::Table;
 use std::alloc::Global;
 

@@ -6,8 +6,7 @@ ghost use Rattle.mh_reach_spots.specs.code.SpotNumbers.{ArePaired, AreSentences,
 use crate::waiting::{RankedSpot, WaitingSpot};
 use mh_facts::CAP;
 use mh_grammar::Memory;
-use mh_reach_found::EMPTY;
-use mh_reach_words::{Book, WordParts};
+use mh_reach_words::{Book, EMPTY, WordParts};
 use std::alloc::Global;
 
 /// The parts of the sentences of arrivals.

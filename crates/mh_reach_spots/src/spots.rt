@@ -4,8 +4,7 @@ ghost use Rattle.mh_reach_spots.specs.code.Spots.{arrival_at};
 
 use mh_facts::OrderedMap;
 use mh_grammar::Memory;
-use mh_reach_found::StateAndNext;
-use mh_reach_words::Book;
+use mh_reach_words::{Book, StateAndNext};
 
 /// How a spot is reached: the cost of its least sentence, and the number of this sentence. The number of a sentence of
 /// the highest cost has no meaning.

@@ -13,8 +13,7 @@ use crate::waiting::{SettledSpot, WaitingSpot};
 use mh_facts::queue::{Queue, empty_queue, push};
 use mh_facts::{TokenClasses, add_costs, add_token, class_of, representatives_of};
 use mh_grammar::{Edge, Memory, Symbol, Token};
-use mh_reach_found::{EMPTY, StateAndNext};
-use mh_reach_words::{LastPart, WordParts};
+use mh_reach_words::{EMPTY, LastPart, StateAndNext, WordParts};
 use mh_tables_core::{NextAction, Table, choose};
 use std::alloc::Global;
 

@@ -1,7 +1,6 @@
 //! Arrivals that wait, and arrivals that are settled. An arrival is settled when it is stored as the least one of its
 //! spot.
-use mh_reach_found::StateAndNext;
-use mh_reach_words::WordParts;
+use mh_reach_words::{StateAndNext, WordParts};
 
 /// An arrival that waits: its spot, and the parts of its sentence.
 #[derive(Clone, Copy, Drop)]

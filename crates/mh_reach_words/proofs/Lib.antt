@@ -7,3 +7,6 @@ mod PutsRun
 mod IsComparisonStep
 pub mod ComparisonOrder
 mod WritesPart
+pub mod QueueDraws
+pub mod LabelOrder
+pub mod StateAndNextKeys

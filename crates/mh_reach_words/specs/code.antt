@@ -3,3 +3,7 @@ pub mod Numbering
 pub mod Sorting
 pub mod Words
 pub mod Writing
+pub mod Arrivals
+pub mod QueueDraws
+pub mod SentenceComparison
+pub mod WordNumbers

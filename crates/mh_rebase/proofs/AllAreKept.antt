@@ -17,9 +17,9 @@ use Rattle.mh_run.specs.Verdicts.{ending_for}
 use Rattle.mh_msgfile.specs.Sentences.{vocabulary_of, LineResult, IsSentence, IsUnreadable, NamesNoStart, LacksStart, NamesUnknown, has_items, sentence_in}
 use Rattle.mh_msgfile.proofs.PrintedAgain.{found_in, contents_of, content_at, IsGood, AreGood}
 use Rattle.mh_check.proofs.CheckedOnce.{no_refusal_not_rejected}
-use Rattle.mh_rebase_form.specs.declared.reason.DropReason.{DropReason}
-use Rattle.mh_rebase_form.specs.Decisions.{Decision, Keep, Drop, DecidedLine, is_keep, kept_line, IsReason, LineIsUnreadable, StartIsUnknown, StartIsMissing, TokenIsUnknown, SentenceIsNotRefused, SentenceIsRefusedEarly, StateIsShared, IsDecision, AreDecided}
-use Rattle.mh_rebase_form.specs.RebasedText.{has_kept, dropped_line_text, dropped_lines_text}
+use Rattle.mh_rebase.specs.declared.reason.DropReason.{DropReason}
+use Rattle.mh_rebase.specs.Decisions.{Decision, Keep, Drop, DecidedLine, is_keep, kept_line, IsReason, LineIsUnreadable, StartIsUnknown, StartIsMissing, TokenIsUnknown, SentenceIsNotRefused, SentenceIsRefusedEarly, StateIsShared, IsDecision, AreDecided}
+use Rattle.mh_rebase.specs.RebasedText.{has_kept, dropped_line_text, dropped_lines_text}
 use Rattle.mh_rebase.proofs.StatesOfSentences.{FailingSentence, OtherState, content, failing_of_decision, failing_of_lines, sentence_of_kept_line, FailsThere}
 use Rattle.mh_rebase.proofs.IsWritten.{kept_content, kept_contents}
 

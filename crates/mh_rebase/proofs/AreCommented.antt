@@ -6,12 +6,12 @@ use Rattle.mh_items_kernels.specs.KernelTypes.{Automaton}
 use Rattle.mh_tables_core.specs.Table.{TableData}
 use Rattle.mh_tables_core.specs.Failing.{CatalogueRow}
 use Rattle.mh_msgfile.specs.FileTexts.{sentence_text}
-use Rattle.mh_report_comments.specs.Comments.{message_placeholder}
-use Rattle.mh_report_comments.specs.Comments.{IsEntryText}
-use Rattle.mh_report_comments.specs.CatalogueTexts.{AreEntries}
-use Rattle.mh_report_comments.proofs.OneCommentText.{block_once}
-use Rattle.mh_rebase_form.specs.Decisions.{Decision, Keep, Drop, DecidedLine, IsDecision, AreDecided}
-use Rattle.mh_rebase_form.specs.RebasedText.{DecidedEntry, lines_in, has_kept, kept_sentence_text, kept_sentence_texts, message_if_kept, kept_entry_text, kept_entries_text}
+use Rattle.mh_report.specs.Comments.{message_placeholder}
+use Rattle.mh_report.specs.Comments.{IsEntryText}
+use Rattle.mh_report.specs.CatalogueTexts.{AreEntries}
+use Rattle.mh_report.proofs.OneCommentText.{block_once}
+use Rattle.mh_rebase.specs.Decisions.{Decision, Keep, Drop, DecidedLine, IsDecision, AreDecided}
+use Rattle.mh_rebase.specs.RebasedText.{DecidedEntry, lines_in, has_kept, kept_sentence_text, kept_sentence_texts, message_if_kept, kept_entry_text, kept_entries_text}
 use Rattle.mh_rebase.specs.EntryTexts.{IsTextOfSentences, AreCommented}
 use Rattle.mh_rebase.proofs.IsWritten.{Content, kept_content, kept_contents, entry_content_if, entry_kept, entries_kept, place_line, place_is, row_content, no_contents, decided_split}
 

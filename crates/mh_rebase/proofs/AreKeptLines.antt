@@ -6,8 +6,8 @@ use Rattle.mh_grammar.proofs.Lists.{set_here, set_elsewhere}
 use Rattle.mh_grammar.specs.declared.types.Sentence.{Sentence}
 use Rattle.mh_grammar.specs.Text.{Text}
 use Rattle.mh_rebase.specs.code.Reasons.{kept_line_in}
-use Rattle.mh_rebase_form.specs.declared.reason.DropReason.{DropReason}
-use Rattle.mh_rebase_form.specs.Decisions.{Keep, Drop, DecidedLine, keeps_in, kept_line}
+use Rattle.mh_rebase.specs.declared.reason.DropReason.{DropReason}
+use Rattle.mh_rebase.specs.Decisions.{Keep, Drop, DecidedLine, keeps_in, kept_line}
 use Rattle.mh_rebase.specs.code.Parts.{AreKeptLines}
 
 -- The first of two numbers that is present.

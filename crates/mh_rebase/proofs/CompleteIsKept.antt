@@ -23,7 +23,7 @@ use Rattle.mh_msgfile.proofs.LineEnds.{with_ends, lines_end}
 use Rattle.mh_msgfile.proofs.AreLines.{lines_once}
 use Rattle.mh_check.specs.Checks.{FailsIn, Sound, sentences_of}
 use Rattle.mh_check.proofs.FailsOnce.{fails_once}
-use Rattle.mh_rebase_form.specs.RebasedText.{DecidedEntry, without_decisions, IsRebased}
+use Rattle.mh_rebase.specs.RebasedText.{DecidedEntry, without_decisions, IsRebased}
 use Rattle.mh_rebase.specs.EntryTexts.{AreCommented}
 use Rattle.mh_rebase.proofs.AllAreKept.{texts_in}
 use Rattle.mh_rebase.proofs.IsReadAgain.{content_sentences-entries}

@@ -10,8 +10,8 @@ use Rattle.mh_tables_core.specs.Table.{TableData}
 use Rattle.mh_msgfile.specs.Sentences.{vocabulary_of, sentence_in}
 use Rattle.mh_msgfile.specs.declared.loose.LooseLine.{LooseLine}
 use Rattle.mh_msgfile.specs.declared.loose.LooseEntry.{LooseEntry}
-use Rattle.mh_rebase_form.specs.Decisions.{DecidedLine, is_keep, AreDecided}
-use Rattle.mh_rebase_form.specs.RebasedText.{DecidedEntry, without_decisions, lines_in, has_kept, kept_sentence_text, kept_sentence_texts, message_if_kept, kept_entry_text, kept_entries_text, dropped_line_text, dropped_lines_text, message_if_lost, dropped_entry_text, dropped_entries_text}
+use Rattle.mh_rebase.specs.Decisions.{DecidedLine, is_keep, AreDecided}
+use Rattle.mh_rebase.specs.RebasedText.{DecidedEntry, without_decisions, lines_in, has_kept, kept_sentence_text, kept_sentence_texts, message_if_kept, kept_entry_text, kept_entries_text, dropped_line_text, dropped_lines_text, message_if_lost, dropped_entry_text, dropped_entries_text}
 use Rattle.mh_rebase.specs.code.Parts.{AreKeptLines, DecidesLine, DecidesLines, DecidesEntries}
 use Rattle.mh_rebase.specs.declared.entries.Parts.{Parts}
 

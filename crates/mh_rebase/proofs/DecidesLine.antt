@@ -23,13 +23,13 @@ use Rattle.mh_run.specs.declared.outcome.Verdict.TheVariants as verdicts
 use Rattle.mh_msgfile.specs.Sentences.{Vocabulary, vocabulary_of, LineResult, IsSentence, sentence_in, ReadsSentence}
 use Rattle.mh_msgfile.specs.declared.sentence.SentenceFault.{SentenceFault}
 use Rattle.mh_expected.specs.Expected.{ExpectedTokens}
-use Rattle.mh_report_comments.specs.Comments.{HasFarthestDot, AppendsComments, AppendsExpected, IsCommentBlock, IsCommentText, comments, expected_comment}
+use Rattle.mh_report.specs.Comments.{HasFarthestDot, AppendsComments, AppendsExpected, IsCommentBlock, IsCommentText, comments, expected_comment}
 use Rattle.mh_msgfile.specs.FileTexts.{sentence_text}
-use Rattle.mh_report_comments.proofs.CommentParts.{appends_comments}
-use Rattle.mh_rebase_form.specs.declared.reason.DropReason.{DropReason}
-use Rattle.mh_rebase_form.specs.declared.reason.DropReason.TheVariants as reasons
-use Rattle.mh_rebase_form.specs.Decisions.{Keep, Drop, DecidedLine, IsReason, SentenceIsNotRefused, SentenceIsRefusedEarly, StateIsShared, IsKept}
-use Rattle.mh_rebase_form.specs.RebasedText.{dropped_title, reason_text}
+use Rattle.mh_report.proofs.CommentParts.{appends_comments}
+use Rattle.mh_rebase.specs.declared.reason.DropReason.{DropReason}
+use Rattle.mh_rebase.specs.declared.reason.DropReason.TheVariants as reasons
+use Rattle.mh_rebase.specs.Decisions.{Keep, Drop, DecidedLine, IsReason, SentenceIsNotRefused, SentenceIsRefusedEarly, StateIsShared, IsKept}
+use Rattle.mh_rebase.specs.RebasedText.{dropped_title, reason_text}
 use Rattle.mh_rebase.specs.code.Reasons.{IsStateToKeep, IsReasonOfVerdict}
 use Rattle.mh_rebase.specs.code.Parts.{AreKeptLines, IsExpectedPart, WritesKeptSentence, DropsFault, DecidesLine}
 use Rattle.mh_rebase.specs.declared.entries.Parts.{Parts}

@@ -24,8 +24,8 @@ use Rattle.mh_msgfile.proofs.PrintedAgain.{HasNoCrLf}
 use Rattle.mh_msgfile.proofs.WrittenEntries.{IsMessageText, IsLooseBlock, loose_blocks, entries_spelled}
 use Rattle.mh_check.specs.Checks.{sentences_of}
 use Rattle.mh_update.specs.NoLineEnds.{HasNamesWithoutLineEnds}
-use Rattle.mh_rebase_form.specs.Decisions.{Decision, Keep, Drop, DecidedLine, is_keep}
-use Rattle.mh_rebase_form.specs.RebasedText.{DecidedEntry, without_decisions, lines_in, has_kept, is_new_row, kept_entries_text, dropped_entries_text, IsRebased}
+use Rattle.mh_rebase.specs.Decisions.{Decision, Keep, Drop, DecidedLine, is_keep}
+use Rattle.mh_rebase.specs.RebasedText.{DecidedEntry, without_decisions, lines_in, has_kept, is_new_row, kept_entries_text, dropped_entries_text, IsRebased}
 use Rattle.mh_rebase.specs.ReadAgain.{HasNoCr, HasMessage, IsReadAgain}
 use Rattle.mh_rebase.proofs.StatesOfSentences.{content, failing_of_lines, failing_of_row, failing_contents, all_filtered, all_failing, all_fail, all_apart, all_found, sound_by, complete_by}
 use Rattle.mh_rebase.proofs.IsWritten.{Content, kept_content, kept_contents, entry_content_if, entry_kept, entries_kept, row_content, no_contents, HasFreeText, IsWritten, all_written, dropped_piece, with_dropped}

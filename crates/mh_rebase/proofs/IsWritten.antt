@@ -25,15 +25,15 @@ use Rattle.mh_check.specs.Checks.{IsNoRefusal}
 use Rattle.mh_check.proofs.CheckedOnce.{no_refusal_not_rejected}
 use Rattle.mh_tables_core.specs.Run.{Rejected}
 use Rattle.mh_check.specs.Texts.{early_text, shared_state_text}
-use Rattle.mh_report_comments.specs.Comments.{message_placeholder}
-use Rattle.mh_report_comments.specs.Comments.{IsEntryText}
-use Rattle.mh_report_comments.specs.CatalogueTexts.{AreEntries}
+use Rattle.mh_report.specs.Comments.{message_placeholder}
+use Rattle.mh_report.specs.Comments.{IsEntryText}
+use Rattle.mh_report.specs.CatalogueTexts.{AreEntries}
 use Rattle.mh_update.specs.NoLineEnds.{HasNoLineEnd, HasNamesWithoutLineEnds}
 use Rattle.mh_update.proofs.GeneratedText.{IsGeneratedText-block, HasNoLineEnd-append, IsReadUnchanged-no_line_end}
-use Rattle.mh_rebase_form.specs.declared.reason.DropReason.{DropReason}
-use Rattle.mh_rebase_form.specs.declared.reason.DropReason.TheVariants as reasons
-use Rattle.mh_rebase_form.specs.Decisions.{Decision, Keep, Drop, DecidedLine, is_keep, IsReason, LineIsUnreadable, StartIsUnknown, StartIsMissing, TokenIsUnknown, SentenceIsNotRefused, SentenceIsRefusedEarly, StateIsShared, IsDecision, AreDecided}
-use Rattle.mh_rebase_form.specs.RebasedText.{DecidedEntry, lines_in, has_kept, kept_sentence_text, kept_sentence_texts, message_if_kept, kept_entry_text, kept_entries_text, dropped_title, reason_text, dropped_line_text, dropped_lines_text, commented_message, message_if_lost, dropped_entry_text, dropped_entries_text}
+use Rattle.mh_rebase.specs.declared.reason.DropReason.{DropReason}
+use Rattle.mh_rebase.specs.declared.reason.DropReason.TheVariants as reasons
+use Rattle.mh_rebase.specs.Decisions.{Decision, Keep, Drop, DecidedLine, is_keep, IsReason, LineIsUnreadable, StartIsUnknown, StartIsMissing, TokenIsUnknown, SentenceIsNotRefused, SentenceIsRefusedEarly, StateIsShared, IsDecision, AreDecided}
+use Rattle.mh_rebase.specs.RebasedText.{DecidedEntry, lines_in, has_kept, kept_sentence_text, kept_sentence_texts, message_if_kept, kept_entry_text, kept_entries_text, dropped_title, reason_text, dropped_line_text, dropped_lines_text, commented_message, message_if_lost, dropped_entry_text, dropped_entries_text}
 use Rattle.mh_rebase.proofs.NamesAreWords.{start_is_word, token_is_word}
 use Rattle.mh_rebase.proofs.Pieces.{Piece, piece_none, piece_as, piece_both, piece_line, piece_gone, piece_lines, piece_generated, piece_commented, word_in, number_in}
 

@@ -24,7 +24,7 @@ use Rattle.mh_msgfile.proofs.AreLines.{ended_more}
 use Rattle.mh_update.specs.NoLineEnds.{is_no_line_end, HasNoLineEnd}
 use Rattle.mh_update.proofs.GeneratedText.{IsGeneratedText}
 use Rattle.mh_update.proofs.LineWalk.{IsGeneratedLine, generated_is_ignored}
-use Rattle.mh_rebase_form.specs.RebasedText.{commented_message}
+use Rattle.mh_rebase.specs.RebasedText.{commented_message}
 use Rattle.mh_rebase.proofs.WritesRows.{filter_append}
 
 -- The text consists of whole lines that are read unchanged, and `plain` are those of the lines that are not ignored.

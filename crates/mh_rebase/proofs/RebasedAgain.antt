@@ -19,10 +19,10 @@ use Rattle.mh_msgfile.specs.FileTexts.{HasReadableNames}
 use Rattle.mh_msgfile.specs.declared.loose.LooseFile.{LooseFile}
 use Rattle.mh_msgfile.proofs.PrintedAgain.{canonical, contents_of, AreGood, IsGood, found_in, content_at, read_back, good_back, some_mapped}
 use Rattle.mh_msgfile.proofs.WrittenEntries.{WrittenEntry, written_content, line_text, loose_content, IsGoodEntry, canonical_content, entries_loose}
-use Rattle.mh_report_comments.specs.CatalogueTexts.{AreEntries, IsCatalogueText}
+use Rattle.mh_report.specs.CatalogueTexts.{AreEntries, IsCatalogueText}
 use Rattle.mh_update.specs.NoLineEnds.{HasNamesWithoutLineEnds}
-use Rattle.mh_rebase_form.specs.Decisions.{DecidedLine, kept_line, AreDecided}
-use Rattle.mh_rebase_form.specs.RebasedText.{DecidedEntry, without_decisions, lines_in, has_kept, is_new_row, kept_entries_text, message_if_lost, dropped_entry_text, dropped_entries_text, IsRebased}
+use Rattle.mh_rebase.specs.Decisions.{DecidedLine, kept_line, AreDecided}
+use Rattle.mh_rebase.specs.RebasedText.{DecidedEntry, without_decisions, lines_in, has_kept, is_new_row, kept_entries_text, message_if_lost, dropped_entry_text, dropped_entries_text, IsRebased}
 use Rattle.mh_rebase.specs.ReadAgain.{HasNoCr}
 use Rattle.mh_rebase.specs.EntryTexts.{AreCommented}
 use Rattle.mh_rebase.proofs.AllAreKept.{IsKeep, texts_in, all_keep, no_drops, keep_contents, some_keep}

@@ -19,14 +19,14 @@ use Rattle.mh_msgfile.specs.declared.loose.LooseEntry.{LooseEntry}
 use Rattle.mh_msgfile.specs.declared.loose.LooseFile.{LooseFile}
 use Rattle.mh_check.specs.Checks.{IsNoRefusal}
 use Rattle.mh_check.proofs.CheckedOnce.{no_refusal_not_rejected}
-use Rattle.mh_report_comments.specs.Comments.{IsCommentBlock}
-use Rattle.mh_report_comments.specs.CatalogueTexts.{AreEntries}
-use Rattle.mh_report_comments.proofs.AreEntries.{entries_once}
-use Rattle.mh_report_comments.proofs.OneCommentText.{block_once}
-use Rattle.mh_rebase_form.specs.declared.reason.DropReason.{DropReason}
-use Rattle.mh_rebase_form.specs.declared.reason.DropReason.TheVariants as reasons
-use Rattle.mh_rebase_form.specs.Decisions.{Decision, Keep, Drop, DecidedLine, kept_line, IsReason, LineIsUnreadable, StartIsUnknown, StartIsMissing, TokenIsUnknown, SentenceIsNotRefused, SentenceIsRefusedEarly, StateIsShared, IsDecision, AreDecided}
-use Rattle.mh_rebase_form.specs.RebasedText.{DecidedEntry, without_decisions, lines_in, is_new_row, kept_entries_text, dropped_entries_text, IsRebased}
+use Rattle.mh_report.specs.Comments.{IsCommentBlock}
+use Rattle.mh_report.specs.CatalogueTexts.{AreEntries}
+use Rattle.mh_report.proofs.AreEntries.{entries_once}
+use Rattle.mh_report.proofs.OneCommentText.{block_once}
+use Rattle.mh_rebase.specs.declared.reason.DropReason.{DropReason}
+use Rattle.mh_rebase.specs.declared.reason.DropReason.TheVariants as reasons
+use Rattle.mh_rebase.specs.Decisions.{Decision, Keep, Drop, DecidedLine, kept_line, IsReason, LineIsUnreadable, StartIsUnknown, StartIsMissing, TokenIsUnknown, SentenceIsNotRefused, SentenceIsRefusedEarly, StateIsShared, IsDecision, AreDecided}
+use Rattle.mh_rebase.specs.RebasedText.{DecidedEntry, without_decisions, lines_in, is_new_row, kept_entries_text, dropped_entries_text, IsRebased}
 use Rattle.mh_rebase.proofs.AllAreKept.{reason_never, state_once}
 use Rattle.mh_rebase.proofs.IsWritten.{decided_split}
 

@@ -19,8 +19,8 @@ use Rattle.mh_msgfile.specs.declared.messages.MsgSentence.{MsgSentence}
 use Rattle.mh_check.specs.Checks.{FailsIn, Sound}
 use Rattle.mh_msgfile.proofs.PrintedAgain.{filter_on}
 use Rattle.mh_check.proofs.FailsOnce.{fails_once}
-use Rattle.mh_rebase_form.specs.Decisions.{Decision, Keep, Drop, DecidedLine, keeps_in, kept_line, IsDecision, AreDecided}
-use Rattle.mh_rebase_form.specs.RebasedText.{is_new_row}
+use Rattle.mh_rebase.specs.Decisions.{Decision, Keep, Drop, DecidedLine, keeps_in, kept_line, IsDecision, AreDecided}
+use Rattle.mh_rebase.specs.RebasedText.{is_new_row}
 use Rattle.mh_rebase.proofs.IsWritten.{kept_content, kept_contents}
 
 -- A start and tokens, and the state in which they fail.

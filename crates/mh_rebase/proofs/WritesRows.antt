@@ -10,14 +10,14 @@ use Rattle.mh_rebase.specs.code.Reasons.{kept_line_in}
 use Rattle.mh_items_kernels.specs.KernelTypes.{Automaton}
 use Rattle.mh_tables_core.specs.Table.{TableData}
 use Rattle.mh_tables_core.specs.Failing.{CatalogueRow, Catalogue, FailsFirst}
-use Rattle.mh_catalogue_rows.specs.Rows.{AreShort, row_of, rows_of}
-use Rattle.mh_catalogue_rows.specs.declared.rows.Row.{Row}
+use Rattle.mh_catalogue.specs.Rows.{AreShort, row_of, rows_of}
+use Rattle.mh_catalogue.specs.declared.rows.Row.{Row}
 use Rattle.mh_msgfile.specs.declared.loose.LooseFile.{LooseFile}
 use Rattle.mh_msgfile.proofs.PrintedAgain.{filter_on}
-use Rattle.mh_report_comments.specs.Comments.{IsEntryText}
-use Rattle.mh_report_comments.specs.CatalogueTexts.{AreEntries}
-use Rattle.mh_report_comments.proofs.AreEntries.{entries_append}
-use Rattle.mh_rebase_form.specs.RebasedText.{lines_in, is_new_row, kept_entries_text, dropped_entries_text, IsRebased}
+use Rattle.mh_report.specs.Comments.{IsEntryText}
+use Rattle.mh_report.specs.CatalogueTexts.{AreEntries}
+use Rattle.mh_report.proofs.AreEntries.{entries_append}
+use Rattle.mh_rebase.specs.RebasedText.{lines_in, is_new_row, kept_entries_text, dropped_entries_text, IsRebased}
 use Rattle.mh_rebase.specs.code.Parts.{AreKeptLines, DecidesEntries}
 use Rattle.mh_rebase.specs.code.Rows.{IsFitRow, has_no_kept_line, WritesRows}
 use Rattle.mh_rebase.specs.declared.entries.Parts.{Parts}

@@ -6,7 +6,7 @@ use Rattle.mh_grammar.specs.Text.{Text}
 use Rattle.mh_items_kernels.specs.KernelTypes.{Automaton}
 use Rattle.mh_tables_core.specs.Table.{TableData}
 use Rattle.mh_msgfile.specs.FileTexts.{sentence_text}
-use Rattle.mh_report_comments.specs.Comments.{IsCommentBlock}
+use Rattle.mh_report.specs.Comments.{IsCommentBlock}
 
 -- The text is these sentences, as starts and tokens, each followed by its comment lines.
 abbrev pub IsTextOfSentences : (expected : Bool) → Grammar → Automaton → TableData → List (ℕ × List ℕ) → Text → Type 0

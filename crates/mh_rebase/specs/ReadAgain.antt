@@ -17,8 +17,8 @@ use Rattle.mh_msgfile.specs.declared.messages.MsgSentence.{MsgSentence}
 use Rattle.mh_msgfile.specs.declared.messages.Entry.{Entry}
 use Rattle.mh_msgfile.specs.declared.messages.MsgFile.{MsgFile}
 use Rattle.mh_check.specs.Checks.{FailsIn, Sound, sentences_of}
-use Rattle.mh_rebase_form.specs.Decisions.{Keep, DecidedLine}
-use Rattle.mh_rebase_form.specs.RebasedText.{DecidedEntry, IsRebased}
+use Rattle.mh_rebase.specs.Decisions.{Keep, DecidedLine}
+use Rattle.mh_rebase.specs.RebasedText.{DecidedEntry, IsRebased}
 
 -- No line of a message ends in a CR, which would be read as part of the end of the line.
 abbrev pub HasNoCr : LooseFile → Type 0

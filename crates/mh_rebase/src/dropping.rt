@@ -1,12 +1,12 @@
 //! The report of what was dropped. Each function appends to a text, and fails only if memory runs out.
 ghost use Rattle.std.specs.Prelude.{◌≡◌, ◌++◌, OnOk, codes};
-ghost use Rattle.mh_rebase_form.specs.RebasedText.{dropped_title, reason_text, commented_message};
+ghost use Rattle.mh_rebase.specs.RebasedText.{dropped_title, reason_text, commented_message};
 
+use crate::reason::DropReason;
 use bstr::ByteSlice;
 use mh_check::{ending_text, write_early, write_shared};
 use mh_grammar::Memory;
 use mh_grammar_texts::write_between;
-use mh_rebase_form::DropReason;
 use std::alloc::Global;
 
 /// Appends words, a name and an LF.
@@ -40,7 +40,7 @@ pub fn write_reason(alloc: Global, text: &mut Vec<u8>, reason: &DropReason) -> R
 }
 
 /// Appends the beginning of the line that reports a dropped line.
-#[tactic(auto, unfolding(mh_rebase_form::specs::RebasedText::dropped_title))]
+#[tactic(auto, unfolding(crate::specs::RebasedText::dropped_title))]
 fn write_title(text: &mut Vec<u8>, line: u32) -> Result<(), Memory>
     ensures { OnOk result (text.new.items ≡ text.old.items ++ dropped_title line) }
 {

@@ -3,9 +3,9 @@
 ghost use Rattle.std.specs.Prelude.{◌≡◌, ◌<◌, ◌^◌, ◌++◌, ◌∷◌, [], true, length, IfOk, OnOk};
 ghost use Rattle.std.specs.List.{All, AllByRecursion};
 ghost use Rattle.mh_grammar.specs.Plain.{plain_of};
-ghost use Rattle.mh_report_comments.specs.Fitting.{FitsStates};
+ghost use Rattle.mh_report.specs.FitsStates.{FitsStates};
 ghost use Rattle.mh_msgfile.specs.Sentences.{vocabulary_in, vocabulary_of, IsSentence, sentence_in};
-ghost use Rattle.mh_rebase_form.specs.RebasedText.{message_if_kept};
+ghost use Rattle.mh_rebase.specs.RebasedText.{message_if_kept};
 ghost use Rattle.mh_tables_core.specs.Failing.{Fails};
 ghost use Rattle.mh_rebase.specs.code.Parts.{DecidesEntries, DropsFault, DecidesLine, DecidesLines, WritesKeptSentence};
 
@@ -14,7 +14,7 @@ use crate::keeping::{reason_of_fault, state_to_keep};
 use mh_grammar::{Grammar, Memory, Sentence};
 use mh_items_kernels::Automaton;
 use mh_msgfile::{Lexicon, LooseEntry, LooseLine, SentenceFault, write_sentence};
-use mh_report_comments::{write_comments, write_expected};
+use mh_report::{write_comments, write_expected};
 use mh_run::trace;
 use mh_tables_core::Halting;
 use std::alloc::Global;

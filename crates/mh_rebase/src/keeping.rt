@@ -2,9 +2,9 @@
 ghost use Rattle.std.specs.Prelude.{◌≡◌, IfOk, MatchResult};
 ghost use Rattle.mh_rebase.specs.code.Reasons.{kept_line_in, IsReasonOfFault, IsReasonOfVerdict, IsStateToKeep};
 
+use crate::reason::DropReason;
 use mh_grammar::Memory;
 use mh_msgfile::SentenceFault;
-use mh_rebase_form::DropReason;
 use mh_run::Verdict;
 
 /// The reason why a line with this fault is dropped.

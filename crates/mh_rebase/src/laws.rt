@@ -10,9 +10,9 @@ ghost use Rattle.mh_msgfile.specs.declared.messages.MsgFile.{MsgFile};
 ghost use Rattle.mh_msgfile.specs.declared.messages.MsgSentence.{MsgSentence};
 ghost use Rattle.mh_check.specs.Checks.{FailsIn, Sound, sentences_of};
 ghost use Rattle.mh_msgfile.specs.declared.loose.LooseFile.{LooseFile};
-ghost use Rattle.mh_report_comments.specs.CatalogueTexts.{IsCatalogueText};
+ghost use Rattle.mh_report.specs.CatalogueTexts.{IsCatalogueText};
 ghost use Rattle.mh_update.specs.NoLineEnds.{HasNamesWithoutLineEnds};
-ghost use Rattle.mh_rebase_form.specs.RebasedText.{IsRebased, kept_entries_text};
+ghost use Rattle.mh_rebase.specs.RebasedText.{IsRebased, kept_entries_text};
 ghost use Rattle.mh_rebase.specs.ReadAgain.{HasNoCr};
 ghost use Rattle.mh_rebase.specs.EntryTexts.{AreCommented};
 

@@ -2,25 +2,24 @@
 ghost use Rattle.std.specs.Prelude.{◌≡◌, ◌∷◌, [], ℕ, List, length, Err, IfOk, OnOk};
 ghost use Rattle.std.specs.List.{AllByRecursion};
 ghost use Rattle.mh_grammar.specs.Plain.{plain_of, IsInRange};
-ghost use Rattle.mh_report_comments.specs.Fitting.{FitsStates};
+ghost use Rattle.mh_report.specs.FitsStates.{FitsStates};
 ghost use Rattle.mh_tables_core.specs.Failing.{Catalogue, TooLongAt};
-ghost use Rattle.mh_catalogue_rows.specs.Rows.{AreShort, rows_of};
+ghost use Rattle.mh_catalogue.specs.Rows.{AreShort, rows_of};
 ghost use Rattle.mh_msgfile.specs.LooseFiles.{HasShortLines, LooseSpells};
 ghost use Rattle.mh_msgfile.specs.FileTexts.{HasReadableNames};
 ghost use Rattle.mh_update.specs.NoLineEnds.{HasNamesWithoutLineEnds};
 ghost use Rattle.mh_rebase.specs.ReadAgain.{HasNoCr, IsReadAgain};
-ghost use Rattle.mh_rebase_form.specs.RebasedText.{IsRebased};
+ghost use Rattle.mh_rebase.specs.RebasedText.{IsRebased};
 ghost use Rattle.mh_rebase.specs.code.Parts.{AreKeptLines, HasNothing};
 ghost use Rattle.mh_rebase.specs.code.Rows.{IsFitRow, WritesRows};
 
 use crate::entries::{Parts, Target, add_entries};
 use crate::keeping::line_kept_in;
-use mh_catalogue::catalogue;
-use mh_catalogue_rows::{CatalogueFault, Row};
+use mh_catalogue::{CatalogueFault, Row, catalogue};
 use mh_grammar::{Grammar, Memory};
 use mh_items_kernels::Automaton;
 use mh_msgfile::{Lexicon, LooseFile};
-use mh_report_comments::Commenter;
+use mh_report::Commenter;
 use mh_tables_core::{Halting, Table};
 use std::alloc::Global;
 

@@ -9,7 +9,7 @@ use Rattle.mh_items_kernels.specs.Automaton.{kernel_at, edges_at}
 use Rattle.mh_tables_core.specs.Table.{TableData, fallback_of}
 use Rattle.mh_resolve_cells.proofs.AreResolved.{kernel_is, edges_are}
 use Rattle.mh_grammar.specs.Text.{Text}
-use Rattle.mh_report_comments.proofs.CommentParts.{pieces}
+use Rattle.mh_report.proofs.CommentParts.{pieces}
 use Rattle.mh_report.specs.Automata.{head_line, kernel_lines, goto_lines, AreActionLines, IsStateText, AreStateTexts, AppendsText}
 
 pub kernel_text_is : (g : Grammar) (a : Automaton) (n : ℕ) (kernel : Kernel) (items : List KernelItem) (old new : Text) → n < length a.kernels → kernel ≡ get_or a.kernels n kernel → items ≡ kernel.items

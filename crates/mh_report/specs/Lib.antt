@@ -1,3 +1,6 @@
+pub mod Comments
+pub mod CatalogueTexts
+pub mod FitsStates
 pub mod Automata
 pub mod Warnings
 pub mod Fitting

@@ -6,8 +6,8 @@ use Rattle.mh_grammar.specs.Plain.{plain_of}
 use Rattle.mh_grammar.specs.Text.{Text}
 use Rattle.mh_grammar.proofs.Lists.{drop_step}
 use Rattle.mh_sample.specs.Sentences.{lines_from, shortest_line, IsShortestText}
-use Rattle.mh_sample_shortest.specs.declared.word.Shortest.{Shortest}
-use Rattle.mh_sample_shortest.proofs.ShortestUnique.{lists_one, shortest_one}
+use Rattle.mh_sample.specs.declared.word.Shortest.{Shortest}
+use Rattle.mh_sample.proofs.ShortestUnique.{lists_one, shortest_one}
 
 -- One line is written.
 pub line_more : (g : Grammar) (answers : List Shortest) (i : ℕ) (s : Shortest) (old new whole : Text) → i < length answers → s ≡ get_or answers i s → new ≡ old ++ shortest_line g i s → old ++ lines_from g i (drop i answers) ≡ whole → new ++ lines_from g (i + 1) (drop (i + 1) answers) ≡ whole

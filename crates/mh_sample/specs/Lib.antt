@@ -1,5 +1,10 @@
+pub mod WordLimit
+pub mod Shortest
+pub mod code
+pub mod DrawLimit
+pub mod Faults
+pub mod Random
 pub mod SampleSize
 pub mod Texts
 pub mod Counts
 pub mod Sentences
-pub mod code

@@ -5,10 +5,10 @@ use Rattle.mh_grammar.specs.Names.{nonterminal_name}
 use Rattle.mh_grammar.specs.Plain.{plain_of}
 use Rattle.mh_grammar.specs.Text.{Text}
 use Rattle.mh_msgfile.specs.FileTexts.{names_after, sentence_text}
-use Rattle.mh_sample_random.specs.Random.{IsRandom}
-use Rattle.mh_sample_shortest.specs.Shortest.{IsShortest}
-use Rattle.mh_sample_shortest.specs.declared.word.Shortest.{Shortest}
-use Rattle.mh_sample_shortest.specs.declared.word.Shortest.TheVariants.{None, Longer, Word}
+use Rattle.mh_sample.specs.Random.{IsRandom}
+use Rattle.mh_sample.specs.Shortest.{IsShortest}
+use Rattle.mh_sample.specs.declared.word.Shortest.{Shortest}
+use Rattle.mh_sample.specs.declared.word.Shortest.TheVariants.{None, Longer, Word}
 
 -- The text of an answer: the names of the tokens of the shortest word; or, if there is none or it is too long, a note
 -- in lower case. Names of tokens begin with capitals, so a note is no word.

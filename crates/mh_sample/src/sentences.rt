@@ -3,13 +3,14 @@ ghost use Rattle.std.specs.Prelude.{◌≡◌, ◌<◌, ◌≤◌, ◌++◌, ◌
 ghost use Rattle.mh_grammar.specs.Plain.{plain_of, IsInRange};
 ghost use Rattle.mh_msgfile.specs.FileTexts.{names_after, sentence_text as sentence_text'};
 ghost use Rattle.mh_sample.specs.Sentences.{shortest_line, word_text, IsRandomText, IsShortestText};
-ghost use Rattle.mh_sample_random.specs.Faults.{MayFail};
-ghost use Rattle.mh_sample_shortest.specs.Limits.{max_word};
+ghost use Rattle.mh_sample.specs.Faults.{MayFail};
+ghost use Rattle.mh_sample.specs.WordLimit.{max_word};
 
+use crate::random::{RandomFault, random_sentence};
+use crate::shortest::shortest_words;
+use crate::word::{Shortest, TokenWord};
 use mh_grammar::{Grammar, Memory, Token, nonterminal_name, token_name};
 use mh_msgfile::write_sentence;
-use mh_sample_random::{RandomFault, random_sentence};
-use mh_sample_shortest::{Shortest, TokenWord, shortest_words};
 use std::alloc::Global;
 
 /// Writes the names of the tokens, each after one space.

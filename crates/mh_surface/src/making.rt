@@ -116,7 +116,7 @@ pub fn table_of(alloc: Global, grammar: &Grammar, automaton: &Automaton<1>) -> R
 }
 
 /// Returns true if the sentence can be run from the first start symbol: its tokens are tokens of the table.
-pub fn can_run(table: &Halting, sentence: &[Token]) -> bool
+pub(crate) fn can_run(table: &Halting, sentence: &[Token]) -> bool
     ensures start { IsTrue result → 0 < length table.now.grammar.starts }
     ensures tokens { IsTrue result → All (λ z. z < table.now.grammar.tokens) sentence.now }
     ensures few { IsTrue result → length sentence.now < 2000000 }

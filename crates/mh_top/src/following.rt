@@ -8,9 +8,8 @@ ghost use Rattle.mh_top_claims.specs.Work.{IsPlanOf};
 
 use crate::modes::run_mode;
 use mh_outside::{Shelf, Sink, Source};
-use mh_top_drive::{Stop, refused};
-use mh_top_types::Prepared;
-use mh_top_warnings::is_refused;
+use mh_top_drive::{Prepared, Stop, refused};
+use mh_top_prepare::is_refused;
 use std::alloc::Global;
 
 /// Refuses a grammar with warnings under `--strict`, and otherwise runs the mode of the job.

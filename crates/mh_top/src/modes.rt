@@ -8,14 +8,13 @@ ghost use Rattle.mh_top.specs.code.Premises.{MayRunMode};
 
 use mh_opts::Job;
 use mh_outside::{Shelf, Sink, Source};
-use mh_top_drive::Stop;
+use mh_top_drive::{Prepared, Stop};
 use mh_top_lists::{ConflictExplanations, ErrorList, SampleCounts, check_errors, rebase_errors};
 use mh_top_modes::{
     AutomatonText, FileText, RandomSentence, ShortestWords, TableFile, compare_errors, explain,
     interpret, run_session, text_from_file,
 };
 use mh_top_plans::{write_at_end, write_made};
-use mh_top_types::Prepared;
 use std::alloc::Global;
 
 /// Runs the mode of the job. A mode that needs messages files reads them before it writes anything.

@@ -7,7 +7,7 @@ ghost use Rattle.mh_opts.specs.declared.jobs.Job.TheVariants.{Check};
 ghost use Rattle.mh_top_load.specs.Modules.{grammar_files};
 ghost use Rattle.mh_top_load.specs.Order.{staged_order};
 ghost use Rattle.mh_top_plans.specs.Files.{files_of_mode};
-ghost use Rattle.mh_top_tables.specs.MayAskForTables.{MayAskForTables};
+ghost use Rattle.mh_top_prepare.specs.MayAskForTables.{MayAskForTables};
 ghost use Rattle.mh_grammar.specs.Text.{Text};
 ghost use Rattle.mh_top_drive.specs.StageResults.{Go};
 ghost use Rattle.mh_top_claims.specs.MayAskForFiles.{MayAskForFiles};
@@ -26,11 +26,9 @@ use mh_opts::{Job, Order};
 use mh_outside::{Shelf, Sink, Source};
 use mh_sets::with_width;
 use mh_top_check::check_grammar;
-use mh_top_drive::{Stop, status};
+use mh_top_drive::{OrderAndGrammar, Prepared, Stop, status};
 use mh_top_load::{order_in, with_grammar};
-use mh_top_prepare::prepare;
-use mh_top_types::{OrderAndGrammar, Prepared};
-use mh_top_warnings::{report, warn};
+use mh_top_prepare::{prepare, report, warn};
 use std::alloc::Global;
 
 /// Writes the warnings, and then runs the mode or refuses the grammar.

@@ -30,9 +30,9 @@ use Rattle.mh_top_drive.specs.declared.stop.Stop.{Stop}
 use Rattle.mh_top_drive.specs.declared.stop.Stop.TheVariants.{Halted, InputFailed, OutOfMemory, ShelfFailed, WriteFailed}
 use Rattle.mh_top_drive.specs.declared.stop.Cause.{Cause}
 use Rattle.mh_top_drive.specs.declared.stop.Cause.TheVariants.{Refused}
-use Rattle.mh_top_tables.specs.PreparedStage.{IsPreparedFromFiles}
-use Rattle.mh_top_types.specs.Shapes.{Prepared}
-use Rattle.mh_top_types.specs.declared.front.OrderAndGrammar.{OrderAndGrammar}
+use Rattle.mh_top_prepare.specs.PreparedStage.{IsPreparedFromFiles}
+use Rattle.mh_top_drive.specs.Shapes.{Prepared}
+use Rattle.mh_top_drive.specs.declared.front.OrderAndGrammar.{OrderAndGrammar}
 use Rattle.mh_validate_valid.specs.Valid.{AreTokenNamesDistinct}
 
 module _ (named : List GrammarFile) (files : AcceptedFiles) (front : OrderAndGrammar) (is : IsAcceptedBy named files front) where

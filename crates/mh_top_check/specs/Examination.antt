@@ -18,9 +18,9 @@ use Rattle.mh_top_drive.specs.declared.stop.Cause.{Cause}
 use Rattle.mh_top_drive.specs.declared.stop.Cause.TheVariants.{Refused}
 use Rattle.mh_top_drive.specs.NextFile.{IsNextFile}
 use Rattle.mh_top_plans.specs.Plan.{Ends, Findings, Plan, plan_of_stage}
-use Rattle.mh_top_tables.specs.PreparedStage.{IsPreparedFromFiles}
-use Rattle.mh_top_types.specs.Shapes.{Prepared}
-use Rattle.mh_top_types.specs.declared.front.OrderAndGrammar.{OrderAndGrammar}
+use Rattle.mh_top_prepare.specs.PreparedStage.{IsPreparedFromFiles}
+use Rattle.mh_top_drive.specs.Shapes.{Prepared}
+use Rattle.mh_top_drive.specs.declared.front.OrderAndGrammar.{OrderAndGrammar}
 
 -- The file has this name and these bytes, of which there are few enough to be counted. Any bytes are a file.
 abbrev pub IsGrammarFile : Text → Text → StageResult GrammarFile → Type 0

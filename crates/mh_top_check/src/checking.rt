@@ -19,8 +19,8 @@ ghost use Rattle.mh_top_check.specs.code.Findings.{AllowsTable, AreTablesNext, E
 ghost use Rattle.mh_top_drive.specs.code.ModeCalls.{InputAndOutCounts, ModeShelfCounts};
 ghost use Rattle.mh_top_drive.specs.declared.stop.Stop.TheVariants.{Halted};
 ghost use Rattle.mh_top_plans.specs.code.Modes.{OpenedAndRan};
-ghost use Rattle.mh_top_tables.specs.MayAskForTables.{MayAskForTables};
-ghost use Rattle.mh_top_types.specs.code.Prepared.{IsConsistent};
+ghost use Rattle.mh_top_prepare.specs.MayAskForTables.{MayAskForTables};
+ghost use Rattle.mh_top_drive.specs.code.Prepared.{IsConsistent};
 
 use crate::writing::write_findings;
 use mh_grammar::{Memory, Sequence, from_bytes};
@@ -31,10 +31,9 @@ use mh_lint::{
 use mh_opts::Order;
 use mh_outside::{Shelf, Sink, Source};
 use mh_sets::with_width;
-use mh_top_drive::{Cause, FileFormat, Stop, read_files, refused};
+use mh_top_drive::{Cause, FileFormat, OrderAndGrammar, Prepared, Stop, read_files, refused};
 use mh_top_plans::{Writer, write_at_end};
 use mh_top_prepare::prepare;
-use mh_top_types::{OrderAndGrammar, Prepared};
 use std::alloc::Global;
 
 /// The form of files that are examined: any bytes are a file.

@@ -5,7 +5,7 @@ use Rattle.mh_grammar.specs.Plain.{PlainGrammar, IsSentence, plain_of}
 use Rattle.mh_grammar.specs.Text.{Text}
 use Rattle.mh_outside.specs.Shelf.{Files}
 use Rattle.mh_run_exact.specs.Exactness.{IsPrefixSentence}
-use Rattle.mh_sample_random.proofs.RandomIsSentence.{random_is_sentence}
+use Rattle.mh_sample.proofs.RandomIsSentence.{random_is_sentence}
 use Rattle.mh_top_claims.specs.VerdictClaims.{AcceptsRandom}
 use Rattle.mh_top_claims.proofs.VerdictClaims.{accepts_exactly}
 

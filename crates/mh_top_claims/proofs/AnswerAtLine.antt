@@ -9,9 +9,9 @@ use Rattle.mh_top_plans.specs.Plan.{Plan, Judges, Answers, plan_behavior}
 use Rattle.mh_top_drive.specs.ModeBehavior.{AnswersAll}
 use Rattle.mh_top_claims.specs.AnswerAtLine.{IsAnsweredAt, HasVerdictAt}
 use Rattle.mh_top_claims.specs.Work.{Examining, NeedsTable, WithTable, Work, IsPlanUnlessRefused, IsWork, IsWorkOf}
-use Rattle.mh_top_warnings.specs.Warnings.{has_warning}
+use Rattle.mh_top_prepare.specs.Warnings.{has_warning}
 use Rattle.mh_top_claims.specs.Preparing.{IsPrepared}
-use Rattle.mh_top_types.specs.Shapes.{Prepared}
+use Rattle.mh_top_drive.specs.Shapes.{Prepared}
 use Rattle.mh_top_plans.proofs.FilesOfMode.{PreparedFacts}
 use Rattle.mh_top_claims.proofs.EachMode.{mode_facts}
 use Rattle.mh_top_claims.proofs.PreparedWork.{job_needs}

@@ -12,7 +12,7 @@ use Rattle.mh_top_drive.proofs.Then.{IsOne, then_once}
 use Rattle.mh_top_drive.specs.FileContents.{IsFileContent, IsFound, loaded}
 use Rattle.mh_top_drive.specs.NextFile.{HasContent}
 use Rattle.mh_top_drive.proofs.ReadFilesLoop.{turn_first}
-use Rattle.mh_top_types.specs.Shapes.{Prepared}
+use Rattle.mh_top_drive.specs.Shapes.{Prepared}
 use Rattle.mh_top_plans.specs.MessagesFiles.{AreMessagesOfBoth, Messages}
 use Rattle.mh_top_plans.proofs.MessagesFileLines.{messages_facts, some_checked}
 use Rattle.mh_top_plans.proofs.AreMessagesOfBoth.{Next, Stage, second_turn}

@@ -29,27 +29,27 @@ use Rattle.mh_top_drive.specs.NextFile.{HasContent, IsNextFile}
 use Rattle.mh_top_claims.specs.NextTableFile.{IsTableFileNext}
 use Rattle.mh_top_load.specs.GrammarStage.{IsGrammarStage}
 use Rattle.mh_tabfile_form.specs.declared.types.RawTable.{RawTable}
-use Rattle.mh_top_tables.specs.TableFileContent.{IsTableFile}
-use Rattle.mh_top_tables.specs.TableStage.{IsAutomatonStage, IsTableStage, mode_of}
-use Rattle.mh_top_tables.specs.ResolvedStage.{IsResolvedStage}
-use Rattle.mh_top_tables.specs.AutomatonSources.{IsAutomatonSource, IsAutomatonSourceBy}
+use Rattle.mh_top_prepare.specs.TableFileContent.{IsTableFile}
+use Rattle.mh_top_prepare.specs.TableStage.{IsAutomatonStage, IsTableStage, mode_of}
+use Rattle.mh_top_prepare.specs.ResolvedStage.{IsResolvedStage}
+use Rattle.mh_top_prepare.specs.AutomatonSources.{IsAutomatonSource, IsAutomatonSourceBy}
 use Rattle.mh_top_drive.specs.ModeBehavior.{ModeEnd, AnswersAll, AreAskedLines, EndsAfterAnswers, Outcome, HasOutcome}
 use Rattle.mh_top_plans.specs.Plan.{Plan, EndsWith, asks_of, halts, plan_behavior}
 use Rattle.mh_top_claims.specs.Work.{Examining, IsCheckWork, NeedsTable, WithTable, Work, IsPlanUnlessRefused, IsWork, IsWorkOf}
-use Rattle.mh_top_warnings.specs.Warnings.{has_warning, warnings_of}
+use Rattle.mh_top_prepare.specs.Warnings.{has_warning, warnings_of}
 use Rattle.mh_top_load.specs.OrderAndGrammar.{IsOrderAndGrammar}
 use Rattle.mh_top_claims.specs.Preparing.{IsPrepared}
-use Rattle.mh_top_tables.specs.PreparedStage.{IsPreparedFromSource, IsPreparedFromFiles}
+use Rattle.mh_top_prepare.specs.PreparedStage.{IsPreparedFromSource, IsPreparedFromFiles}
 use Rattle.mh_top_claims.specs.Run.{text_on_err, IsNextToRead, OfCheck, OfGrammar, OfTables, OfMode, IsNextAfterWarnings, IsNextUnlessRefused}
 use Rattle.mh_top_claims.specs.Claims.{AsksLines, NextFileIs, IsInputOverLimit}
 use Rattle.mh_top_drive.specs.declared.driving.Asks.{Asks}
 use Rattle.mh_top_drive.specs.declared.driving.Asks.TheVariants.{NoLine, FirstLine, EachLine}
-use Rattle.mh_top_types.specs.declared.front.OrderAndGrammar.{OrderAndGrammar}
-use Rattle.mh_top_types.specs.Shapes.{Prepared, TabledAutomaton}
+use Rattle.mh_top_drive.specs.declared.front.OrderAndGrammar.{OrderAndGrammar}
+use Rattle.mh_top_drive.specs.Shapes.{Prepared, TabledAutomaton}
 use Rattle.mh_top_drive.specs.declared.stop.Cause.{Cause}
 use Rattle.mh_top_drive.specs.declared.stop.Cause.TheVariants.{Refused, Misused, Missing, LongFile, LongInput}
-use Rattle.mh_top_tables.specs.declared.sources.AutomatonSource.{AutomatonSource}
-use Rattle.mh_top_tables.specs.declared.sources.AutomatonSource.TheVariants.{Canonical, File, Merged}
+use Rattle.mh_top_prepare.specs.declared.sources.AutomatonSource.{AutomatonSource}
+use Rattle.mh_top_prepare.specs.declared.sources.AutomatonSource.TheVariants.{Canonical, File, Merged}
 use Rattle.mh_top_drive.proofs.ReadFilesLoop.{turn_first, turn_later}
 use Rattle.mh_top_claims.proofs.PreparedUnique.{prepared_once}
 use Rattle.mh_top_claims.proofs.ExaminedUnique.{examined_once}

@@ -21,9 +21,9 @@ use Rattle.mh_top_plans.proofs.FilesOfMode.{file_once}
 use Rattle.mh_top_plans.proofs.FileBlocks.{blocks_facts}
 use Rattle.mh_top_claims.specs.Run.{World, DoesWork}
 use Rattle.mh_top_claims.specs.Run as runs
-use Rattle.mh_top_types.specs.Shapes.{Prepared}
+use Rattle.mh_top_drive.specs.Shapes.{Prepared}
 use Rattle.mh_top_claims.specs.Work.{Work, IsPlanUnlessRefused, IsWork, IsWorkOf}
-use Rattle.mh_top_warnings.specs.Warnings.{has_warning, warnings_of}
+use Rattle.mh_top_prepare.specs.Warnings.{has_warning, warnings_of}
 use Rattle.mh_top_claims.proofs.Claims.{does_work_without_fault}
 use Rattle.mh_top_claims.proofs.FinalOutputOutcome.{yields_end}
 use Rattle.mh_top_claims.proofs.PreparedUnique.{prepared_once}

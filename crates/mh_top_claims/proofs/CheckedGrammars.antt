@@ -31,7 +31,7 @@ use Rattle.mh_top_drive.specs.Statuses.{last_line_of, status_of}
 use Rattle.mh_top_drive.specs.declared.stop.Cause.TheVariants.{Refused}
 use Rattle.mh_top_plans.specs.GrammarChecked.{WritesFindings, cause_of_findings}
 use Rattle.mh_top_plans.specs.Plan.{Ends, Findings, Plan, plan_behavior}
-use Rattle.mh_top_types.specs.Shapes.{Prepared}
+use Rattle.mh_top_drive.specs.Shapes.{Prepared}
 
 -- A line has some text.
 some_text : (found : List GrammarFile) (lines : List Line) → lines_text found lines ≡ [] → lines ≡ []

@@ -24,7 +24,7 @@ use Rattle.mh_top_drive.specs.declared.stop.Cause.{Cause}
 use Rattle.mh_top_drive.specs.declared.stop.Cause.TheVariants.{Refused}
 use Rattle.mh_top_drive.proofs.Then.{IsOne}
 use Rattle.mh_top_drive.specs.FileContents.{IsFileContent, IsFound, loaded}
-use Rattle.mh_top_types.specs.Shapes.{Prepared}
+use Rattle.mh_top_drive.specs.Shapes.{Prepared}
 use Rattle.mh_top_plans.specs.FinalText.{end_of_final_text}
 use Rattle.mh_top_plans.specs.Compared.{comparison_result}
 use Rattle.mh_top_plans.specs.Files.{files_of_job, optional_file}

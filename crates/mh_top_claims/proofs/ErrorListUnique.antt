@@ -8,8 +8,8 @@ use Rattle.mh_tables_core.specs.Table.{TableData}
 use Rattle.mh_tables_core.specs.Failing.{CatalogueRow, TooLongAt}
 use Rattle.mh_tables_core.proofs.OneCatalogue.{catalogue_once}
 use Rattle.mh_grammar.specs.Text.{Text}
-use Rattle.mh_report_comments.specs.CatalogueTexts.{AreEntries}
-use Rattle.mh_report_comments.proofs.AreEntries.{entries_once}
+use Rattle.mh_report.specs.CatalogueTexts.{AreEntries}
+use Rattle.mh_report.proofs.AreEntries.{entries_once}
 use Rattle.mh_top_plans.specs.Listing.{too_long, ListsErrors, Lists, TooLong}
 use Rattle.mh_top_drive.specs.declared.stop.Cause.{Cause}
 use Rattle.mh_top_drive.specs.declared.stop.Cause.TheVariants.{Refused}

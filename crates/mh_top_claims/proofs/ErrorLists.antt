@@ -11,10 +11,10 @@ use Rattle.mh_top_drive.specs.ModeBehavior.{HasOutcome}
 use Rattle.mh_top_plans.specs.Plan.{Plan, Ends, Errors, plan_behavior}
 use Rattle.mh_top_claims.specs.Run.{World, DoesWork}
 use Rattle.mh_top_claims.specs.Run as runs
-use Rattle.mh_top_types.specs.Shapes.{Prepared}
+use Rattle.mh_top_drive.specs.Shapes.{Prepared}
 use Rattle.mh_grammar.specs.Text.{Text}
 use Rattle.mh_top_claims.specs.Work.{IsWork}
-use Rattle.mh_top_warnings.specs.Warnings.{warnings_of}
+use Rattle.mh_top_prepare.specs.Warnings.{warnings_of}
 use Rattle.mh_top_drive.specs.declared.stop.Cause.{Cause}
 use Rattle.mh_top_claims.proofs.Claims.{does_work_without_fault}
 use Rattle.mh_top_claims.proofs.FinalOutputOutcome.{yields_end}

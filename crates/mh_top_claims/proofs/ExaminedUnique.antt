@@ -17,8 +17,8 @@ use Rattle.mh_top_drive.specs.StageResults.{StageResult, Gives, Go, Halt, Then}
 use Rattle.mh_top_drive.specs.declared.stop.Cause.TheVariants.{Refused}
 use Rattle.mh_top_drive.proofs.LoadedUnique.{gives_once}
 use Rattle.mh_top_drive.proofs.Then.{IsOne, then_once}
-use Rattle.mh_top_tables.specs.PreparedStage.{IsPreparedFromFiles}
-use Rattle.mh_top_types.specs.Shapes.{Prepared}
+use Rattle.mh_top_prepare.specs.PreparedStage.{IsPreparedFromFiles}
+use Rattle.mh_top_drive.specs.Shapes.{Prepared}
 use Rattle.mh_top_claims.proofs.OrderAndGrammarUnique.{contents_once}
 use Rattle.mh_top_claims.proofs.TableUnique.{tabled_front_once}
 

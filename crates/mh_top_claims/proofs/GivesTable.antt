@@ -27,14 +27,14 @@ use Rattle.mh_top_load.specs.Modules.{AreModules, sample_of}
 use Rattle.mh_top_load.specs.GrammarStage.{IsGrammarStage}
 use Rattle.mh_top_load.specs.Order.{order_result, staged_order}
 use Rattle.mh_top_load.specs.OrderAndGrammar.{IsOrderAndGrammar}
-use Rattle.mh_top_tables.specs.AutomatonSources.{IsAutomatonSource, IsAutomatonSourceBy, source_to_build}
-use Rattle.mh_top_tables.specs.ResolvedStage.{IsTabledAutomaton}
-use Rattle.mh_top_tables.specs.TableFileContent.{IsTableFile}
-use Rattle.mh_top_tables.specs.TableStage.{IsAutomatonStage, mode_of}
-use Rattle.mh_top_tables.specs.declared.sources.AutomatonSource.{AutomatonSource}
-use Rattle.mh_top_tables.specs.declared.sources.AutomatonSource.TheVariants.{Canonical, File, Merged}
-use Rattle.mh_top_types.specs.Shapes.{Prepared, TabledAutomaton}
-use Rattle.mh_top_types.specs.declared.front.OrderAndGrammar.{OrderAndGrammar}
+use Rattle.mh_top_prepare.specs.AutomatonSources.{IsAutomatonSource, IsAutomatonSourceBy, source_to_build}
+use Rattle.mh_top_prepare.specs.ResolvedStage.{IsTabledAutomaton}
+use Rattle.mh_top_prepare.specs.TableFileContent.{IsTableFile}
+use Rattle.mh_top_prepare.specs.TableStage.{IsAutomatonStage, mode_of}
+use Rattle.mh_top_prepare.specs.declared.sources.AutomatonSource.{AutomatonSource}
+use Rattle.mh_top_prepare.specs.declared.sources.AutomatonSource.TheVariants.{Canonical, File, Merged}
+use Rattle.mh_top_drive.specs.Shapes.{Prepared, TabledAutomaton}
+use Rattle.mh_top_drive.specs.declared.front.OrderAndGrammar.{OrderAndGrammar}
 use Rattle.mh_top_claims.specs.GivesTable.{GivesTable, IsAccepted, IsAcceptedAutomaton, BuiltMerged, BuiltCanonical, ReadValid, IsAutomatonOf, IsTableFileOf, without_costs}
 use Rattle.mh_top_claims.specs.GivesTable as given
 use Rattle.mh_top_claims.specs.Preparing.{IsPrepared}

@@ -10,23 +10,23 @@ use Rattle.mh_items_kernels.specs.KernelTypes.{Automaton}
 use Rattle.mh_tables_core.specs.Facts.{Facts}
 use Rattle.mh_tables_core.specs.Failing.{CatalogueRow}
 use Rattle.mh_tables_core.specs.Table.{TableData}
-use Rattle.mh_tabfile_write.proofs.WrittenIsFile.{is_written}
+use Rattle.mh_tabfile.proofs.WrittenIsFile.{is_written}
 use Rattle.mh_msgfile.specs.Lines.{NoLine}
 use Rattle.mh_msgfile.specs.LooseFiles.{LooseSpells}
 use Rattle.mh_msgfile.specs.declared.loose.LooseFile.{LooseFile}
 use Rattle.mh_msgfile.proofs.CanonicalLine.{canonical_line}
 use Rattle.mh_msgfile.proofs.IsLineOf.{spaced_line}
 use Rattle.mh_msgfile.proofs.PrintedAgain.{printed_again}
-use Rattle.mh_report_comments.specs.CatalogueTexts.{AreEntries, IsCatalogueText}
+use Rattle.mh_report.specs.CatalogueTexts.{AreEntries, IsCatalogueText}
 use Rattle.mh_update.proofs.UpdatedAgain.{updated_again}
-use Rattle.mh_rebase_form.specs.RebasedText.{is_new_row, IsRebased}
+use Rattle.mh_rebase.specs.RebasedText.{is_new_row, IsRebased}
 use Rattle.mh_rebase.specs.ReadAgain.{HasNoCr}
 use Rattle.mh_rebase.proofs.IsReadAgain.{reread}
 use Rattle.mh_rebase.proofs.RebasedAgain.{repeated}
 use Rattle.mh_outside.specs.Shelf.{Files}
 use Rattle.mh_top_drive.specs.StageResults.{Go}
 use Rattle.mh_top_load.specs.GrammarNames.{HasFileNames}
-use Rattle.mh_top_types.specs.Shapes.{Prepared}
+use Rattle.mh_top_drive.specs.Shapes.{Prepared}
 use Rattle.mh_top_claims.specs.Preparing.{IsPrepared}
 use Rattle.mh_top_claims.specs.RoundTrips.{HasRoundTrips, IsCompleteMessagesFile}
 use Rattle.mh_top_claims.proofs.HasFileNames.{without_line_ends, word_names}

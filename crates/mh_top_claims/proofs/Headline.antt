@@ -28,7 +28,7 @@ use Rattle.mh_check.specs.Checks.{IsMessage, Sound, sentences_of}
 use Rattle.mh_check.specs.Compiling.{IsCompiled, message_at}
 use Rattle.mh_check.specs.Texts.{compiled_text}
 use Rattle.mh_check.proofs.CheckedOnce.{sound_has_no_fault}
-use Rattle.mh_report_comments.specs.CatalogueTexts.{IsCatalogueText}
+use Rattle.mh_report.specs.CatalogueTexts.{IsCatalogueText}
 use Rattle.mh_top_drive.specs.InputLines.{are_within_limits, lines_of_input, lines_within_limits}
 use Rattle.mh_top_drive.specs.Limits.{line_count_limit, line_limit}
 use Rattle.mh_top_drive.specs.ModeBehavior.{AnswersAll, AreAskedLines, EndsAfterAnswers, HasOutcome, ModeEnd, Outcome}
@@ -47,8 +47,8 @@ use Rattle.mh_top_plans.specs.MessagesFiles.{AreMessages, AreMessagesOf, IsMessa
 use Rattle.mh_top_plans.specs.Plan.{AreOptionalMessages, Ends, EndsWith, Errors, IsPlanOfJob, Judges, Known, Plan, halts, judging_plan, plan_behavior, plan_of_stage, writing_plan}
 use Rattle.mh_top_plans.specs.Verdicts.{VerdictContext, IsAnswerToFound, IsAnswerToLine, IsAnswerWithTrees, IsEndingText, IsRefusalWithTokens, IsSentenceAnswer, IsTreeText, message_or_none, refusal_text}
 use Rattle.mh_top_plans.specs.declared.at_end.FinalText.TheVariants.{Written}
-use Rattle.mh_top_types.specs.Shapes.{Prepared}
-use Rattle.mh_top_warnings.specs.Warnings.{has_warning}
+use Rattle.mh_top_drive.specs.Shapes.{Prepared}
+use Rattle.mh_top_prepare.specs.Warnings.{has_warning}
 use Rattle.mh_top_claims.specs.GivesTable.{GivesTable, IsAccepted}
 use Rattle.mh_top_claims.specs.Headline.{GivesMessages, HasMessage, IsRefusedIn, IsSoundFile, ListsErrorStates, ListsErrorsOfTable, TakesSoundFiles}
 use Rattle.mh_top_claims.specs.Preparing.{IsPrepared}

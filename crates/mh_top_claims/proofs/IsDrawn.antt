@@ -5,9 +5,9 @@ use Rattle.mh_grammar.specs.Plain.{plain_of, start_symbol}
 use Rattle.mh_grammar.specs.Text.{Text}
 use Rattle.mh_msgfile.specs.FileTexts.{sentence_text}
 use Rattle.mh_sample.specs.Sentences.{IsRandomText}
-use Rattle.mh_sample_random.specs.Faults.{AreLonger}
-use Rattle.mh_sample_random.proofs.RandomUnique.{written_once}
-use Rattle.mh_sample_random.proofs.RandomIsSentence.{random_is_sentence}
+use Rattle.mh_sample.specs.Faults.{AreLonger}
+use Rattle.mh_sample.proofs.RandomUnique.{written_once}
+use Rattle.mh_sample.proofs.RandomIsSentence.{random_is_sentence}
 use Rattle.mh_top_plans.specs.Drawn.{IsDrawn}
 use Rattle.mh_top_plans.specs.declared.at_end.FinalText.{FinalText}
 use Rattle.mh_top_plans.specs.declared.at_end.FinalText.TheVariants.{Written, Refusal}

@@ -3,11 +3,11 @@ use Rattle.std.proofs.Common.{◌≡◌, inl, inr, sym, ◌∙◌, ap, subst}
 use Rattle.mh_grammar.specs.declared.types.Sentence.{Sentence}
 use Rattle.mh_tables_core.specs.Run.{Ending, Accepted, Overshot, Rejected, initial}
 use Rattle.mh_tables_core.proofs.RunEnds.{ending_unique}
-use Rattle.mh_report_comments.proofs.OneCommentText.{entry_once}
+use Rattle.mh_report.proofs.OneCommentText.{entry_once}
 use Rattle.mh_msgfile.specs.Sentences.{LineResult, IsSentence, IsUnreadable, NamesNoStart, LacksStart, NamesUnknown, sentence_in, vocabulary_of}
 use Rattle.mh_grammar.specs.Text.{Text}
 use Rattle.mh_top_plans.specs.Explained.{IsExplained, IsExplainedBy, IsExplainedFound}
-use Rattle.mh_top_types.specs.Shapes.{Prepared}
+use Rattle.mh_top_drive.specs.Shapes.{Prepared}
 use Rattle.mh_top_plans.specs.declared.at_end.FinalText.{FinalText}
 use Rattle.mh_top_plans.specs.declared.at_end.FinalText.TheVariants.{Written}
 

@@ -23,7 +23,7 @@ use Rattle.mh_top_load.specs.code.CapitalTokens.{HasCapitalTokens}
 use Rattle.mh_top_load.specs.code.ModuleNames.{HasWordsAsNames}
 use Rattle.mh_top_load.specs.Order.{order_result, staged_order}
 use Rattle.mh_top_load.specs.OrderAndGrammar.{IsOrderAndGrammar}
-use Rattle.mh_top_types.specs.declared.front.OrderAndGrammar.{OrderAndGrammar}
+use Rattle.mh_top_drive.specs.declared.front.OrderAndGrammar.{OrderAndGrammar}
 use Rattle.mh_top_load.proofs.AreNamesApart.{names_apart}
 use Rattle.mh_top_load.proofs.HasFileNames.{has_file_names}
 use Rattle.mh_top_load.proofs.AreModulesReady.{modules_capital, modules_named, modules_ready}

@@ -13,7 +13,7 @@ use Rattle.mh_top_drive.specs.declared.stop.Cause.{Cause}
 use Rattle.mh_top_drive.specs.declared.stop.Cause.TheVariants.{Refused}
 use Rattle.mh_top_drive.proofs.Then.{IsOne}
 use Rattle.mh_top_drive.specs.FileContents.{IsFileContent}
-use Rattle.mh_top_types.specs.Shapes.{Prepared}
+use Rattle.mh_top_drive.specs.Shapes.{Prepared}
 use Rattle.mh_top_plans.specs.MessagesFiles.{IsMessagesFile, IsUpdatedFile, IsUpdatedOf}
 use Rattle.mh_top_plans.proofs.MessagesFileLines.{file_of_table, some_spelled, messages_file_facts}
 use Rattle.mh_top_plans.proofs.FilesOfMode.{ReadFacts, PreparedFacts, StopsAllowed, one_file, read_then}

@@ -4,11 +4,11 @@ use Rattle.mh_grammar.specs.declared.types.Grammar.{Grammar}
 use Rattle.mh_grammar.specs.Plain.{plain_of}
 use Rattle.mh_items_kernels.specs.KernelTypes.{Automaton}
 use Rattle.mh_items_kernels.specs.Automaton.{IsAutomaton}
-use Rattle.mh_canon_states.specs.Canonical.{IsCanonical}
-use Rattle.mh_canon_states.specs.Limits.{max_states}
-use Rattle.mh_pager_steps.specs.MergeSteps.{IsMerged}
-use Rattle.mh_pager_steps.proofs.IsMerged.{merged_automaton}
-use Rattle.mh_pager_steps.proofs.ConflictsAgree.{merged_reaches_any, canonical_reaches_any}
+use Rattle.mh_canon.specs.Canonical.{IsCanonical}
+use Rattle.mh_canon.specs.Limits.{max_states}
+use Rattle.mh_pager.specs.MergeSteps.{IsMerged}
+use Rattle.mh_pager.proofs.IsMerged.{merged_automaton}
+use Rattle.mh_pager.proofs.ConflictsAgree.{merged_reaches_any, canonical_reaches_any}
 use Rattle.mh_resolve_cells.specs.NoConflicts.{HasNoConflicts}
 use Rattle.mh_resolve_cells.proofs.ConflictsAgree.{no_conflicts_agree}
 use Rattle.mh_top_claims.specs.VerdictClaims.{IsLR1Grammar}

@@ -17,13 +17,13 @@ use Rattle.mh_top_load.specs.GrammarStage.{IsGrammarStage}
 use Rattle.mh_top_load.specs.Modules.{AreModules, AreModulesBy, sample_of}
 use Rattle.mh_top_load.specs.Order.{order_result, staged_order}
 use Rattle.mh_top_load.specs.OrderAndGrammar.{IsOrderAndGrammar}
-use Rattle.mh_top_tables.specs.AutomatonSources.{IsAutomatonSource}
-use Rattle.mh_top_tables.specs.PreparedStage.{IsPreparedFromFiles, IsPreparedFromSource}
-use Rattle.mh_top_tables.specs.ResolvedStage.{IsResolvedStage, IsTabledAutomaton}
-use Rattle.mh_top_tables.specs.TableStage.{IsAutomatonStage, mode_of}
-use Rattle.mh_top_tables.specs.declared.sources.AutomatonSource.{AutomatonSource}
-use Rattle.mh_top_types.specs.Shapes.{Prepared, TabledAutomaton}
-use Rattle.mh_top_types.specs.declared.front.OrderAndGrammar.{OrderAndGrammar}
+use Rattle.mh_top_prepare.specs.AutomatonSources.{IsAutomatonSource}
+use Rattle.mh_top_prepare.specs.PreparedStage.{IsPreparedFromFiles, IsPreparedFromSource}
+use Rattle.mh_top_prepare.specs.ResolvedStage.{IsResolvedStage, IsTabledAutomaton}
+use Rattle.mh_top_prepare.specs.TableStage.{IsAutomatonStage, mode_of}
+use Rattle.mh_top_prepare.specs.declared.sources.AutomatonSource.{AutomatonSource}
+use Rattle.mh_top_drive.specs.Shapes.{Prepared, TabledAutomaton}
+use Rattle.mh_top_drive.specs.declared.front.OrderAndGrammar.{OrderAndGrammar}
 use Rattle.mh_top_claims.specs.GivesTable.{HasModule}
 use Rattle.mh_top_claims.specs.Preparing.{IsPrepared}
 

@@ -7,16 +7,16 @@ use Rattle.mh_grammar.specs.Text.{Text}
 use Rattle.mh_top_drive.specs.StageResults.{StageResult, Go, Halt, AfterStage, Gives}
 use Rattle.mh_top_load.specs.Order.{staged_order}
 use Rattle.mh_top_load.specs.OrderAndGrammar.{IsOrderAndGrammar}
-use Rattle.mh_top_types.specs.declared.front.OrderAndGrammar.{OrderAndGrammar}
+use Rattle.mh_top_drive.specs.declared.front.OrderAndGrammar.{OrderAndGrammar}
 use Rattle.mh_top_claims.proofs.IsGrammarReady.{IsGrammarReady, front_limits, front_order, front_ready}
-use Rattle.mh_top_types.specs.Shapes.{Prepared, TabledAutomaton}
+use Rattle.mh_top_drive.specs.Shapes.{Prepared, TabledAutomaton}
 use Rattle.mh_top_claims.specs.Preparing.{IsPrepared}
-use Rattle.mh_top_tables.specs.PreparedStage.{IsPreparedFromSource, IsPreparedFromFiles}
-use Rattle.mh_top_tables.specs.code.SourceFacts.{IsBuilt, HasNumberedStates}
-use Rattle.mh_top_tables.specs.TableStage.{IsTableStage}
-use Rattle.mh_top_tables.specs.AutomatonSources.{IsAutomatonSource}
-use Rattle.mh_top_tables.specs.declared.sources.AutomatonSource.{AutomatonSource}
-use Rattle.mh_top_tables.proofs.HasNumberedStates.{source_built, source_numbered}
+use Rattle.mh_top_prepare.specs.PreparedStage.{IsPreparedFromSource, IsPreparedFromFiles}
+use Rattle.mh_top_prepare.specs.code.SourceFacts.{IsBuilt, HasNumberedStates}
+use Rattle.mh_top_prepare.specs.TableStage.{IsTableStage}
+use Rattle.mh_top_prepare.specs.AutomatonSources.{IsAutomatonSource}
+use Rattle.mh_top_prepare.specs.declared.sources.AutomatonSource.{AutomatonSource}
+use Rattle.mh_top_prepare.proofs.HasNumberedStates.{source_built, source_numbered}
 
 module _ (words : List Text) (files : Option Files) where
   -- The source of the automaton, and the invariants of the grammar.

@@ -7,10 +7,10 @@ use Rattle.mh_top_drive.proofs.Then.{IsOne}
 use Rattle.mh_top_load.specs.OrderAndGrammar.{IsOrderAndGrammar}
 use Rattle.mh_top_claims.proofs.IsGrammarReady.{front_ready}
 use Rattle.mh_top_claims.proofs.OrderAndGrammarUnique.{order_and_grammar_once}
-use Rattle.mh_top_types.specs.declared.front.OrderAndGrammar.{OrderAndGrammar}
+use Rattle.mh_top_drive.specs.declared.front.OrderAndGrammar.{OrderAndGrammar}
 use Rattle.mh_top_claims.proofs.TableUnique.{tabled_front_once}
 use Rattle.mh_top_claims.specs.Preparing.{IsPrepared}
-use Rattle.mh_top_tables.specs.PreparedStage.{IsPreparedFromFiles}
+use Rattle.mh_top_prepare.specs.PreparedStage.{IsPreparedFromFiles}
 
 pub prepared_once : (words : List Text) (files : Files) → IsOne (IsPrepared words (Some files))
 prepared_once words files s r p q = at p.0 q.0 (order_and_grammar_once words files p.0 q.0 p.1 q.1) p.1 p.2 q.2

@@ -8,12 +8,12 @@ use Rattle.mh_outside.specs.Shelf.{Files}
 use Rattle.mh_top_drive.specs.StageResults.{Go}
 use Rattle.mh_top_load.specs.Order.{staged_order}
 use Rattle.mh_top_load.specs.OrderAndGrammar.{IsOrderAndGrammar}
-use Rattle.mh_top_types.specs.declared.front.OrderAndGrammar.{OrderAndGrammar}
+use Rattle.mh_top_drive.specs.declared.front.OrderAndGrammar.{OrderAndGrammar}
 use Rattle.mh_top_claims.specs.Preparing.{IsPrepared}
 use Rattle.mh_top_claims.proofs.IsGrammarReady.{front_order}
 use Rattle.mh_top_claims.specs.Work.{Examining, IsPreparedWork, IsWork, NeedsTable, WithTable, Work}
 use Rattle.mh_top_claims.proofs.PreparedSource.{made}
-use Rattle.mh_top_types.specs.Shapes.{Prepared}
+use Rattle.mh_top_drive.specs.Shapes.{Prepared}
 
 -- The order that the words spell is the only one.
 pub order_needs : (words : List Text) (spelled : Order) → staged_order words ≡ Go spelled → (spelled.job ≡ Check → ⊥) → NeedsTable words

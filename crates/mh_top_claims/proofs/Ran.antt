@@ -10,9 +10,9 @@ use Rattle.mh_grammar.specs.Text.{Text}
 use Rattle.mh_top_drive.specs.Text.{cannot_read, cannot_read_input, out_of_memory}
 use Rattle.mh_top_drive.specs.Statuses.{line_of_cause, last_line_of, status_of}
 use Rattle.mh_top_claims.specs.Work.{Work}
-use Rattle.mh_top_warnings.specs.Warnings.{warnings_of}
+use Rattle.mh_top_prepare.specs.Warnings.{warnings_of}
 use Rattle.mh_top_claims.specs.Run.{World, Ran, Finished, CannotReadFile, CannotReadInput, CannotWarn, CannotWrite, CannotSay, NoMemory, AfterWarnings, AppendsThenPrefix, DoneSoFar, Nothing, Warned, Begun, OfCause, OfFile, OfInput, OfMemory, KeepsFaultCounts}
-use Rattle.mh_top_warnings.specs.code.LastLine.{IsLastLine, ReportsStop, Said, Silent, Failed}
+use Rattle.mh_top_prepare.specs.code.LastLine.{IsLastLine, ReportsStop, Said, Silent, Failed}
 use Rattle.mh_top_claims.specs.code.WorkBeforeLastLine.{IsWorkBeforeLastLine}
 use Rattle.mh_top_drive.specs.declared.stop.Cause.{Cause}
 use Rattle.mh_top_drive.specs.declared.stop.Stop.{Stop}

@@ -3,8 +3,8 @@ use Rattle.std.proofs.Common.{◌≡◌, ◌≤◌, ℕ, Bool, List, Option, Non
 use Rattle.mh_grammar.specs.declared.types.Grammar.{Grammar}
 use Rattle.mh_grammar.specs.Plain.{plain_of}
 use Rattle.mh_items_kernels.specs.KernelTypes.{Automaton}
-use Rattle.mh_canon_states.proofs.OneCanonical.{canonical_unique}
-use Rattle.mh_pager_steps.proofs.OneMerged.{merged_one}
+use Rattle.mh_canon.proofs.OneCanonical.{canonical_unique}
+use Rattle.mh_pager.proofs.OneMerged.{merged_one}
 use Rattle.mh_resolve_cells.proofs.OneResolution.{one_table, conflicts_once}
 use Rattle.mh_resolve_cells.specs.declared.kinds.Mode.{Mode}
 use Rattle.mh_tables_core.specs.Table.{TableData}
@@ -19,7 +19,7 @@ use Rattle.mh_top_drive.specs.declared.stop.Cause.TheVariants.{Refused}
 use Rattle.mh_top_drive.proofs.Then.{IsOne, then_once}
 use Rattle.mh_top_drive.specs.FileContents.{IsFileContent, IsLoaded}
 use Rattle.mh_top_drive.proofs.LoadedUnique.{gives_once, loaded_once}
-use Rattle.mh_top_types.specs.declared.front.OrderAndGrammar.{OrderAndGrammar}
+use Rattle.mh_top_drive.specs.declared.front.OrderAndGrammar.{OrderAndGrammar}
 use Rattle.mh_tables_core.specs.declared.parts.StateParts.{StateParts}
 use Rattle.mh_tabfile_form.specs.declared.types.RawTable.{RawTable}
 use Rattle.mh_tabfile_read.specs.declared.reading.TabFault.{TabFault}
@@ -31,18 +31,18 @@ use Rattle.mh_validate_valid.specs.declared.reason.Reason.{Reason}
 use Rattle.mh_validate_valid.specs.Valid.{AreTokenNamesDistinct, IsValidFor}
 use Rattle.mh_validate_valid.proofs.ValidFailsNone.{valid_not_invalid}
 use Rattle.mh_validate_valid.proofs.ValidityUnique.{automaton_is_one, test_is_one}
-use Rattle.mh_top_types.specs.Shapes.{TabledAutomaton}
-use Rattle.mh_top_tables.specs.TableTexts.{invalid_line}
-use Rattle.mh_top_tables.specs.Loops.{loops_line}
-use Rattle.mh_top_tables.specs.InvalidTableFile.{IsInvalidTableFile}
-use Rattle.mh_top_tables.specs.ResolvedStage.{IsTabledAutomaton, IsResolvedStage, HasFirstLoop}
-use Rattle.mh_top_tables.specs.TableStage.{IsAutomatonStage, IsTableStage, mode_of}
-use Rattle.mh_top_tables.specs.TableFileTexts.{table_fault_line}
-use Rattle.mh_top_tables.specs.TableFileContent.{HasTableFault, IsTableFile}
-use Rattle.mh_top_tables.specs.AutomatonSources.{IsAutomatonSource, IsAutomatonSourceBy, source_to_build}
-use Rattle.mh_top_tables.specs.PreparedStage.{IsPreparedFromSource, IsPreparedFromFiles}
-use Rattle.mh_top_tables.specs.declared.sources.AutomatonSource.{AutomatonSource}
-use Rattle.mh_top_tables.specs.declared.sources.AutomatonSource.TheVariants.{Canonical, Merged, File}
+use Rattle.mh_top_drive.specs.Shapes.{TabledAutomaton}
+use Rattle.mh_top_prepare.specs.TableTexts.{invalid_line}
+use Rattle.mh_top_prepare.specs.Loops.{loops_line}
+use Rattle.mh_top_prepare.specs.InvalidTableFile.{IsInvalidTableFile}
+use Rattle.mh_top_prepare.specs.ResolvedStage.{IsTabledAutomaton, IsResolvedStage, HasFirstLoop}
+use Rattle.mh_top_prepare.specs.TableStage.{IsAutomatonStage, IsTableStage, mode_of}
+use Rattle.mh_top_prepare.specs.TableFileTexts.{table_fault_line}
+use Rattle.mh_top_prepare.specs.TableFileContent.{HasTableFault, IsTableFile}
+use Rattle.mh_top_prepare.specs.AutomatonSources.{IsAutomatonSource, IsAutomatonSourceBy, source_to_build}
+use Rattle.mh_top_prepare.specs.PreparedStage.{IsPreparedFromSource, IsPreparedFromFiles}
+use Rattle.mh_top_prepare.specs.declared.sources.AutomatonSource.{AutomatonSource}
+use Rattle.mh_top_prepare.specs.declared.sources.AutomatonSource.TheVariants.{Canonical, Merged, File}
 
 -- ---- The table file.
 

@@ -9,14 +9,14 @@ use Rattle.mh_grammar.specs.Costs.{HaveCosts}
 use Rattle.mh_grammar.specs.Plain.{PlainGrammar, plain_of, start_symbol, IsInRange, BeginsSentence}
 use Rattle.mh_items_kernels.specs.KernelTypes.{Automaton, Kernel}
 use Rattle.mh_items_kernels.specs.Automaton.{IsAutomaton, kernel_at}
-use Rattle.mh_canon_states.specs.Canonical.{IsCanonical, CanonicalExceeds}
-use Rattle.mh_canon_states.specs.Limits.{max_states}
-use Rattle.mh_canon_states.specs.code.FoundStates.{IsCanonicalState, AreCanonicalStates}
-use Rattle.mh_canon_states.proofs.CollectionIsCanonical.{kernel_at-slice_get}
-use Rattle.mh_canon_states.proofs.CanonicalIsAutomaton.{IsAutomaton-canonical}
-use Rattle.mh_canon_states.proofs.AreCanonicalStates.{CanonicalExceeds-states}
-use Rattle.mh_pager_steps.proofs.IsMerged.{merged_automaton}
-use Rattle.mh_pager_steps.proofs.MergingExceeds.{merged_few}
+use Rattle.mh_canon.specs.Canonical.{IsCanonical, CanonicalExceeds}
+use Rattle.mh_canon.specs.Limits.{max_states}
+use Rattle.mh_canon.specs.code.FoundStates.{IsCanonicalState, AreCanonicalStates}
+use Rattle.mh_canon.proofs.CollectionIsCanonical.{kernel_at-slice_get}
+use Rattle.mh_canon.proofs.CanonicalIsAutomaton.{IsAutomaton-canonical}
+use Rattle.mh_canon.proofs.AreCanonicalStates.{CanonicalExceeds-states}
+use Rattle.mh_pager.proofs.IsMerged.{merged_automaton}
+use Rattle.mh_pager.proofs.MergingExceeds.{merged_few}
 use Rattle.mh_top_claims.proofs.MergedHasNoConflict.{merged_has_no_conflict, canonical_has_no_conflict}
 use Rattle.mh_top_claims.proofs.UnwarnedIsConflictFree.{unwarned_has_no_conflict}
 use Rattle.mh_resolve_cells.specs.NoConflicts.{HasNoConflicts}
@@ -36,9 +36,9 @@ use Rattle.mh_run_exact.proofs.ExactnessLaws.{overshoots, tells_prefix, tells_re
 use Rattle.mh_outside.specs.Shelf.{Files}
 use Rattle.mh_grammar.specs.Text.{Text}
 use Rattle.mh_top_drive.specs.StageResults.{StageResult, Go, Halt, AfterStage}
-use Rattle.mh_top_tables.specs.TableStage.{IsAutomatonStage, mode_of}
-use Rattle.mh_top_tables.specs.ResolvedStage.{IsResolvedStage}
-use Rattle.mh_top_tables.specs.code.SourceFacts.{IsBuilt, HasNumberedStates}
+use Rattle.mh_top_prepare.specs.TableStage.{IsAutomatonStage, mode_of}
+use Rattle.mh_top_prepare.specs.ResolvedStage.{IsResolvedStage}
+use Rattle.mh_top_prepare.specs.code.SourceFacts.{IsBuilt, HasNumberedStates}
 use Rattle.mh_top_claims.proofs.PreparedSource.{IsMade, made}
 use Rattle.mh_validate_valid.proofs.ValidIsAutomaton.{automaton_of}
 use Rattle.mh_resolve_cells.specs.declared.kinds.Mode.{Mode}
@@ -49,14 +49,14 @@ use Rattle.mh_top_plans.specs.MessagesFiles.{Messages}
 use Rattle.mh_top_plans.specs.Plan.{Judges, halts}
 use Rattle.mh_top_check.specs.Examination.{Examined, plan_of_check}
 use Rattle.mh_top_claims.specs.Work.{Examining, WithTable, Work, IsPlanUnlessRefused, IsWork, IsWorkOf}
-use Rattle.mh_top_warnings.specs.Warnings.{has_warning, warnings_of}
+use Rattle.mh_top_prepare.specs.Warnings.{has_warning, warnings_of}
 use Rattle.mh_top_claims.specs.Preparing.{IsPrepared}
 use Rattle.mh_top_claims.specs.VerdictClaims.{IsConflictFree, IsConflictFreeTable, IsLR1Grammar, NamesNoTableFile, AnswersSentence, IsAcceptText, IsRejectText, IsTooDeepText, ShowsTree, AcceptIsExact, RejectIsSound, OvershootIsSound, AcceptIsSound, TooDeepIsExact, HasNoLevels, UnwarnedIsConflictFree}
-use Rattle.mh_top_types.specs.code.Prepared.{IsConsistent}
-use Rattle.mh_top_types.specs.Shapes.{Prepared}
+use Rattle.mh_top_drive.specs.code.Prepared.{IsConsistent}
+use Rattle.mh_top_drive.specs.Shapes.{Prepared}
 use Rattle.mh_top_drive.specs.declared.stop.Cause.{Cause}
-use Rattle.mh_top_tables.specs.declared.sources.AutomatonSource.{AutomatonSource}
-use Rattle.mh_top_tables.specs.declared.sources.AutomatonSource.TheVariants.{Canonical, File, Merged}
+use Rattle.mh_top_prepare.specs.declared.sources.AutomatonSource.{AutomatonSource}
+use Rattle.mh_top_prepare.specs.declared.sources.AutomatonSource.TheVariants.{Canonical, File, Merged}
 use Rattle.mh_tables_core.specs.Halting.{AlwaysHalts}
 use Rattle.mh_top_plans.proofs.FilesOfMode.{PreparedFacts}
 use Rattle.mh_opts.specs.declared.jobs.Job.TheVariants.{Check}

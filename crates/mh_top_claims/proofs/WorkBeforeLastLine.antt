@@ -18,18 +18,18 @@ use Rattle.mh_top_plans.proofs.OpenedAndRan.{ended_halts}
 use Rattle.mh_top_drive.specs.code.StageCalls.{FileStageGives, StageShelfCounts, StageGives, StopsWith as HaltsWith}
 use Rattle.mh_top_load.specs.OrderAndGrammar.{IsOrderAndGrammar, IsWithGrammar}
 use Rattle.mh_top_claims.specs.Preparing.{IsPrepared}
-use Rattle.mh_top_tables.specs.PreparedStage.{IsPreparedFromFiles}
+use Rattle.mh_top_prepare.specs.PreparedStage.{IsPreparedFromFiles}
 use Rattle.mh_top_claims.specs.Work.{Examining, IsPlanOf, IsPlanUnlessRefused, IsWork, NeedsTable, WithTable, Work}
-use Rattle.mh_top_warnings.specs.Warnings.{has_warning, warnings_of}
+use Rattle.mh_top_prepare.specs.Warnings.{has_warning, warnings_of}
 use Rattle.mh_top_drive.specs.ModeBehavior.{input_left}
 use Rattle.mh_top_drive.specs.ModeRuns.{IsCompleteRun, LeavesInput}
 use Rattle.mh_top_drive.specs.code.ModeCalls.{ModeRan, InputAndOutCounts, ModeShelfCounts, OutCounts}
 use Rattle.mh_top_plans.specs.code.Modes.{OpenedAndRan, IsUnopened}
-use Rattle.mh_top_warnings.specs.code.Warnings.{Warned}
+use Rattle.mh_top_prepare.specs.code.Warnings.{Warned}
 use Rattle.mh_top_claims.specs.code.WorkBeforeLastLine.{IsWorkBeforeLastLine}
 use Rattle.mh_top_claims.specs.Run.{World, AfterWarnings, Nothing, Warned as Said, Begun, IsNextToRead, OfCheck, OfGrammar, OfTables, OfMode, LeavesInputAndOut, IsNextAfterWarnings, IsNextUnlessRefused}
-use Rattle.mh_top_types.specs.declared.front.OrderAndGrammar.{OrderAndGrammar}
-use Rattle.mh_top_types.specs.Shapes.{Prepared}
+use Rattle.mh_top_drive.specs.declared.front.OrderAndGrammar.{OrderAndGrammar}
+use Rattle.mh_top_drive.specs.Shapes.{Prepared}
 use Rattle.mh_top_drive.specs.declared.stop.Cause.{Cause}
 use Rattle.mh_top_drive.specs.declared.stop.Cause.TheVariants.{Refused}
 use Rattle.mh_top_drive.specs.declared.stop.Stop.{Stop}

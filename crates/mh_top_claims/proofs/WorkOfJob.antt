@@ -6,11 +6,11 @@ use Rattle.mh_opts.specs.declared.jobs.Job.TheVariants.{Check}
 use Rattle.mh_outside.specs.Shelf.{Files}
 use Rattle.mh_top_drive.specs.StageResults.{StageResult, Go, Halt}
 use Rattle.mh_top_plans.specs.Plan.{Plan, FinalOutput, IsPlanOfJob, Ends}
-use Rattle.mh_top_types.specs.Shapes.{Prepared}
+use Rattle.mh_top_drive.specs.Shapes.{Prepared}
 use Rattle.mh_grammar.specs.Text.{Text}
 use Rattle.mh_top_claims.specs.Preparing.{IsPrepared}
 use Rattle.mh_top_claims.specs.Work.{Work, IsPlanUnlessRefused, IsWork, IsWorkOf}
-use Rattle.mh_top_warnings.specs.Warnings.{has_warning, warnings_of}
+use Rattle.mh_top_prepare.specs.Warnings.{has_warning, warnings_of}
 use Rattle.mh_top_claims.proofs.PreparedUnique.{prepared_once}
 use Rattle.mh_top_claims.proofs.PreparedWork.{prepared_work}
 

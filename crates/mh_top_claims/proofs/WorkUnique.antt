@@ -9,11 +9,11 @@ use Rattle.mh_top_check.specs.Examination.{plan_of_check}
 use Rattle.mh_top_plans.specs.Plan.{Plan, asks_of, plan_behavior}
 use Rattle.mh_top_drive.specs.ModeBehavior.{AnswersAll, AreAskedLines, EndsAfterAnswers, Outcome, HasOutcome, input_left}
 use Rattle.mh_top_claims.specs.Work.{Examining, IsCheckWork, NeedsTable, WithTable, Work, IsPlanUnlessRefused, IsWork, IsWorkOf}
-use Rattle.mh_top_warnings.specs.Warnings.{has_warning}
+use Rattle.mh_top_prepare.specs.Warnings.{has_warning}
 use Rattle.mh_top_claims.specs.Preparing.{IsPrepared}
 use Rattle.mh_top_drive.specs.declared.driving.Asks.{Asks}
 use Rattle.mh_top_drive.specs.declared.driving.Asks.TheVariants.{NoLine, FirstLine, EachLine}
-use Rattle.mh_top_types.specs.Shapes.{Prepared}
+use Rattle.mh_top_drive.specs.Shapes.{Prepared}
 use Rattle.mh_top_drive.specs.declared.stop.Cause.{Cause}
 use Rattle.mh_top_drive.proofs.Then.{IsOne}
 use Rattle.mh_top_claims.proofs.PreparedUnique.{prepared_once}

@@ -10,7 +10,7 @@ use Rattle.mh_tables_core.specs.Failing.{TooLongAt}
 use Rattle.mh_msgfile.specs.FileBlocks.{HasBlocks}
 use Rattle.mh_msgfile.specs.declared.blocks.LooseBlocks.{LooseBlocks}
 use Rattle.mh_lint_messages.specs.Complete.{IsFaultless}
-use Rattle.mh_rebase_form.specs.ErrorLines.{IsErrorText}
+use Rattle.mh_rebase.specs.ErrorLines.{IsErrorText}
 use Rattle.mh_top_drive.specs.FileContents.{IsFound}
 use Rattle.mh_top_drive.specs.StageResults.{Go}
 use Rattle.mh_top_drive.specs.Statuses.{status_of}
@@ -18,9 +18,9 @@ use Rattle.mh_top_claims.specs.Claims.{HasNoDeviceFault}
 use Rattle.mh_top_plans.specs.ErrorsChecked.{cause_of_lines}
 use Rattle.mh_top_plans.specs.Listing.{too_long}
 use Rattle.mh_top_claims.specs.Run.{World}
-use Rattle.mh_top_types.specs.Shapes.{Prepared}
+use Rattle.mh_top_drive.specs.Shapes.{Prepared}
 use Rattle.mh_top_claims.specs.Preparing.{IsPrepared}
-use Rattle.mh_top_warnings.specs.Warnings.{has_warning, warnings_of}
+use Rattle.mh_top_prepare.specs.Warnings.{has_warning, warnings_of}
 
 -- The words ask to examine the messages file of this name and these bytes, and their grammar is accepted: the grammar
 -- has a table, and `--strict` does not refuse its conflicts.

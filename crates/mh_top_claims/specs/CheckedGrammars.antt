@@ -13,8 +13,8 @@ use Rattle.mh_top_check.specs.Examination.{AreExamined, Examined, built_of, fron
 use Rattle.mh_top_drive.specs.StageResults.{Go}
 use Rattle.mh_top_drive.specs.Statuses.{status_of}
 use Rattle.mh_top_load.specs.Order.{staged_order}
-use Rattle.mh_top_tables.specs.PreparedStage.{IsPreparedFromFiles}
-use Rattle.mh_top_types.specs.Shapes.{Prepared}
+use Rattle.mh_top_prepare.specs.PreparedStage.{IsPreparedFromFiles}
+use Rattle.mh_top_drive.specs.Shapes.{Prepared}
 use Rattle.mh_top_claims.specs.Claims.{HasNoDeviceFault}
 use Rattle.mh_top_claims.specs.Run.{World}
 use Rattle.mh_top_plans.specs.GrammarChecked.{cause_of_findings}

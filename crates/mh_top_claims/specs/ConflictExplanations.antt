@@ -10,10 +10,10 @@ use Rattle.mh_resolve_cells.specs.Conflicts.{AreConflicts}
 use Rattle.mh_top_drive.specs.StageResults.{Go}
 use Rattle.mh_top_claims.specs.Claims.{HasNoDeviceFault}
 use Rattle.mh_top_claims.specs.Run.{World}
-use Rattle.mh_top_types.specs.Shapes.{Prepared}
+use Rattle.mh_top_drive.specs.Shapes.{Prepared}
 use Rattle.mh_grammar.specs.Text.{Text}
 use Rattle.mh_top_claims.specs.Preparing.{IsPrepared}
-use Rattle.mh_top_warnings.specs.Warnings.{has_warning, warnings_of}
+use Rattle.mh_top_prepare.specs.Warnings.{has_warning, warnings_of}
 
 -- The words ask for explanations, and their grammar is accepted: it has a table, and `--strict` does not refuse its
 -- conflicts.

@@ -8,13 +8,13 @@ use Rattle.mh_outside.specs.Shelf.{Files}
 use Rattle.mh_tables_core.specs.Failing.{TooLongAt}
 use Rattle.mh_top_drive.specs.StageResults.{Go}
 use Rattle.mh_top_claims.specs.Claims.{HasNoDeviceFault}
-use Rattle.mh_report_comments.specs.CatalogueTexts.{IsCatalogueText}
+use Rattle.mh_report.specs.CatalogueTexts.{IsCatalogueText}
 use Rattle.mh_top_plans.specs.Listing.{too_long}
 use Rattle.mh_top_claims.specs.Run.{World}
-use Rattle.mh_top_types.specs.Shapes.{Prepared}
+use Rattle.mh_top_drive.specs.Shapes.{Prepared}
 use Rattle.mh_grammar.specs.Text.{Text}
 use Rattle.mh_top_claims.specs.Preparing.{IsPrepared}
-use Rattle.mh_top_warnings.specs.Warnings.{has_warning, warnings_of}
+use Rattle.mh_top_prepare.specs.Warnings.{has_warning, warnings_of}
 
 -- The words ask for the list of errors, and their grammar is accepted: it has a table, and `--strict` does not refuse
 -- its conflicts.

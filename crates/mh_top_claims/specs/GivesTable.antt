@@ -19,9 +19,9 @@ use Rattle.mh_opts.specs.Orders.{order_of}
 use Rattle.mh_opts.specs.declared.order.Order.{Order}
 use Rattle.mh_items_kernels.specs.KernelTypes.{Automaton}
 use Rattle.mh_items_kernels.specs.Automaton.{IsAutomaton}
-use Rattle.mh_canon_states.specs.Canonical.{IsCanonical, CanonicalExceeds}
-use Rattle.mh_canon_states.specs.Limits.{max_states}
-use Rattle.mh_pager_steps.specs.MergeSteps.{IsMerged, MergingExceeds}
+use Rattle.mh_canon.specs.Canonical.{IsCanonical, CanonicalExceeds}
+use Rattle.mh_canon.specs.Limits.{max_states}
+use Rattle.mh_pager.specs.MergeSteps.{IsMerged, MergingExceeds}
 use Rattle.mh_resolve_cells.specs.States.{IsTableOf}
 use Rattle.mh_resolve_cells.specs.Conflicts.{AreConflicts}
 use Rattle.mh_resolve_cells.specs.declared.conflicts.Conflict.{Conflict}
@@ -35,7 +35,7 @@ use Rattle.mh_tabfile_form.specs.Form.{IsFileOf, table_text}
 use Rattle.mh_tabfile_form.specs.TableContent.{raw_of}
 use Rattle.mh_validate_valid.specs.Valid.{IsValidFor}
 use Rattle.mh_top_drive.specs.FileContents.{IsFound}
-use Rattle.mh_top_warnings.specs.Warnings.{has_warning}
+use Rattle.mh_top_prepare.specs.Warnings.{has_warning}
 
 -- ---- The grammar.
 

@@ -21,7 +21,7 @@ use Rattle.mh_msgfile.specs.Messages.{MsgSpells}
 use Rattle.mh_msgfile.specs.Sentences.{IsSentence, sentence_in, vocabulary_of}
 use Rattle.mh_msgfile.specs.declared.messages.MsgFile.{MsgFile}
 use Rattle.mh_check.specs.Checks.{Sound, IsMessage, sentences_of}
-use Rattle.mh_report_comments.specs.CatalogueTexts.{AreEntries}
+use Rattle.mh_report.specs.CatalogueTexts.{AreEntries}
 use Rattle.mh_top_drive.specs.FileContents.{IsFound}
 use Rattle.mh_top_drive.specs.InputLines.{lines_of_input}
 use Rattle.mh_top_claims.specs.Claims.{HasNoDeviceFault}

@@ -6,7 +6,7 @@ use Rattle.mh_grammar.specs.Text.{Text}
 use Rattle.mh_top_drive.specs.StageResults.{Go}
 use Rattle.mh_top_load.specs.Modules.{grammar_files}
 use Rattle.mh_top_load.specs.Order.{staged_order}
-use Rattle.mh_top_tables.specs.MayAskForTables.{MayAskForTables}
+use Rattle.mh_top_prepare.specs.MayAskForTables.{MayAskForTables}
 use Rattle.mh_top_plans.specs.Files.{files_of_mode}
 
 -- The shelf may be asked for each file that the words name: the grammar files of the order, its table file, and the

@@ -4,8 +4,8 @@ use Rattle.mh_outside.specs.Shelf.{Files}
 use Rattle.mh_grammar.specs.Text.{Text}
 use Rattle.mh_top_drive.specs.StageResults.{StageResult, Then}
 use Rattle.mh_top_load.specs.OrderAndGrammar.{IsOrderAndGrammar}
-use Rattle.mh_top_types.specs.Shapes.{Prepared}
-use Rattle.mh_top_tables.specs.PreparedStage.{IsPreparedFromFiles}
+use Rattle.mh_top_drive.specs.Shapes.{Prepared}
+use Rattle.mh_top_prepare.specs.PreparedStage.{IsPreparedFromFiles}
 
 -- The order that the words spell with its grammar and its table, or the cause for which the work stops.
 abbrev pub IsPrepared : List Text → Option Files → StageResult Prepared → Type 0

@@ -14,9 +14,9 @@ use Rattle.mh_top_drive.specs.StageResults.{Go}
 use Rattle.mh_top_claims.specs.Claims.{HasNoDeviceFault}
 use Rattle.mh_top_plans.specs.Listing.{too_long}
 use Rattle.mh_top_claims.specs.Run.{World}
-use Rattle.mh_top_types.specs.Shapes.{Prepared}
+use Rattle.mh_top_drive.specs.Shapes.{Prepared}
 use Rattle.mh_top_claims.specs.Preparing.{IsPrepared}
-use Rattle.mh_top_warnings.specs.Warnings.{has_warning, warnings_of}
+use Rattle.mh_top_prepare.specs.Warnings.{has_warning, warnings_of}
 
 -- The words ask to rebase a messages file with these entries, and their grammar is accepted: it has a table, and
 -- `--strict` does not refuse its conflicts.

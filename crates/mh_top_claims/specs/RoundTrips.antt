@@ -18,14 +18,14 @@ use Rattle.mh_msgfile.specs.declared.loose.LooseFile.{LooseFile}
 use Rattle.mh_msgfile.specs.declared.messages.MsgFile.{MsgFile}
 use Rattle.mh_msgfile.specs.declared.messages.MsgSentence.{MsgSentence}
 use Rattle.mh_check.specs.Checks.{FailsIn, Sound, sentences_of}
-use Rattle.mh_report_comments.specs.CatalogueTexts.{IsCatalogueText}
+use Rattle.mh_report.specs.CatalogueTexts.{IsCatalogueText}
 use Rattle.mh_update.specs.NoLineEnds.{HasNoCrAtEnds}
-use Rattle.mh_update_renewed.specs.Updates.{IsUpdated}
-use Rattle.mh_rebase_form.specs.RebasedText.{IsRebased, kept_entries_text}
+use Rattle.mh_update.specs.Updates.{IsUpdated}
+use Rattle.mh_rebase.specs.RebasedText.{IsRebased, kept_entries_text}
 use Rattle.mh_rebase.specs.ReadAgain.{HasNoCr as HasNoCrInEntries}
 use Rattle.mh_top_load.specs.GrammarNames.{HasFileNames}
 use Rattle.mh_top_plans.specs.Plan.{table_file_text}
-use Rattle.mh_top_types.specs.Shapes.{Prepared}
+use Rattle.mh_top_drive.specs.Shapes.{Prepared}
 
 -- The text spells a messages file in which each sentence fails at its last token, no two fail in one state, and each
 -- state in which some sentence fails has a sentence.

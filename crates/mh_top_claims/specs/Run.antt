@@ -18,12 +18,12 @@ use Rattle.mh_top_drive.specs.NextFile.{IsNextFile}
 use Rattle.mh_top_claims.specs.NextTableFile.{IsTableFileNext}
 use Rattle.mh_top_drive.specs.ModeBehavior.{Outcome, HasOutcome}
 use Rattle.mh_top_claims.specs.Work.{IsWork, NeedsTable, Work}
-use Rattle.mh_top_warnings.specs.Warnings.{has_warning, warnings_of}
+use Rattle.mh_top_prepare.specs.Warnings.{has_warning, warnings_of}
 use Rattle.mh_top_claims.specs.Preparing.{IsPrepared}
 use Rattle.mh_top_plans.specs.Files.{IsNextFileOfJob}
 use Rattle.mh_top_plans.specs.Plan.{plan_behavior}
 use Rattle.mh_top_drive.specs.ModeRuns.{IsPartialRun, ReadFailsAt, WriteFailsAt, LacksMemoryAt, LeavesInput, IsCompleteRun}
-use Rattle.mh_top_types.specs.Shapes.{Prepared}
+use Rattle.mh_top_drive.specs.Shapes.{Prepared}
 use Rattle.mh_top_drive.specs.declared.stop.Cause.{Cause}
 
 -- The devices at one moment: the files of the shelf, the rest of the input, and the texts on out and err, as far as

@@ -7,13 +7,13 @@ use Rattle.mh_grammar.specs.declared.types.Sentence.{Sentence}
 use Rattle.mh_grammar.specs.Plain.{plain_of, start_symbol, BeginsSentence}
 use Rattle.mh_items_kernels.specs.KernelTypes.{Automaton}
 use Rattle.mh_items_kernels.specs.Automaton.{IsAutomaton}
-use Rattle.mh_pager_steps.specs.ReachedConflicts.{ReachesAnyConflict}
+use Rattle.mh_pager.specs.ReachedConflicts.{ReachesAnyConflict}
 use Rattle.mh_resolve_cells.specs.States.{IsTableOf}
 use Rattle.mh_resolve_cells.specs.declared.kinds.Mode.{Mode}
 use Rattle.mh_resolve_cells.specs.NoConflicts.{HasNoConflicts}
 use Rattle.mh_tables_core.specs.Table.{TableData}
 use Rattle.mh_grammar.specs.Trees.{SyntaxTree, IsTreeFor, tree_text, yield_of}
-use Rattle.mh_sample_random.specs.Random.{IsRandom}
+use Rattle.mh_sample.specs.Random.{IsRandom}
 use Rattle.mh_run_exact.specs.Exactness.{IsPrefixSentence, AllProductive}
 use Rattle.mh_tables_core.specs.TreeRuns.{IsTooDeep}
 use Rattle.mh_opts.specs.declared.order.Order.{Order}

@@ -10,8 +10,8 @@ use Rattle.mh_opts.specs.declared.order.Order.{Order}
 use Rattle.mh_top_check.specs.Examination.{IsPlanOfCheck}
 use Rattle.mh_top_load.specs.Order.{staged_order}
 use Rattle.mh_top_claims.specs.Preparing.{IsPrepared}
-use Rattle.mh_top_types.specs.Shapes.{Prepared}
-use Rattle.mh_top_warnings.specs.Warnings.{has_warning, warnings_of}
+use Rattle.mh_top_drive.specs.Shapes.{Prepared}
+use Rattle.mh_top_prepare.specs.Warnings.{has_warning, warnings_of}
 use Rattle.mh_top_plans.specs.Plan.{Plan, IsPlanOfJob, halts}
 
 -- The text of the warnings on err, and the plan of the mode after them.

@@ -16,7 +16,7 @@ ghost use Rattle.mh_opts.specs.declared.order.Order.{Order};
 ghost use Rattle.mh_top_check.specs.Examination.{AreExamined, Examined};
 ghost use Rattle.mh_top_load.specs.Order.{staged_order};
 ghost use Rattle.mh_top_claims.specs.Preparing.{IsPrepared};
-ghost use Rattle.mh_top_types.specs.Shapes.{Prepared};
+ghost use Rattle.mh_top_drive.specs.Shapes.{Prepared};
 
 /// Over known files the words ask for at most one work, and a mode has at most one outcome on a known input.
 pub fn work_is_unique()

@@ -8,3 +8,4 @@ pub mod ModeRuns
 pub mod FileContents
 pub mod NextFile
 pub mod code
+pub mod Shapes

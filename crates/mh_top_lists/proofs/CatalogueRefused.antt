@@ -5,8 +5,8 @@ use Rattle.std.specs.Prelude.{Err}
 use Rattle.mh_grammar.specs.Text.{Text}
 use Rattle.mh_tables_core.specs.Table.{TableData}
 use Rattle.mh_tables_core.specs.Failing.{TooLongAt}
-use Rattle.mh_catalogue_rows.specs.declared.rows.CatalogueFault.{CatalogueFault}
-use Rattle.mh_catalogue_rows.specs.declared.rows.CatalogueFault.TheVariants as faults
+use Rattle.mh_catalogue.specs.declared.rows.CatalogueFault.{CatalogueFault}
+use Rattle.mh_catalogue.specs.declared.rows.CatalogueFault.TheVariants as faults
 use Rattle.mh_msgfile.specs.declared.loose.LooseFile.{LooseFile}
 use Rattle.mh_lint_messages.specs.declared.errors.ErrorsFault.{ErrorsFault}
 use Rattle.mh_lint_messages.specs.declared.errors.ErrorsFault.TheVariants as examining
@@ -19,7 +19,7 @@ use Rattle.mh_top_drive.specs.ModeBehavior.{ModeEnd}
 use Rattle.mh_top_drive.specs.declared.stop.Cause.TheVariants.{Refused}
 use Rattle.mh_top_drive.specs.declared.stop.Stop.{Stop}
 use Rattle.mh_top_drive.specs.declared.stop.Stop.TheVariants.{Halted, ShelfFailed, InputFailed, WriteFailed, OutOfMemory}
-use Rattle.mh_top_types.specs.Shapes.{Prepared}
+use Rattle.mh_top_drive.specs.Shapes.{Prepared}
 use Rattle.mh_top_plans.specs.Listing.{too_long}
 use Rattle.mh_top_plans.specs.Listing as lists
 use Rattle.mh_top_plans.specs.Plan.{IsFinalOutput, Checked, Errors, Rebased, Sampled}

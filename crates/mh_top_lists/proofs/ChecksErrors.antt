@@ -3,13 +3,13 @@ use Rattle.std.proofs.Common.{◌≡◌, ◌⊎◌, ℕ, Option, refl, sym, inl,
 use Rattle.std.specs.Prelude.{Result, Ok, Err}
 use Rattle.mh_grammar.specs.Text.{Text}
 use Rattle.mh_msgfile.specs.declared.blocks.LooseBlocks.{LooseBlocks}
-use Rattle.mh_rebase_form.specs.ErrorLines.{IsErrorText}
+use Rattle.mh_rebase.specs.ErrorLines.{IsErrorText}
 use Rattle.mh_tables_core.specs.Failing.{TooLongAt}
 use Rattle.mh_top_drive.specs.code.ModeCalls.{EndIsWritten}
 use Rattle.mh_top_drive.specs.ModeBehavior.{ModeEnd}
 use Rattle.mh_top_drive.specs.declared.stop.Stop.{Stop}
 use Rattle.mh_top_drive.specs.declared.stop.Stop.TheVariants.{Halted, ShelfFailed, InputFailed, WriteFailed, OutOfMemory}
-use Rattle.mh_top_types.specs.Shapes.{Prepared}
+use Rattle.mh_top_drive.specs.Shapes.{Prepared}
 use Rattle.mh_top_plans.specs.ErrorsChecked.{Checks, cause_of_lines}
 use Rattle.mh_top_plans.specs.Plan.{IsFinalOutput, Plan, Ends, Checked}
 

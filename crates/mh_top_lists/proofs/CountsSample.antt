@@ -7,7 +7,7 @@ use Rattle.mh_sample.specs.Counts.{IsSampleLine}
 use Rattle.mh_top_drive.specs.code.ModeCalls.{EndIsWritten}
 use Rattle.mh_top_drive.specs.declared.stop.Stop.{Stop}
 use Rattle.mh_top_drive.specs.declared.stop.Stop.TheVariants.{Halted, ShelfFailed, InputFailed, WriteFailed, OutOfMemory}
-use Rattle.mh_top_types.specs.Shapes.{Prepared}
+use Rattle.mh_top_drive.specs.Shapes.{Prepared}
 use Rattle.mh_top_plans.specs.Plan.{IsFinalOutput, Sampled}
 use Rattle.mh_top_plans.specs.Sampled.{Counts}
 use Rattle.mh_top_lists.specs.code.Entries.{WritesWholeText}

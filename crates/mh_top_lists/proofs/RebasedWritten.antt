@@ -3,12 +3,12 @@ use Rattle.std.proofs.Common.{◌≡◌, ℕ, Option, None, refl}
 use Rattle.std.specs.Prelude.{Result, Ok, Err}
 use Rattle.mh_grammar.specs.Text.{Text}
 use Rattle.mh_msgfile.specs.declared.loose.LooseFile.{LooseFile}
-use Rattle.mh_rebase_form.specs.RebasedText.{IsRebased}
+use Rattle.mh_rebase.specs.RebasedText.{IsRebased}
 use Rattle.mh_tables_core.specs.Failing.{TooLongAt}
 use Rattle.mh_top_drive.specs.code.ModeCalls.{EndIsWritten, TextIsWritten}
 use Rattle.mh_top_drive.specs.declared.stop.Stop.{Stop}
 use Rattle.mh_top_drive.specs.declared.stop.Stop.TheVariants.{Halted, ShelfFailed, InputFailed, WriteFailed, OutOfMemory}
-use Rattle.mh_top_types.specs.Shapes.{Prepared}
+use Rattle.mh_top_drive.specs.Shapes.{Prepared}
 use Rattle.mh_top_plans.specs.Plan.{IsFinalOutput, Plan, Ends, Rebased}
 use Rattle.mh_top_plans.specs.Rebased.{Rebases}
 

@@ -14,12 +14,12 @@ use Rattle.mh_tables_core.specs.Halting.{HaltingFacts}
 use Rattle.mh_tables_core.specs.Failing.{CatalogueRow, FailsFirst, Catalogue, TooLongAt}
 use Rattle.mh_tables_core.specs.Run.{initial}
 use Rattle.mh_run.specs.Trace.{reduced_since}
-use Rattle.mh_catalogue_rows.specs.declared.rows.Row.{Row as MadeRow}
-use Rattle.mh_catalogue_rows.specs.Rows.{row_of, rows_of, AreShort}
-use Rattle.mh_report_comments.specs.Comments.{comments, message_placeholder}
-use Rattle.mh_report_comments.proofs.CommentParts.{some_block}
-use Rattle.mh_report_comments.proofs.HasFarthestDot.{some_farthest}
-use Rattle.mh_report_comments.proofs.AreEntries.{entries_append}
+use Rattle.mh_catalogue.specs.declared.rows.Row.{Row as MadeRow}
+use Rattle.mh_catalogue.specs.Rows.{row_of, rows_of, AreShort}
+use Rattle.mh_report.specs.Comments.{comments, message_placeholder}
+use Rattle.mh_report.proofs.CommentParts.{some_block}
+use Rattle.mh_report.proofs.HasFarthestDot.{some_farthest}
+use Rattle.mh_report.proofs.AreEntries.{entries_append}
 use Rattle.mh_tables_core.proofs.RefusingState.{refusing_state_known}
 use Rattle.mh_msgfile.specs.FileTexts.{sentence_text}
 use Rattle.mh_grammar.specs.Text.{Text}
@@ -27,8 +27,8 @@ use Rattle.mh_top_plans.specs.Listing.{Lists}
 use Rattle.mh_top_drive.specs.ModeBehavior.{ModeEnd}
 use Rattle.mh_top_plans.specs.Plan.{IsFinalOutput, Errors}
 use Rattle.mh_top_lists.specs.code.Entries.{AreEntriesOf, AreFailingRows, IsEntryOf, IsFailingRow, WritesTextInParts, WritesWholeText}
-use Rattle.mh_top_types.specs.code.Prepared.{IsConsistent}
-use Rattle.mh_top_types.specs.Shapes.{Prepared}
+use Rattle.mh_top_drive.specs.code.Prepared.{IsConsistent}
+use Rattle.mh_top_drive.specs.Shapes.{Prepared}
 use Rattle.mh_top_drive.specs.code.ModeCalls.{EndIsWritten, TextIsWritten}
 use Rattle.mh_top_drive.specs.declared.stop.Stop.{Stop}
 use Rattle.mh_top_drive.specs.declared.stop.Stop.TheVariants.{Halted, ShelfFailed, InputFailed, WriteFailed, OutOfMemory}

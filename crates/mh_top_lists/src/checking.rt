@@ -12,9 +12,8 @@ use crate::refusing::errors_stop_of;
 use mh_lint_messages::error_lines;
 use mh_msgfile::LooseBlocks;
 use mh_outside::{Shelf, Sink, Source};
-use mh_top_drive::{Stop, refused, write_text};
+use mh_top_drive::{Prepared, Stop, refused, write_text};
 use mh_top_plans::{Writer, read_examined_file, write_at_end};
-use mh_top_types::Prepared;
 use std::alloc::Global;
 
 /// The mode of `--check-errors`, as a writer of what is wrong with the file.
@@ -42,7 +41,7 @@ impl<const W: usize> Writer for FileErrors<'_, W> {
     ghost use Rattle.std.specs.Prelude.{◌≤◌};
     ghost use Rattle.mh_msgfile.specs.LooseFiles.{HasShortLines};
     ghost use Rattle.mh_top_plans.specs.Plan.{Checked};
-    ghost use Rattle.mh_top_types.specs.code.Prepared.{IsConsistent};
+    ghost use Rattle.mh_top_drive.specs.code.Prepared.{IsConsistent};
 
     ghost is_ready = { λ s. (W ≤ 8) × IsConsistent s.prepared.now × HasShortLines s.blocks.file };
 

@@ -2,14 +2,13 @@
 ghost use Rattle.std.specs.Prelude.{IfOk};
 ghost use Rattle.mh_explain.specs.Explanations.{AreExplanations};
 ghost use Rattle.mh_items.specs.Fitting.{FitsSets};
-ghost use Rattle.mh_top_types.specs.code.Prepared.{IsConsistent};
+ghost use Rattle.mh_top_drive.specs.code.Prepared.{IsConsistent};
 
 use mh_explain::explanation_text;
 use mh_grammar::{Memory, Sequence};
 use mh_outside::Sink;
-use mh_top_drive::{Stop, write_text};
+use mh_top_drive::{Prepared, Stop, write_text};
 use mh_top_plans::Writer;
-use mh_top_types::Prepared;
 use std::alloc::Global;
 
 /// The mode of `--explain`, as a writer of the explanations of conflicts.
@@ -38,7 +37,7 @@ fn explained<const W: usize>(alloc: Global, prepared: &Prepared<W>) -> Result<Se
 impl<const W: usize> Writer for ConflictExplanations<'_, W> {
     ghost use Rattle.mh_items.specs.Fitting.{FitsSets};
     ghost use Rattle.mh_top_plans.specs.Plan.{Conflicts};
-    ghost use Rattle.mh_top_types.specs.code.Prepared.{IsConsistent};
+    ghost use Rattle.mh_top_drive.specs.code.Prepared.{IsConsistent};
 
     ghost is_ready = { λ s. FitsSets W s.prepared.now.grammar × IsConsistent s.prepared.now };
 

@@ -1,15 +1,14 @@
 //! Writes the entries of the catalogue's rows, one after the other.
 ghost use Rattle.std.specs.Prelude.{◌≤◌, IfOk};
-ghost use Rattle.mh_catalogue_rows.specs.Rows.{row_of, rows_of};
+ghost use Rattle.mh_catalogue.specs.Rows.{row_of, rows_of};
 ghost use Rattle.mh_top_lists.specs.code.Entries.{AreEntriesOf, AreFailingRows, IsEntryOf, IsFailingRow, WritesTextInParts, WritesWholeText};
-ghost use Rattle.mh_top_types.specs.code.Prepared.{IsConsistent};
+ghost use Rattle.mh_top_drive.specs.code.Prepared.{IsConsistent};
 ghost use Rattle.mh_top_drive.specs.code.ModeCalls.{OutCounts};
 
-use mh_catalogue_rows::Row;
+use mh_catalogue::Row;
 use mh_outside::Sink;
-use mh_report_comments::Commenter;
-use mh_top_drive::{Stop, write_text};
-use mh_top_types::Prepared;
+use mh_report::Commenter;
+use mh_top_drive::{Prepared, Stop, write_text};
 use std::alloc::Global;
 
 /// Writes the entry of one row.

@@ -4,9 +4,8 @@ use crate::entries::write_entries;
 use crate::refusing::stop_of;
 use mh_catalogue::catalogue;
 use mh_outside::Sink;
-use mh_top_drive::Stop;
+use mh_top_drive::{Prepared, Stop};
 use mh_top_plans::Writer;
-use mh_top_types::Prepared;
 use std::alloc::Global;
 
 /// The mode of `--list-errors`, as a writer of the list of errors.
@@ -18,7 +17,7 @@ pub struct ErrorList<'a, const W: usize> {
 impl<'a, const W: usize> Writer for ErrorList<'a, W> {
     ghost use Rattle.std.specs.Prelude.{◌≤◌};
     ghost use Rattle.mh_top_plans.specs.Plan.{Errors};
-    ghost use Rattle.mh_top_types.specs.code.Prepared.{IsConsistent};
+    ghost use Rattle.mh_top_drive.specs.code.Prepared.{IsConsistent};
 
     ghost is_ready = { λ s. (W ≤ 8) × IsConsistent s.prepared.now };
 

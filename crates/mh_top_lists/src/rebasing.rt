@@ -11,9 +11,8 @@ use crate::refusing::rebase_stop_of;
 use mh_msgfile::LooseFile;
 use mh_outside::{Shelf, Sink, Source};
 use mh_rebase::rebase;
-use mh_top_drive::{Stop, write_text};
+use mh_top_drive::{Prepared, Stop, write_text};
 use mh_top_plans::{Writer, read_loose_file, write_at_end};
-use mh_top_types::Prepared;
 use std::alloc::Global;
 
 /// The mode of `--rebase-errors`, as a writer of the rebased file.
@@ -27,7 +26,7 @@ impl<const W: usize> Writer for RebasedFile<'_, W> {
     ghost use Rattle.std.specs.Prelude.{◌≤◌};
     ghost use Rattle.mh_msgfile.specs.LooseFiles.{HasShortLines};
     ghost use Rattle.mh_top_plans.specs.Plan.{Rebased};
-    ghost use Rattle.mh_top_types.specs.code.Prepared.{IsConsistent};
+    ghost use Rattle.mh_top_drive.specs.code.Prepared.{IsConsistent};
 
     ghost is_ready = { λ s. (W ≤ 8) × IsConsistent s.prepared.now × HasShortLines s.file };
 

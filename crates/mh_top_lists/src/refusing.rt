@@ -5,7 +5,7 @@ ghost use Rattle.mh_top_drive.specs.code.StageCalls.{StopsWith};
 ghost use Rattle.mh_top_drive.specs.declared.stop.Cause.TheVariants.{Refused};
 ghost use Rattle.mh_top_plans.specs.Listing.{too_long as too_long_line};
 
-use mh_catalogue_rows::CatalogueFault;
+use mh_catalogue::CatalogueFault;
 use mh_lint_messages::ErrorsFault;
 use mh_rebase::RebaseFault;
 use mh_top_drive::{Stop, refused};

@@ -3,15 +3,14 @@
 ghost use Rattle.mh_sample.specs.Counts.{IsSampleLine};
 ghost use Rattle.mh_top_drive.specs.code.ModeCalls.{OutCounts};
 ghost use Rattle.mh_top_lists.specs.code.Entries.{WritesWholeText};
-ghost use Rattle.mh_top_types.specs.code.Prepared.{IsConsistent};
+ghost use Rattle.mh_top_drive.specs.code.Prepared.{IsConsistent};
 
 use crate::refusing::stop_of;
 use mh_catalogue::catalogue;
 use mh_outside::Sink;
 use mh_sample::sample_line;
-use mh_top_drive::{Stop, write_text};
+use mh_top_drive::{Prepared, Stop, write_text};
 use mh_top_plans::Writer;
-use mh_top_types::Prepared;
 use std::alloc::Global;
 
 /// Writes the line of counts. `listed` is the number of rows of the catalogue.
@@ -42,7 +41,7 @@ pub struct SampleCounts<'a, const W: usize> {
 impl<const W: usize> Writer for SampleCounts<'_, W> {
     ghost use Rattle.std.specs.Prelude.{◌≤◌};
     ghost use Rattle.mh_top_plans.specs.Plan.{Sampled};
-    ghost use Rattle.mh_top_types.specs.code.Prepared.{IsConsistent};
+    ghost use Rattle.mh_top_drive.specs.code.Prepared.{IsConsistent};
 
     ghost is_ready = { λ s. (W ≤ 8) × IsConsistent s.prepared.now };
 

@@ -19,7 +19,7 @@ use Rattle.mh_top_load.specs.Modules.{AreModules, grammar_files}
 use Rattle.mh_top_load.specs.code.NextGrammarFile.{IsNextGrammarFile}
 use Rattle.mh_top_load.specs.GrammarStage.{IsGrammarStage}
 use Rattle.mh_top_load.specs.OrderAndGrammar.{IsOrderAndGrammar, IsWithGrammar}
-use Rattle.mh_top_types.specs.declared.front.OrderAndGrammar.{OrderAndGrammar}
+use Rattle.mh_top_drive.specs.declared.front.OrderAndGrammar.{OrderAndGrammar}
 
 -- The grammar of an order.
 module _ (files : Option Files) (order : Order) where

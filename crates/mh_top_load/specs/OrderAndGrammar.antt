@@ -7,7 +7,7 @@ use Rattle.mh_top_load.specs.Order.{staged_order}
 use Rattle.mh_top_load.specs.Modules.{AreModules}
 use Rattle.mh_top_load.specs.GrammarStage.{IsGrammarStage}
 use Rattle.mh_opts.specs.declared.order.Order.{Order}
-use Rattle.mh_top_types.specs.declared.front.OrderAndGrammar.{OrderAndGrammar}
+use Rattle.mh_top_drive.specs.declared.front.OrderAndGrammar.{OrderAndGrammar}
 
 -- An order with the grammar of its modules, or the cause for which the work stops.
 abbrev pub IsWithGrammar : Order → Option Files → StageResult OrderAndGrammar → Type 0

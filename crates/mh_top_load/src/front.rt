@@ -18,8 +18,7 @@ use crate::grammar::grammar_in;
 use crate::modules::modules_of;
 use mh_opts::Order;
 use mh_outside::Shelf;
-use mh_top_drive::Stop;
-use mh_top_types::OrderAndGrammar;
+use mh_top_drive::{OrderAndGrammar, Stop};
 use std::alloc::Global;
 
 /// Gives an order with its grammar. Reads the grammar files of the order.

@@ -8,7 +8,7 @@ use Rattle.mh_top_drive.specs.declared.stop.Stop.{Stop}
 use Rattle.mh_top_drive.proofs.Then.{names_wider, then_on, then_stops}
 use Rattle.mh_top_drive.specs.FileContents.{IsFileContent}
 use Rattle.mh_top_drive.proofs.ReadFilesLoop.{turn_first}
-use Rattle.mh_top_types.specs.Shapes.{Prepared}
+use Rattle.mh_top_drive.specs.Shapes.{Prepared}
 use Rattle.mh_top_plans.specs.MessagesFiles.{AreMessagesOfBoth, Messages}
 use Rattle.mh_top_plans.proofs.AreMessagesOfBoth.{Next, Stage, second_turn}
 use Rattle.mh_top_plans.proofs.IsNextFileOfJob.{IsNextOfMode}

@@ -8,10 +8,10 @@ use Rattle.mh_run.specs.Verdicts.{ending_for}
 use Rattle.mh_run.specs.declared.outcome.Verdict.{Verdict}
 use Rattle.mh_run.specs.declared.outcome.Verdict.TheVariants as verdicts
 use Rattle.mh_check.specs.Texts.{ending_text, early_text}
-use Rattle.mh_report_comments.specs.Comments.{IsEntryText}
+use Rattle.mh_report.specs.Comments.{IsEntryText}
 use Rattle.mh_grammar.specs.Text.{Text}
 use Rattle.mh_top_plans.specs.Explained.{IsExplainedSentence, input_refusal}
-use Rattle.mh_top_types.specs.Shapes.{Prepared}
+use Rattle.mh_top_drive.specs.Shapes.{Prepared}
 use Rattle.mh_top_plans.specs.declared.at_end.FinalText.{FinalText}
 use Rattle.mh_top_plans.specs.declared.at_end.FinalText.TheVariants.{Written}
 

@@ -7,15 +7,14 @@ ghost use Rattle.mh_top_plans.specs.Files.{IsNextFileOfJob};
 ghost use Rattle.mh_top_plans.specs.MessagesFiles.{AreMessagesOfBoth};
 ghost use Rattle.mh_top_plans.specs.code.Modes.{Opens, WritesFinal};
 ghost use Rattle.mh_top_plans.specs.Plan.{IsPlanOfJob};
-ghost use Rattle.mh_top_types.specs.code.Prepared.{IsConsistent};
+ghost use Rattle.mh_top_drive.specs.code.Prepared.{IsConsistent};
 ghost use Rattle.mh_top_drive.specs.code.StageCalls.{FileStageGives, StageShelfCounts};
 
 use mh_check::{Compiled, compare};
 use mh_grammar::{Memory, Sequence};
 use mh_outside::Shelf;
-use mh_top_drive::Stop;
+use mh_top_drive::{Prepared, Stop};
 use mh_top_plans::{FinalText, read_messages_file};
-use mh_top_types::Prepared;
 use mh_update::missing_text;
 use std::alloc::Global;
 

@@ -2,13 +2,13 @@
 //! why the line has no entry.
 ghost use Rattle.std.specs.Prelude.{◌≡◌, ◌<◌, ◌≤◌, ◌^◌, ◌++◌, ℕ, [], length, codes, IfOk};
 ghost use Rattle.mh_tables_core.specs.Failing.{Fails};
-ghost use Rattle.mh_report_comments.specs.Comments.{IsEntryText};
+ghost use Rattle.mh_report.specs.Comments.{IsEntryText};
 ghost use Rattle.mh_run.specs.Verdicts.{ending_for};
 ghost use Rattle.mh_check.specs.Texts.{ending_text as ending_words, early_text};
 ghost use Rattle.mh_top_plans.specs.Explained.{IsExplained, IsExplainedSentence, input_refusal};
 ghost use Rattle.mh_top_drive.specs.code.ModeCalls.{ModeRan, InputAndOutCounts};
 ghost use Rattle.mh_top_plans.specs.Plan.{Explains, plan_behavior};
-ghost use Rattle.mh_top_types.specs.code.Prepared.{IsConsistent};
+ghost use Rattle.mh_top_drive.specs.code.Prepared.{IsConsistent};
 ghost use Rattle.mh_tables_core.specs.Sentences.{FitsTable};
 ghost use Rattle.mh_top_modes.specs.code.Running.{MayRun};
 
@@ -16,11 +16,10 @@ use mh_check::{ending_text, write_early};
 use mh_grammar::{Memory, Sentence, Sequence};
 use mh_msgfile::{SentenceFault, read_sentence};
 use mh_outside::{Sink, Source};
-use mh_report_comments::Commenter;
+use mh_report::Commenter;
 use mh_run::{Verdict, verdict};
-use mh_top_drive::{Asks, Mode, Stop, drive};
+use mh_top_drive::{Asks, Mode, Prepared, Stop, drive};
 use mh_top_plans::{FinalText, write_final};
-use mh_top_types::Prepared;
 use std::alloc::Global;
 
 /// The refusal of the input, with the reason that the three parts make.
@@ -145,7 +144,7 @@ struct Explaining<'a, const W: usize> {
 impl<'a, const W: usize> Mode for Explaining<'a, W> {
     ghost use Rattle.std.specs.Prelude.{◌≡◌, ◌≤◌, ◌<◌, ◌^◌, length};
     ghost use Rattle.mh_top_plans.specs.Plan.{Plan, plan_behavior, Explains};
-    ghost use Rattle.mh_top_types.specs.code.Prepared.{IsConsistent};
+    ghost use Rattle.mh_top_drive.specs.code.Prepared.{IsConsistent};
 
     ghost State = { Plan };
 

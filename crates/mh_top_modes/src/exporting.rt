@@ -1,14 +1,13 @@
 //! The mode of `--write-tables`: the automaton and its table as a table file.
 ghost use Rattle.std.specs.Prelude.{◌≡◌, ◌≤◌, IfOk};
-ghost use Rattle.mh_top_types.specs.code.Prepared.{IsConsistent};
+ghost use Rattle.mh_top_drive.specs.code.Prepared.{IsConsistent};
 ghost use Rattle.mh_top_plans.specs.Plan.{table_file_text};
 
 use mh_grammar::{Memory, Sequence};
 use mh_outside::Sink;
-use mh_tabfile_write::write_tables;
-use mh_top_drive::{Stop, write_text};
+use mh_tabfile::write_tables;
+use mh_top_drive::{Prepared, Stop, write_text};
 use mh_top_plans::Writer;
-use mh_top_types::Prepared;
 use std::alloc::Global;
 
 /// The mode of `--write-tables`, as a writer of the table file.
@@ -38,7 +37,7 @@ impl<const W: usize> Writer for TableFile<'_, W> {
     ghost use Rattle.mh_top_plans.specs.FinalText.{end_of_final_text};
     ghost use Rattle.mh_top_plans.specs.Plan.{Known, table_file_text};
     ghost use Rattle.mh_top_plans.specs.declared.at_end.FinalText.TheVariants.{Written};
-    ghost use Rattle.mh_top_types.specs.code.Prepared.{IsConsistent};
+    ghost use Rattle.mh_top_drive.specs.code.Prepared.{IsConsistent};
 
     ghost is_ready = { λ s. (W ≤ 8) × IsConsistent s.prepared.now };
 

@@ -4,7 +4,7 @@ ghost use Rattle.std.specs.Prelude.{◌≡◌, ◌≤◌};
 ghost use Rattle.mh_top_plans.specs.Files.{IsNextFileOfJob};
 ghost use Rattle.mh_top_plans.specs.code.Modes.{Opens, WritesFinal};
 ghost use Rattle.mh_top_plans.specs.Plan.{IsPlanOfJob};
-ghost use Rattle.mh_top_types.specs.code.Prepared.{IsConsistent};
+ghost use Rattle.mh_top_drive.specs.code.Prepared.{IsConsistent};
 ghost use Rattle.mh_top_drive.specs.code.StageCalls.{StageShelfCounts};
 ghost use Rattle.mh_top_modes.specs.FileTexts.{job_for};
 
@@ -12,9 +12,8 @@ use crate::updating::read_updated_file;
 use mh_check::compiled_text;
 use mh_msgfile::echo;
 use mh_outside::Shelf;
-use mh_top_drive::Stop;
+use mh_top_drive::{Prepared, Stop};
 use mh_top_plans::{FinalText, read_messages_file, read_spelled_file, written};
-use mh_top_types::Prepared;
 use std::alloc::Global;
 
 /// The text that a mode makes from one messages file.

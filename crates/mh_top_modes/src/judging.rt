@@ -13,7 +13,7 @@ ghost use Rattle.mh_top_plans.specs.Plan.{Judges, IsPlanOfJob, AreOptionalMessag
 ghost use Rattle.mh_top_plans.specs.Files.{IsNextFileOfJob, optional_file};
 ghost use Rattle.mh_top_drive.specs.code.StageCalls.{FileStageGives, StageShelfCounts};
 ghost use Rattle.mh_top_drive.specs.code.ModeCalls.{InputAndOutCounts, ModeShelfCounts};
-ghost use Rattle.mh_top_types.specs.code.Prepared.{IsConsistent};
+ghost use Rattle.mh_top_drive.specs.code.Prepared.{IsConsistent};
 ghost use Rattle.mh_top_plans.specs.Verdicts.{IsAnswerToLine, IsEndingText, IsOutcomeText, IsRefusalText, IsTreeText, IsVerdictText, IsSentenceAnswer, expected_line, message_or_none, refusal_text as refusal_line};
 ghost use Rattle.mh_top_modes.specs.JudgingContext.{context_of};
 ghost use Rattle.mh_tables_core.specs.Sentences.{FitsTable};
@@ -28,9 +28,8 @@ use mh_outside::{Shelf, Sink, Source};
 use mh_report::write_number;
 use mh_run::{Verdict, verdict};
 use mh_tables_core::Halting;
-use mh_top_drive::{Asks, Mode, Stop, drive_opened, joined};
+use mh_top_drive::{Asks, Mode, Prepared, Stop, drive_opened, joined};
 use mh_top_plans::read_messages_file;
-use mh_top_types::Prepared;
 use mh_tree::print_tree;
 use std::alloc::Global;
 

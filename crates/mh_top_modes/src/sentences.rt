@@ -9,9 +9,8 @@ ghost use Rattle.mh_top_plans.specs.declared.at_end.FinalText.TheVariants.{Refus
 use mh_grammar::{Grammar, Memory, Sequence, start_name};
 use mh_outside::Sink;
 use mh_sample::{RandomFault, random_text, shortest_text};
-use mh_top_drive::{Stop, write_text};
+use mh_top_drive::{Prepared, Stop, write_text};
 use mh_top_plans::{FinalText, Writer, write_final, written};
-use mh_top_types::Prepared;
 use std::alloc::Global;
 
 /// The writer of the shortest word of each nonterminal.
@@ -31,7 +30,7 @@ fn lines(alloc: Global, grammar: &Grammar) -> Result<Sequence<u8>, Memory>
 impl<const W: usize> Writer for ShortestWords<'_, W> {
     ghost use Rattle.std.specs.Prelude.{◌≤◌};
     ghost use Rattle.mh_top_plans.specs.Plan.{Shortest};
-    ghost use Rattle.mh_top_types.specs.code.Prepared.{IsConsistent};
+    ghost use Rattle.mh_top_drive.specs.code.Prepared.{IsConsistent};
 
     ghost is_ready = { λ s. (W ≤ 8) × IsConsistent s.prepared.now };
 
@@ -82,7 +81,7 @@ impl<const W: usize> Writer for RandomSentence<'_, W> {
     ghost use Rattle.std.specs.Prelude.{◌≤◌};
     ghost use Rattle.mh_opts.specs.Numbers.{max_length};
     ghost use Rattle.mh_top_plans.specs.Plan.{Random};
-    ghost use Rattle.mh_top_types.specs.code.Prepared.{IsConsistent};
+    ghost use Rattle.mh_top_drive.specs.code.Prepared.{IsConsistent};
 
     ghost is_ready = { λ s. (W ≤ 8) × IsConsistent s.prepared.now × (s.length ≤ max_length) };
 

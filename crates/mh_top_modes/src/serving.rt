@@ -7,15 +7,14 @@ ghost use Rattle.mh_session.specs.Represents.{Represents};
 ghost use Rattle.mh_top_drive.specs.code.ModeCalls.{InputAndOutCounts};
 ghost use Rattle.mh_top_plans.specs.code.Modes.{OpenedAndRan, Opens};
 ghost use Rattle.mh_top_plans.specs.Plan.{Serves};
-ghost use Rattle.mh_top_types.specs.code.Prepared.{IsConsistent};
+ghost use Rattle.mh_top_drive.specs.code.Prepared.{IsConsistent};
 ghost use Rattle.mh_top_modes.specs.code.Running.{MayRun};
 
 use mh_grammar::{Grammar, Memory};
 use mh_msgfile::Lexicon;
 use mh_outside::{Sink, Source};
 use mh_session::{Session, answer_line};
-use mh_top_drive::{Asks, Mode, Stop, drive_opened};
-use mh_top_types::Prepared;
+use mh_top_drive::{Asks, Mode, Prepared, Stop, drive_opened};
 use std::alloc::Global;
 
 /// The mode of `--session`: the session, and the names by which lines are read.

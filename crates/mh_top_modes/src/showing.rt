@@ -1,14 +1,13 @@
 //! The mode of `--show-automaton`: the automaton as text.
 ghost use Rattle.std.specs.Prelude.{◌≤◌, IfOk};
 ghost use Rattle.mh_report.specs.Automata.{IsAutomatonText};
-ghost use Rattle.mh_top_types.specs.code.Prepared.{IsConsistent};
+ghost use Rattle.mh_top_drive.specs.code.Prepared.{IsConsistent};
 
 use mh_grammar::{Memory, Sequence};
 use mh_outside::Sink;
 use mh_report::automaton_text;
-use mh_top_drive::{Stop, write_text};
+use mh_top_drive::{Prepared, Stop, write_text};
 use mh_top_plans::Writer;
-use mh_top_types::Prepared;
 use std::alloc::Global;
 
 /// The mode of `--show-automaton`, as a writer of the text of the automaton.
@@ -37,7 +36,7 @@ fn shown<const W: usize>(alloc: Global, prepared: &Prepared<W>) -> Result<Sequen
 impl<'a, const W: usize> Writer for AutomatonText<'a, W> {
     ghost use Rattle.std.specs.Prelude.{◌≤◌};
     ghost use Rattle.mh_top_plans.specs.Plan.{Automaton};
-    ghost use Rattle.mh_top_types.specs.code.Prepared.{IsConsistent};
+    ghost use Rattle.mh_top_drive.specs.code.Prepared.{IsConsistent};
 
     ghost is_ready = { λ s. (W ≤ 8) × IsConsistent s.prepared.now };
 

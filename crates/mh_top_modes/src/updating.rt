@@ -3,16 +3,15 @@
 ghost use Rattle.std.specs.Prelude.{◌≡◌, ◌≤◌, length};
 ghost use Rattle.mh_msgfile.specs.Messages.{AreSentencesOf};
 ghost use Rattle.mh_top_plans.specs.MessagesFiles.{IsUpdatedFile, IsUpdatedOf};
-ghost use Rattle.mh_top_types.specs.code.Prepared.{IsConsistent};
+ghost use Rattle.mh_top_drive.specs.code.Prepared.{IsConsistent};
 ghost use Rattle.mh_top_drive.specs.code.StageCalls.{FileStageGives, StageShelfCounts, StageGives};
 
 use mh_check::CheckFault;
 use mh_grammar::Sequence;
 use mh_msgfile::MsgFile;
 use mh_outside::Shelf;
-use mh_top_drive::Stop;
+use mh_top_drive::{Prepared, Stop};
 use mh_top_plans::{no_fit, read_spelled_file};
-use mh_top_types::Prepared;
 use mh_update::update;
 use std::alloc::Global;
 

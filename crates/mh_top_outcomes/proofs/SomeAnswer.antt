@@ -44,7 +44,7 @@ use Rattle.mh_top_plans.specs.Verdicts.{VerdictContext, IsAnswerToFound, IsAnswe
 use Rattle.mh_top_plans.specs.declared.at_end.FinalText.{FinalText}
 use Rattle.mh_top_plans.specs.declared.at_end.FinalText.TheVariants.{Written}
 use Rattle.mh_top_plans.proofs.FilesOfMode.{PreparedFacts}
-use Rattle.mh_top_types.specs.Shapes.{Prepared}
+use Rattle.mh_top_drive.specs.Shapes.{Prepared}
 use Rattle.mh_top_outcomes.proofs.SelectedNumbers.{selected_numbers}
 use Rattle.mh_top_outcomes.proofs.SomeFed.{IsBranchOf, Stops, branch_offered, branch_resumed, feeding_stops}
 use Rattle.mh_top_outcomes.proofs.SomeEntries.{some_entry}

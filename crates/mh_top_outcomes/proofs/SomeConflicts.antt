@@ -21,8 +21,8 @@ use Rattle.mh_resolve_cells.specs.Conflicts.{IsConflictOf, IsConflictBefore, Are
 use Rattle.mh_resolve_cells.proofs.ConflictList.{unsolved_conflict}
 use Rattle.mh_grammar.specs.NotLacking.{NotLacking}
 use Rattle.mh_grammar.proofs.NotLacking.{given, chain, decided, select}
-use Rattle.mh_canon_states.proofs.ItemsOfGrammar.{looks_from, look_in, looks_rising}
-use Rattle.mh_canon_states.proofs.MovedKernels.{close_in, kernel_in}
+use Rattle.mh_canon.proofs.ItemsOfGrammar.{looks_from, look_in, looks_rising}
+use Rattle.mh_canon.proofs.MovedKernels.{close_in, kernel_in}
 
 module _ (g : Grammar) (a : Automaton) (range : IsInRange (plain_of g)) (automaton : IsAutomaton (plain_of g) a) where
   -- A look with a reduction is a look of the grammar.

@@ -9,9 +9,9 @@ use Rattle.mh_grammar.specs.Text.{Text}
 use Rattle.mh_msgfile.specs.Sentences.{LineResult, IsSentence, IsUnreadable, NamesNoStart, LacksStart, NamesUnknown, sentence_in, vocabulary_of}
 use Rattle.mh_msgfile.proofs.SentenceBounds.{sentence_start, sentence_tokens}
 use Rattle.mh_check.specs.Checks.{Accepts, Overshoots}
-use Rattle.mh_rebase_form.specs.Decisions.{DecidedLine, LineIsUnreadable, StartIsUnknown, StartIsMissing, TokenIsUnknown, SentenceIsNotRefused, SentenceIsRefusedEarly, StateIsShared, IsReason, kept_line}
-use Rattle.mh_rebase_form.specs.declared.reason.DropReason.{DropReason}
-use Rattle.mh_rebase_form.specs.declared.reason.DropReason.TheVariants as reasons
+use Rattle.mh_rebase.specs.Decisions.{DecidedLine, LineIsUnreadable, StartIsUnknown, StartIsMissing, TokenIsUnknown, SentenceIsNotRefused, SentenceIsRefusedEarly, StateIsShared, IsReason, kept_line}
+use Rattle.mh_rebase.specs.declared.reason.DropReason.{DropReason}
+use Rattle.mh_rebase.specs.declared.reason.DropReason.TheVariants as reasons
 use Rattle.mh_run.specs.declared.outcome.Verdict.TheVariants.{Accept, Overshoot}
 use Rattle.mh_tables_core.specs.Table.{TableData}
 use Rattle.mh_tables_core.specs.Failing.{Fails}

@@ -8,10 +8,10 @@ use Rattle.mh_grammar.specs.Text.{Text}
 use Rattle.mh_items_kernels.specs.KernelTypes.{Automaton}
 use Rattle.mh_items_kernels.specs.Automaton.{IsAutomaton, kernel_at}
 use Rattle.mh_msgfile.specs.FileTexts.{sentence_text}
-use Rattle.mh_report_comments.specs.CatalogueTexts.{AreEntries}
-use Rattle.mh_report_comments.specs.Comments.{IsCommentBlock, IsEntryText, comments, message_placeholder}
-use Rattle.mh_report_comments.proofs.CommentParts.{some_block}
-use Rattle.mh_report_comments.proofs.HasFarthestDot.{some_farthest}
+use Rattle.mh_report.specs.CatalogueTexts.{AreEntries}
+use Rattle.mh_report.specs.Comments.{IsCommentBlock, IsEntryText, comments, message_placeholder}
+use Rattle.mh_report.proofs.CommentParts.{some_block}
+use Rattle.mh_report.proofs.HasFarthestDot.{some_farthest}
 use Rattle.mh_resolve_cells.specs.declared.kinds.Mode.{Mode}
 use Rattle.mh_resolve_cells.specs.States.{IsTableOf}
 use Rattle.mh_run.specs.Trace.{reduced_since}

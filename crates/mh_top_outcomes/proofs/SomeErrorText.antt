@@ -7,13 +7,13 @@ use Rattle.mh_grammar.specs.Plain.{plain_of}
 use Rattle.mh_grammar.specs.Text.{Text}
 use Rattle.mh_grammar.specs.NotLacking.{NotLacking}
 use Rattle.mh_grammar.proofs.NotLacking.{given, chain}
-use Rattle.mh_rebase_form.specs.ErrorLines.{IsLineDecision, AreLineDecisions, IsErrorText, entries_text, missing_texts, unpaired_text}
+use Rattle.mh_rebase.specs.ErrorLines.{IsLineDecision, AreLineDecisions, IsErrorText, entries_text, missing_texts, unpaired_text}
 use Rattle.mh_lint_messages.proofs.DecidesEntries.{decided_append}
 use Rattle.mh_msgfile.specs.declared.blocks.LooseBlocks.{LooseBlocks}
 use Rattle.mh_msgfile.specs.declared.loose.LooseEntry.{LooseEntry}
 use Rattle.mh_msgfile.specs.declared.loose.LooseLine.{LooseLine}
-use Rattle.mh_rebase_form.specs.Decisions.{Decision, Keep, Drop, DecidedLine}
-use Rattle.mh_rebase_form.specs.RebasedText.{DecidedEntry, is_new_row, lines_in, without_decisions}
+use Rattle.mh_rebase.specs.Decisions.{Decision, Keep, Drop, DecidedLine}
+use Rattle.mh_rebase.specs.RebasedText.{DecidedEntry, is_new_row, lines_in, without_decisions}
 use Rattle.mh_tables_core.specs.Halting.{HaltingFacts}
 use Rattle.mh_tables_core.specs.Table.{TableData}
 use Rattle.mh_top_outcomes.proofs.SomeCatalogue.{some_catalogue}

@@ -29,8 +29,8 @@ use Rattle.mh_top_load.proofs.AreModulesReady.{spelled_capitals}
 use Rattle.mh_top_load.specs.Order.{staged_order}
 use Rattle.mh_top_load.specs.code.CapitalTokens.{HasCapitalTokens}
 use Rattle.mh_top_load.specs.code.ModuleNames.{HasWordsAsNames}
-use Rattle.mh_top_tables.specs.PreparedStage.{IsPreparedFromFiles}
-use Rattle.mh_top_types.specs.Shapes.{Prepared}
+use Rattle.mh_top_prepare.specs.PreparedStage.{IsPreparedFromFiles}
+use Rattle.mh_top_drive.specs.Shapes.{Prepared}
 use Rattle.mh_top_outcomes.proofs.SomeFaultLines.{AreFaultyOrAccepted, faulty_or_accepted}
 use Rattle.mh_top_outcomes.proofs.SomeWarningLines.{some_warning_lines}
 use Rattle.mh_top_outcomes.proofs.SomeWork.{some_prepared, some_tabled, then_some}

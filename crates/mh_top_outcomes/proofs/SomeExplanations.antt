@@ -12,8 +12,8 @@ use Rattle.mh_grammar.specs.Text.{Text}
 use Rattle.mh_grammar.proofs.Lists.{contains_map, map_contains}
 use Rattle.mh_grammar.specs.NotLacking.{NotLacking}
 use Rattle.mh_grammar.proofs.NotLacking.{given, chain, decided, select}
-use Rattle.mh_canon_states.proofs.ItemsOfGrammar.{place_in, places, places_rising}
-use Rattle.mh_canon_states.proofs.MovedKernels.{close_in, kernel_in}
+use Rattle.mh_canon.proofs.ItemsOfGrammar.{place_in, places, places_rising}
+use Rattle.mh_canon.proofs.MovedKernels.{close_in, kernel_in}
 use Rattle.mh_items_kernels.specs.KernelTypes.{Automaton, KernelItem}
 use Rattle.mh_items_kernels.specs.Automaton.{IsAutomaton, closure_of, edges_at, kernel_at, kernel_of}
 use Rattle.mh_items_kernels.specs.Kernels.{IsItemBefore}

@@ -31,8 +31,8 @@ use Rattle.mh_top_drive.specs.ModeBehavior.{ModeEnd, Outcome, HasOutcome, Answer
 use Rattle.mh_top_drive.specs.declared.driving.Asks.{Asks}
 use Rattle.mh_top_drive.specs.declared.driving.Asks.TheVariants.{NoLine, FirstLine, EachLine}
 use Rattle.mh_top_drive.specs.declared.stop.Cause.TheVariants.{LongInput, Refused}
-use Rattle.mh_top_types.specs.Shapes.{Prepared}
-use Rattle.mh_top_warnings.specs.Warnings.{has_warning}
+use Rattle.mh_top_drive.specs.Shapes.{Prepared}
+use Rattle.mh_top_prepare.specs.Warnings.{has_warning}
 use Rattle.mh_top_plans.specs.Compared.{comparison_result}
 use Rattle.mh_top_plans.specs.FinalText.{end_of_final_text}
 use Rattle.mh_top_plans.specs.declared.at_end.FinalText.{FinalText}

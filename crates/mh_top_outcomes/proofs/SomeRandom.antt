@@ -13,10 +13,10 @@ use Rattle.mh_grammar.proofs.Lists.{at_contains, contains_at, get_within}
 use Rattle.mh_grammar.specs.NotLacking.{NotLacking}
 use Rattle.mh_grammar.proofs.NotLacking.{given, chain, decided}
 use Rattle.mh_msgfile.specs.FileTexts.{sentence_text}
-use Rattle.mh_sample_shortest.proofs.ShortLex.{shortlex_length}
-use Rattle.mh_sample_random.specs.Limits.{max_draws}
-use Rattle.mh_sample_random.specs.Random as random
-use Rattle.mh_sample_random.specs.Random.{CanEnd, IsCandidate, IsChosen, IsRandom, Writes, draw}
+use Rattle.mh_sample.proofs.ShortLex.{shortlex_length}
+use Rattle.mh_sample.specs.DrawLimit.{max_draws}
+use Rattle.mh_sample.specs.Random as random
+use Rattle.mh_sample.specs.Random.{CanEnd, IsCandidate, IsChosen, IsRandom, Writes, draw}
 use Rattle.mh_top_plans.specs.Drawn.{IsDrawn, none_within}
 use Rattle.mh_top_plans.specs.declared.at_end.FinalText.{FinalText}
 use Rattle.mh_top_plans.specs.declared.at_end.FinalText.TheVariants.{Written, Refusal}

@@ -13,8 +13,8 @@ use Rattle.mh_msgfile.specs.declared.loose.LooseLine.{LooseLine}
 use Rattle.mh_msgfile.specs.declared.loose.LooseEntry.{LooseEntry}
 use Rattle.mh_msgfile.specs.declared.loose.LooseFile.{LooseFile}
 use Rattle.mh_rebase.proofs.DecidesEntries.{decided_append}
-use Rattle.mh_rebase_form.specs.Decisions.{Decision, Keep, Drop, DecidedLine, IsDecision, AreDecided}
-use Rattle.mh_rebase_form.specs.RebasedText.{DecidedEntry, IsRebased, is_new_row, kept_entries_text, dropped_entries_text, lines_in, without_decisions}
+use Rattle.mh_rebase.specs.Decisions.{Decision, Keep, Drop, DecidedLine, IsDecision, AreDecided}
+use Rattle.mh_rebase.specs.RebasedText.{DecidedEntry, IsRebased, is_new_row, kept_entries_text, dropped_entries_text, lines_in, without_decisions}
 use Rattle.mh_resolve_cells.specs.declared.kinds.Mode.{Mode}
 use Rattle.mh_resolve_cells.specs.States.{IsTableOf}
 use Rattle.mh_tables_core.specs.Table.{TableData}

@@ -12,11 +12,11 @@ use Rattle.mh_grammar.specs.Text.{Text}
 use Rattle.mh_grammar.specs.NotLacking.{NotLacking}
 use Rattle.mh_grammar.proofs.NotLacking.{given, chain, decided, tabled}
 use Rattle.mh_sample.specs.Sentences.{IsShortestText, lines_from}
-use Rattle.mh_sample_shortest.specs.Limits.{max_word}
-use Rattle.mh_sample_shortest.specs.Shortest.{IsLeast, IsShortest, ShortLex}
-use Rattle.mh_sample_shortest.specs.declared.word.Shortest.{Shortest}
-use Rattle.mh_sample_shortest.specs.declared.word.Shortest.TheVariants.{None, Longer, Word}
-use Rattle.mh_sample_shortest.proofs.ShortLex.{shortlex_length}
+use Rattle.mh_sample.specs.WordLimit.{max_word}
+use Rattle.mh_sample.specs.Shortest.{IsLeast, IsShortest, ShortLex}
+use Rattle.mh_sample.specs.declared.word.Shortest.{Shortest}
+use Rattle.mh_sample.specs.declared.word.Shortest.TheVariants.{None, Longer, Word}
+use Rattle.mh_sample.proofs.ShortLex.{shortlex_length}
 use Rattle.mh_top_outcomes.proofs.LeastExample.{Least, least_number, LeastWord, least_word}
 
 module _ (g : PlainGrammar) where

@@ -3,7 +3,7 @@ use Rattle.mh_grammar.specs.NotLacking.{NotLacking}
 use Rattle.mh_grammar.proofs.NotLacking.{given, chain, decided, tabled}
 use Rattle.mh_reader.proofs.SpellsOrSyntaxLine.{read_always}
 use Rattle.mh_front.proofs.SomeGrammar.{some_grammar}
-use Rattle.mh_canon_states.proofs.SomeCanonical as canon
+use Rattle.mh_canon.proofs.SomeCanonical as canon
 use Rattle.mh_pager.proofs.SomeMerged as merging
 use Rattle.mh_validate.proofs.SomeParts.{some_parts}
 use Rattle.mh_validate.proofs.ValidOrInvalid as valid
@@ -34,33 +34,33 @@ use Rattle.mh_top_load.specs.OrderAndGrammar.{IsOrderAndGrammar}
 use Rattle.mh_top_load.specs.Texts.{syntax_error, refusal}
 use Rattle.mh_top_load.proofs.AreModulesReady.{modules_ready}
 use Rattle.mh_sample.specs.Texts.{grammar_text}
-use Rattle.mh_top_types.specs.declared.front.OrderAndGrammar.{OrderAndGrammar}
-use Rattle.mh_top_tables.specs.AutomatonSources.{IsAutomatonSource, IsAutomatonSourceBy, source_to_build}
-use Rattle.mh_top_tables.specs.TableFileContent.{IsTableFile}
-use Rattle.mh_top_tables.specs.TableFileTexts.{table_fault_line}
-use Rattle.mh_top_tables.specs.declared.sources.AutomatonSource.{AutomatonSource}
-use Rattle.mh_top_tables.specs.declared.sources.AutomatonSource.TheVariants.{Canonical, Merged, File}
+use Rattle.mh_top_drive.specs.declared.front.OrderAndGrammar.{OrderAndGrammar}
+use Rattle.mh_top_prepare.specs.AutomatonSources.{IsAutomatonSource, IsAutomatonSourceBy, source_to_build}
+use Rattle.mh_top_prepare.specs.TableFileContent.{IsTableFile}
+use Rattle.mh_top_prepare.specs.TableFileTexts.{table_fault_line}
+use Rattle.mh_top_prepare.specs.declared.sources.AutomatonSource.{AutomatonSource}
+use Rattle.mh_top_prepare.specs.declared.sources.AutomatonSource.TheVariants.{Canonical, Merged, File}
 use Rattle.mh_tabfile_form.specs.declared.types.RawTable.{RawTable}
 use Rattle.mh_tabfile_read.specs.declared.reading.TabFault.TheVariants.{Version, TabShape}
 use Rattle.mh_tabfile_read.specs.Reading.{IsOtherVersion}
 use Rattle.mh_items_kernels.specs.KernelTypes.{Automaton}
 use Rattle.mh_items_kernels.specs.Automaton.{IsAutomaton, kernel_at}
-use Rattle.mh_canon_states.specs.Canonical.{CanonicalExceeds}
-use Rattle.mh_canon_states.specs.Limits.{max_states}
-use Rattle.mh_pager_steps.specs.MergeSteps.{MergingExceeds}
+use Rattle.mh_canon.specs.Canonical.{CanonicalExceeds}
+use Rattle.mh_canon.specs.Limits.{max_states}
+use Rattle.mh_pager.specs.MergeSteps.{MergingExceeds}
 use Rattle.mh_tables_core.specs.Table.{TableData, table_data, no_state}
 use Rattle.mh_tables_core.specs.declared.parts.StateParts.{StateParts}
 use Rattle.mh_resolve_cells.specs.declared.kinds.Mode.{Mode}
 use Rattle.mh_resolve_cells.specs.States.{state_of, IsResolved, AreResolved, IsTableOf}
 use Rattle.mh_resolve_cells.proofs.AreResolved.{Facts-resolved}
-use Rattle.mh_top_tables.specs.ResolvedStage.{IsResolvedStage}
-use Rattle.mh_top_tables.specs.Loops.{loops_line}
+use Rattle.mh_top_prepare.specs.ResolvedStage.{IsResolvedStage}
+use Rattle.mh_top_prepare.specs.Loops.{loops_line}
 use Rattle.mh_msgfile.specs.Sentences.{token_names}
-use Rattle.mh_top_types.specs.Shapes.{Prepared, TabledAutomaton}
-use Rattle.mh_top_tables.specs.TableStage.{IsAutomatonStage, IsTableStage, mode_of}
-use Rattle.mh_top_tables.specs.TableTexts.{too_many_states, invalid_line}
-use Rattle.mh_top_tables.specs.PreparedStage.{IsPreparedFromSource, IsPreparedFromFiles}
-use Rattle.mh_top_tables.proofs.HasNumberedStates.{source_numbered}
+use Rattle.mh_top_drive.specs.Shapes.{Prepared, TabledAutomaton}
+use Rattle.mh_top_prepare.specs.TableStage.{IsAutomatonStage, IsTableStage, mode_of}
+use Rattle.mh_top_prepare.specs.TableTexts.{too_many_states, invalid_line}
+use Rattle.mh_top_prepare.specs.PreparedStage.{IsPreparedFromSource, IsPreparedFromFiles}
+use Rattle.mh_top_prepare.proofs.HasNumberedStates.{source_numbered}
 use Rattle.mh_top_claims.specs.Preparing.{IsPrepared}
 use Rattle.mh_top_claims.proofs.IsGrammarReady.{IsGrammarReady, front_ready}
 

@@ -5,7 +5,7 @@ use Rattle.mh_grammar.specs.Text.{Text}
 use Rattle.mh_top_drive.specs.StageResults.{StageResult, Go, Gives, Then}
 use Rattle.mh_top_drive.specs.FileContents.{IsFileContent}
 use Rattle.mh_top_drive.proofs.ReadFilesLoop.{turn_first, turn_later}
-use Rattle.mh_top_types.specs.Shapes.{Prepared}
+use Rattle.mh_top_drive.specs.Shapes.{Prepared}
 use Rattle.mh_top_plans.specs.MessagesFiles.{AreMessages, Messages}
 use Rattle.mh_top_plans.proofs.IsNextFileOfJob.{IsNextOfMode}
 

@@ -13,8 +13,8 @@ use Rattle.mh_top_drive.specs.Limits.{file_limit}
 use Rattle.mh_top_drive.proofs.IsLoaded.{found_fits}
 use Rattle.mh_top_drive.proofs.LoadedUnique.{loaded_once}
 use Rattle.mh_top_drive.proofs.ReadFilesLoop.{turn_first}
-use Rattle.mh_top_types.specs.code.Prepared.{IsConsistent}
-use Rattle.mh_top_types.specs.Shapes.{Prepared}
+use Rattle.mh_top_drive.specs.code.Prepared.{IsConsistent}
+use Rattle.mh_top_drive.specs.Shapes.{Prepared}
 use Rattle.mh_top_plans.specs.MessagesFiles.{AreMessages}
 use Rattle.mh_top_plans.proofs.IsNextFileOfJob.{IsNextOfMode, turn_of_one}
 

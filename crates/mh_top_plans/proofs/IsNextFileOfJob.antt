@@ -2,7 +2,7 @@
 use Rattle.std.proofs.Common.{◌≡◌, ◌++◌, ◌∷◌, List, Option, None, Some, [], ap}
 use Rattle.mh_outside.specs.Shelf.{Files}
 use Rattle.mh_grammar.specs.Text.{Text}
-use Rattle.mh_top_types.specs.Shapes.{Prepared}
+use Rattle.mh_top_drive.specs.Shapes.{Prepared}
 use Rattle.mh_top_drive.specs.NextFile.{IsNextFile}
 use Rattle.mh_top_plans.specs.Files.{optional_file}
 use Rattle.mh_top_plans.specs.MessagesFiles.{AreMessages}

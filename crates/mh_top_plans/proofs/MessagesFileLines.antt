@@ -22,7 +22,7 @@ use Rattle.mh_top_drive.specs.declared.stop.Stop.{Stop}
 use Rattle.mh_top_drive.specs.declared.stop.Stop.TheVariants.{Halted, ShelfFailed, InputFailed, WriteFailed, OutOfMemory}
 use Rattle.mh_top_drive.proofs.Then.{IsOne, names_wider, then_once, then_stops}
 use Rattle.mh_top_drive.specs.FileContents.{IsFileContent, IsFound, IsLoaded, loaded}
-use Rattle.mh_top_types.specs.Shapes.{Prepared}
+use Rattle.mh_top_drive.specs.Shapes.{Prepared}
 use Rattle.mh_top_drive.specs.NextFile.{IsNextFile}
 use Rattle.mh_top_drive.specs.Limits.{file_limit}
 use Rattle.mh_top_drive.proofs.ReadFilesLoop.{turn_first}

@@ -14,7 +14,7 @@ use Rattle.mh_top_drive.specs.declared.stop.Cause.{Cause}
 use Rattle.mh_top_drive.specs.declared.stop.Stop.{Stop}
 use Rattle.mh_top_drive.specs.declared.stop.Stop.TheVariants.{Halted, ShelfFailed, InputFailed, WriteFailed, OutOfMemory}
 use Rattle.mh_top_drive.proofs.OpenedModes.{shelf_counts_of_mode}
-use Rattle.mh_top_types.specs.Shapes.{Prepared}
+use Rattle.mh_top_drive.specs.Shapes.{Prepared}
 use Rattle.mh_top_plans.specs.Files.{IsNextFileOfJob}
 use Rattle.mh_top_plans.specs.code.Modes.{OpenedAndRan, IsUnopened, Opens, WritesFinal}
 use Rattle.mh_top_plans.specs.declared.at_end.FinalText.{FinalText}

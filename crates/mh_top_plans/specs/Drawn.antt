@@ -6,7 +6,7 @@ use Rattle.mh_grammar.specs.Names.{start_name}
 use Rattle.mh_grammar.specs.Plain.{plain_of}
 use Rattle.mh_grammar.specs.Text.{Text}
 use Rattle.mh_sample.specs.Sentences.{IsRandomText}
-use Rattle.mh_sample_random.specs.Faults.{AreLonger}
+use Rattle.mh_sample.specs.Faults.{AreLonger}
 use Rattle.mh_top_plans.specs.declared.at_end.FinalText.{FinalText}
 use Rattle.mh_top_plans.specs.declared.at_end.FinalText.TheVariants.{Written, Refusal}
 

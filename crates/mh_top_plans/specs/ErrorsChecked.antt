@@ -5,7 +5,7 @@ use Rattle.mh_grammar.specs.declared.types.Grammar.{Grammar}
 use Rattle.mh_tables_core.specs.Table.{TableData}
 use Rattle.mh_tables_core.specs.Failing.{TooLongAt}
 use Rattle.mh_msgfile.specs.declared.blocks.LooseBlocks.{LooseBlocks}
-use Rattle.mh_rebase_form.specs.ErrorLines.{IsErrorText}
+use Rattle.mh_rebase.specs.ErrorLines.{IsErrorText}
 use Rattle.mh_grammar.specs.Text.{Text}
 use Rattle.mh_top_drive.specs.declared.stop.Cause.{Cause}
 use Rattle.mh_top_drive.specs.declared.stop.Cause.TheVariants.{Refused}

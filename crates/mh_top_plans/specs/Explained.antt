@@ -5,10 +5,10 @@ use Rattle.std.specs.Prelude.{◌≡◌, ◌⊎◌, ◌+◌, ◌++◌, [], None,
 use Rattle.mh_grammar.specs.declared.types.Sentence.{Sentence}
 use Rattle.mh_tables_core.specs.Run.{Ending, Accepted, Overshot, Rejected, VerdictOf}
 use Rattle.mh_check.specs.Texts.{ending_text, early_text}
-use Rattle.mh_report_comments.specs.Comments.{IsEntryText}
+use Rattle.mh_report.specs.Comments.{IsEntryText}
 use Rattle.mh_msgfile.specs.Sentences.{LineResult, IsSentence, IsUnreadable, NamesNoStart, LacksStart, NamesUnknown, sentence_in, vocabulary_of}
 use Rattle.mh_grammar.specs.Text.{Text}
-use Rattle.mh_top_types.specs.Shapes.{Prepared}
+use Rattle.mh_top_drive.specs.Shapes.{Prepared}
 use Rattle.mh_top_plans.specs.declared.at_end.FinalText.{FinalText}
 use Rattle.mh_top_plans.specs.declared.at_end.FinalText.TheVariants.{Written, Refusal}
 

@@ -5,7 +5,7 @@ use Rattle.mh_opts.specs.declared.jobs.Job.TheVariants.{Interpret, CompareErrors
 use Rattle.mh_opts.specs.declared.order.Order.{Order}
 use Rattle.mh_outside.specs.Shelf.{Files}
 use Rattle.mh_grammar.specs.Text.{Text}
-use Rattle.mh_top_types.specs.Shapes.{Prepared}
+use Rattle.mh_top_drive.specs.Shapes.{Prepared}
 use Rattle.mh_top_drive.specs.NextFile.{IsNextFile}
 use Rattle.mh_top_plans.specs.MessagesFiles.{AreMessages}
 

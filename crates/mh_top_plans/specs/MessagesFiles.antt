@@ -12,10 +12,10 @@ use Rattle.mh_msgfile.specs.declared.messages.MsgFile.{MsgFile}
 use Rattle.mh_check.specs.Checks.{SoundnessFault, FirstFault, sentences_of}
 use Rattle.mh_check.specs.Compiling.{IsCompiled}
 use Rattle.mh_check.specs.Texts.{file_line, check_line}
-use Rattle.mh_update_renewed.specs.Updates.{FirstUnfit, IsUpdated}
+use Rattle.mh_update.specs.Updates.{FirstUnfit, IsUpdated}
 use Rattle.mh_outside.specs.Shelf.{Files}
 use Rattle.mh_top_drive.specs.FileContents.{IsFileContent}
-use Rattle.mh_top_types.specs.Shapes.{Prepared}
+use Rattle.mh_top_drive.specs.Shapes.{Prepared}
 use Rattle.mh_grammar.specs.Text.{Text}
 use Rattle.mh_top_drive.specs.StageResults.{StageResult, Go, Halt, Gives, Then}
 use Rattle.mh_top_drive.specs.declared.stop.Cause.{Cause}

@@ -27,7 +27,7 @@ use Rattle.mh_top_drive.specs.declared.driving.Asks.{Asks}
 use Rattle.mh_top_drive.specs.declared.driving.Asks.TheVariants.{NoLine, FirstLine, EachLine}
 use Rattle.mh_top_drive.specs.declared.stop.Cause.{Cause}
 use Rattle.mh_top_drive.specs.FileContents.{IsFileContent}
-use Rattle.mh_top_types.specs.Shapes.{Prepared}
+use Rattle.mh_top_drive.specs.Shapes.{Prepared}
 use Rattle.mh_top_plans.specs.MessagesFiles.{Messages, AreMessagesOfBoth, AreMessages, AreLooseBlocks, IsLooseFile, IsMessagesFile, IsUpdatedFile}
 use Rattle.mh_top_plans.specs.Compared.{comparison_result}
 use Rattle.mh_top_plans.specs.Explained.{IsExplained}

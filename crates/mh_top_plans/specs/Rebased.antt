@@ -5,7 +5,7 @@ use Rattle.mh_items_kernels.specs.KernelTypes.{Automaton}
 use Rattle.mh_tables_core.specs.Table.{TableData}
 use Rattle.mh_tables_core.specs.Failing.{TooLongAt}
 use Rattle.mh_msgfile.specs.declared.loose.LooseFile.{LooseFile}
-use Rattle.mh_rebase_form.specs.RebasedText.{IsRebased}
+use Rattle.mh_rebase.specs.RebasedText.{IsRebased}
 use Rattle.mh_grammar.specs.Text.{Text}
 use Rattle.mh_top_drive.specs.declared.stop.Cause.{Cause}
 use Rattle.mh_top_drive.specs.declared.stop.Cause.TheVariants.{Refused}

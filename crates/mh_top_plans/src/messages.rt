@@ -6,7 +6,7 @@ ghost use Rattle.mh_check.specs.Compiling.{ReportsCheckFault};
 ghost use Rattle.mh_check.specs.Texts.{file_line, check_line};
 ghost use Rattle.mh_top_plans.specs.MessagesFiles.{AreLooseBlocks, AreMessages, AreMessagesOf, IsLooseFile, IsMessagesFile};
 ghost use Rattle.mh_top_drive.specs.FileContents.{IsFileContent};
-ghost use Rattle.mh_top_types.specs.code.Prepared.{IsConsistent};
+ghost use Rattle.mh_top_drive.specs.code.Prepared.{IsConsistent};
 ghost use Rattle.mh_top_drive.specs.code.StageCalls.{FileStageGives, StopsWith, StageShelfCounts, StageGives};
 ghost use Rattle.mh_top_drive.specs.declared.stop.Cause.TheVariants.{Refused as Refused'};
 
@@ -17,8 +17,7 @@ use mh_msgfile::{
 };
 use mh_outside::Shelf;
 use mh_tables_core::Halting;
-use mh_top_drive::{FileFormat, Stop, read_file, refusal};
-use mh_top_types::Prepared;
+use mh_top_drive::{FileFormat, Prepared, Stop, read_file, refusal};
 use std::alloc::Global;
 
 /// The form of messages files for a grammar and its table. The content of a file is a messages file by the names of the

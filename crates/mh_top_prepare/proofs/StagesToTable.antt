@@ -26,15 +26,15 @@ use Rattle.mh_validate_valid.specs.Valid.{IsInvalidAt, IsValidFor}
 use Rattle.mh_validate.specs.declared.fault.ValidFault.{ValidFault}
 use Rattle.mh_validate.specs.declared.fault.ValidFault.TheVariants as tables
 use Rattle.mh_top_prepare.specs.code.FaultStops.{IsStopForInvalidTable, IsStopForStatesFault}
-use Rattle.mh_top_tables.specs.TableStage.{IsAutomatonStage, IsTableStage, mode_of}
-use Rattle.mh_top_tables.specs.ResolvedStage.{IsResolvedStage}
-use Rattle.mh_top_tables.specs.AutomatonSources.{IsAutomatonSource}
-use Rattle.mh_top_tables.specs.TableTexts.{invalid_line, too_many_states}
-use Rattle.mh_top_types.specs.declared.front.OrderAndGrammar.{OrderAndGrammar}
-use Rattle.mh_top_tables.specs.PreparedStage.{IsPreparedFromSource, IsPreparedFromFiles}
-use Rattle.mh_top_types.specs.Shapes.{Prepared, TabledAutomaton}
-use Rattle.mh_top_tables.specs.declared.sources.AutomatonSource.{AutomatonSource}
-use Rattle.mh_top_tables.specs.declared.sources.AutomatonSource.TheVariants.{File}
+use Rattle.mh_top_prepare.specs.TableStage.{IsAutomatonStage, IsTableStage, mode_of}
+use Rattle.mh_top_prepare.specs.ResolvedStage.{IsResolvedStage}
+use Rattle.mh_top_prepare.specs.AutomatonSources.{IsAutomatonSource}
+use Rattle.mh_top_prepare.specs.TableTexts.{invalid_line, too_many_states}
+use Rattle.mh_top_drive.specs.declared.front.OrderAndGrammar.{OrderAndGrammar}
+use Rattle.mh_top_prepare.specs.PreparedStage.{IsPreparedFromSource, IsPreparedFromFiles}
+use Rattle.mh_top_drive.specs.Shapes.{Prepared, TabledAutomaton}
+use Rattle.mh_top_prepare.specs.declared.sources.AutomatonSource.{AutomatonSource}
+use Rattle.mh_top_prepare.specs.declared.sources.AutomatonSource.TheVariants.{File}
 
 -- A result for the table of the automaton is a result for the grammar.
 pub resolved_of_automaton : (source : AutomatonSource) (g : Grammar) (a : Automaton) (r : Result TabledAutomaton Stop) → IsAutomatonStage source g (Go a) → StageGives (IsResolvedStage (mode_of source) g a) r → StageGives (IsTableStage source g) r

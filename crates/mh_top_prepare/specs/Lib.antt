@@ -1,1 +1,12 @@
+pub mod TableFileTexts
+pub mod TableFileContent
+pub mod AutomatonSources
+pub mod MayAskForTables
+pub mod Loops
+pub mod ResolvedStage
+pub mod TableTexts
+pub mod InvalidTableFile
+pub mod TableStage
+pub mod PreparedStage
 pub mod code
+pub mod Warnings

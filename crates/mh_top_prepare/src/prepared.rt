@@ -2,19 +2,18 @@
 ghost use Rattle.std.specs.Prelude.{◌≡◌, ◌<◌, List, ℕ, length, IfOk, Some};
 ghost use Rattle.mh_grammar.specs.Costs.{HaveCosts};
 ghost use Rattle.mh_opts.specs.Orders.{IsWithinLimits};
-ghost use Rattle.mh_top_types.specs.code.Prepared.{IsConsistent};
-ghost use Rattle.mh_top_tables.specs.MayAskForTables.{MayAskForTables};
+ghost use Rattle.mh_top_drive.specs.code.Prepared.{IsConsistent};
+ghost use Rattle.mh_top_prepare.specs.MayAskForTables.{MayAskForTables};
 ghost use Rattle.mh_top_drive.specs.code.StageCalls.{FileStageGives, StageShelfCounts, StageGives};
-ghost use Rattle.mh_top_tables.specs.code.SourceFacts.{HasNumberedStates};
+ghost use Rattle.mh_top_prepare.specs.code.SourceFacts.{HasNumberedStates};
 ghost use Rattle.mh_validate_valid.specs.Valid.{AreTokenNamesDistinct};
-ghost use Rattle.mh_top_tables.specs.PreparedStage.{IsPreparedFromSource, IsPreparedFromFiles};
+ghost use Rattle.mh_top_prepare.specs.PreparedStage.{IsPreparedFromSource, IsPreparedFromFiles};
 ghost use Rattle.mh_items.specs.Fitting.{FitsSets};
 
+use crate::sources::{AutomatonSource, source_of};
 use crate::tabled::table_of;
 use mh_outside::Shelf;
-use mh_top_drive::Stop;
-use mh_top_tables::{AutomatonSource, source_of};
-use mh_top_types::{OrderAndGrammar, Prepared, PreparedWith};
+use mh_top_drive::{OrderAndGrammar, Prepared, PreparedWith, Stop};
 use std::alloc::Global;
 
 /// Gives the order with its grammar and its table, for an automaton from the given source. Here and in `prepare`,

@@ -13,9 +13,9 @@ use Rattle.mh_check.specs.Checks.{BreaksSoundness, FailsIn}
 use Rattle.mh_check.specs.Compiling.{ReportsCheckFault}
 use Rattle.mh_check.specs.declared.compiling.CheckFault.{CheckFault}
 use Rattle.mh_check.proofs.ArePlaces.{split-append, ReportsCheckFault-weaker}
-use Rattle.mh_report_comments.proofs.CommentParts.{block_fails}
-use Rattle.mh_update_renewed.specs.declared.comment.Comment.{Comment}
-use Rattle.mh_update_renewed.specs.Updates.{AreComments, FirstUnfit, IsComment}
+use Rattle.mh_report.proofs.CommentParts.{block_fails}
+use Rattle.mh_update.specs.declared.comment.Comment.{Comment}
+use Rattle.mh_update.specs.Updates.{AreComments, FirstUnfit, IsComment}
 
 -- ---- Prefixes of lists.
 

@@ -30,9 +30,9 @@ use Rattle.mh_grammar_texts.specs.Productions.{spaced_symbols, left_side_text, p
 use Rattle.mh_msgfile.specs.FileTexts.{names_after}
 use Rattle.mh_msgfile.proofs.LineEnds.{with_ends, IsReadUnchanged, no_cr-unchanged}
 use Rattle.mh_tables_core.proofs.RefusingState.{refusing_state_known}
-use Rattle.mh_report_comments.specs.Comments.{before_dot, kernel_comments, comments, expected_comment, expected_title, IsCommentBlock, IsCommentText, state_comment, suffix_title, suffix_comment, reduced_title, reduced_comment, reduced_comments}
+use Rattle.mh_report.specs.Comments.{before_dot, kernel_comments, comments, expected_comment, expected_title, IsCommentBlock, IsCommentText, state_comment, suffix_title, suffix_comment, reduced_title, reduced_comment, reduced_comments}
 use Rattle.mh_grammar.specs.Text.{Text}
-use Rattle.mh_update_renewed.specs.Updates.{is_generated}
+use Rattle.mh_update.specs.Updates.{is_generated}
 use Rattle.mh_update.specs.NoLineEnds.{is_no_line_end, HasNoLineEnd, HasNamesWithoutLineEnds}
 use Rattle.mh_update.proofs.LineWalk.{IsGeneratedLine}
 

@@ -13,9 +13,9 @@ use Rattle.mh_msgfile.specs.Sentences.{Vocabulary, LineResult, IsSentence, IsUnr
 use Rattle.mh_msgfile.specs.declared.messages.MsgSentence.{MsgSentence}
 use Rattle.mh_msgfile.proofs.PrintedAgain.{filter_on, is_kept_text}
 use Rattle.mh_msgfile.proofs.LineEnds.{with_ends, IsReadUnchanged}
-use Rattle.mh_update_renewed.specs.declared.comment.Comment.{Comment}
+use Rattle.mh_update.specs.declared.comment.Comment.{Comment}
 use Rattle.mh_grammar.specs.Text.{Text}
-use Rattle.mh_update_renewed.specs.Updates.{updated_from, is_generated, kept_text, kept_texts_of}
+use Rattle.mh_update.specs.Updates.{updated_from, is_generated, kept_text, kept_texts_of}
 
 -- ---- Places of lines.
 

@@ -15,11 +15,11 @@ use Rattle.mh_msgfile.specs.declared.messages.MsgSentence.{MsgSentence}
 use Rattle.mh_msgfile.specs.declared.messages.MsgFile.{MsgFile}
 use Rattle.mh_msgfile.proofs.LineEnds.{with_ends, IsReadUnchanged, lines_end, lines_of_with_ends, no_cr-unchanged}
 use Rattle.mh_check.specs.Checks.{sentences_of}
-use Rattle.mh_report_comments.specs.Comments.{IsCommentBlock}
-use Rattle.mh_report_comments.proofs.OneCommentText.{block_once}
-use Rattle.mh_update_renewed.specs.declared.comment.Comment.{Comment}
+use Rattle.mh_report.specs.Comments.{IsCommentBlock}
+use Rattle.mh_report.proofs.OneCommentText.{block_once}
+use Rattle.mh_update.specs.declared.comment.Comment.{Comment}
 use Rattle.mh_grammar.specs.Text.{Text}
-use Rattle.mh_update_renewed.specs.Updates.{IsComment, AreComments, updated, IsUpdated, is_generated}
+use Rattle.mh_update.specs.Updates.{IsComment, AreComments, updated, IsUpdated, is_generated}
 use Rattle.mh_update.specs.NoLineEnds.{HasNamesWithoutLineEnds, HasNoCrAtEnds}
 use Rattle.mh_update.proofs.LineWalk.{LinePlace, Outside, MessagesLineKind, kind_of, place_of_next_line, SentenceContent, sentence_content, with_sentence, sentences, generated_is_remark, Walk, Ended, Dropped, Uncommented, Commented, updated_lines, text_of, comments_of, walk_again, updated_text, again_text, updated_lines_read_unchanged, updated_keeps_lines, text_is}
 use Rattle.mh_update.proofs.SentencesByLine.{sentences_are}

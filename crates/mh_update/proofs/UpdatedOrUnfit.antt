@@ -24,12 +24,12 @@ use Rattle.mh_msgfile.specs.Messages.{IsSentenceOf, AreSentencesOf}
 use Rattle.mh_check.specs.Checks.{FailsIn, SoundnessFault, NotRefusedAt, RefusedEarlyAt, Accepts, Overshoots, BreaksSoundness, NotRefused, RefusedEarly, Shared, sentences_of}
 use Rattle.mh_tables_core.proofs.RefusingState.{refusing_state_known}
 use Rattle.mh_check.proofs.CheckedOnce.{no_refusal_not_rejected}
-use Rattle.mh_report_comments.specs.Comments.{comments}
-use Rattle.mh_report_comments.proofs.HasFarthestDot.{some_farthest}
-use Rattle.mh_report_comments.proofs.CommentParts.{block_fails, some_block}
-use Rattle.mh_update_renewed.specs.declared.comment.Comment.{Comment}
+use Rattle.mh_report.specs.Comments.{comments}
+use Rattle.mh_report.proofs.HasFarthestDot.{some_farthest}
+use Rattle.mh_report.proofs.CommentParts.{block_fails, some_block}
+use Rattle.mh_update.specs.declared.comment.Comment.{Comment}
 use Rattle.mh_grammar.specs.Text.{Text}
-use Rattle.mh_update_renewed.specs.Updates.{IsComment, AreComments, updated, IsUpdated, FirstUnfit}
+use Rattle.mh_update.specs.Updates.{IsComment, AreComments, updated, IsUpdated, FirstUnfit}
 
 module _ (t : TableData) where
   -- ---- The fault is unique.

@@ -1,1 +1,3 @@
+pub mod MissingStates
+pub mod Updates
 pub mod NoLineEnds

@@ -5,14 +5,14 @@ ghost use Rattle.mh_msgfile.specs.Messages.{IsSentenceOf};
 ghost use Rattle.mh_msgfile.specs.declared.messages.MsgSentence.{MsgSentence as MsgSentence'};
 ghost use Rattle.mh_check.specs.Checks.{BreaksSoundness, FailsIn};
 ghost use Rattle.mh_check.specs.Compiling.{ReportsCheckFault};
-ghost use Rattle.mh_report_comments.specs.Fitting.{FitsStates};
-ghost use Rattle.mh_update_renewed.specs.Updates.{AreComments, IsComment, AreCommentsOrFault as CommentsOf};
+ghost use Rattle.mh_report.specs.FitsStates.{FitsStates};
+ghost use Rattle.mh_update.specs.Updates.{AreComments, IsComment, AreCommentsOrFault as CommentsOf};
 
+use crate::comment::Comment;
 use mh_check::{CheckFault, failing_state};
 use mh_grammar::{Memory, Sequence};
 use mh_msgfile::{Entry, MsgSentence};
-use mh_report_comments::Commenter;
-use mh_update_renewed::Comment;
+use mh_report::Commenter;
 use std::alloc::Global;
 
 /// The comment of a sentence that fails.

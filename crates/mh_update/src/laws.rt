@@ -7,7 +7,7 @@ ghost use Rattle.mh_check.specs.Checks.{SoundnessFault, sentences_of};
 ghost use Rattle.mh_msgfile.specs.FileTexts.{HaveSameContent};
 ghost use Rattle.mh_msgfile.specs.declared.messages.MsgFile.{MsgFile};
 ghost use Rattle.mh_update.specs.NoLineEnds.{HasNamesWithoutLineEnds, HasNoCrAtEnds};
-ghost use Rattle.mh_update_renewed.specs.Updates.{FirstUnfit, IsUpdated};
+ghost use Rattle.mh_update.specs.Updates.{FirstUnfit, IsUpdated};
 ghost use Rattle.mh_msgfile.specs.declared.messages.MsgSentence.{MsgSentence};
 
 use mh_grammar::Grammar;

@@ -1,7 +1,8 @@
 //! Brings a messages file up to date after a change of its grammar: the comment lines of its sentences are made anew,
-//! and all other lines stay.
+//! and all other lines stay. Also the report on the states that one of two messages files lacks.
 #![tactic(auto)]
 
+mod comment;
 mod comments;
 mod laws;
 mod texts;

@@ -1,12 +1,12 @@
 //! The lines that report the states for which one messages file has a message and another has none.
 ghost use Rattle.std.specs.Prelude.{◌≡◌, ◌++◌, IfOk, OnOk};
-ghost use Rattle.mh_update_renewed.specs.MissingStates.{missing_line, missing_lines, missing_state_text};
+ghost use Rattle.mh_update.specs.MissingStates.{missing_line, missing_lines, missing_state_text};
 
 use mh_grammar::Memory;
 use std::alloc::Global;
 
 /// Appends the beginning of the line of a state.
-#[tactic(auto, unfolding(mh_update_renewed::specs::MissingStates::missing_state_text))]
+#[tactic(auto, unfolding(crate::specs::MissingStates::missing_state_text))]
 fn write_state(alloc: Global, text: &mut Vec<u8>, state: u32) -> Result<(), Memory>
     ensures { OnOk result (text.new.items ≡ text.old.items ++ missing_state_text state) }
 {
@@ -16,7 +16,7 @@ fn write_state(alloc: Global, text: &mut Vec<u8>, state: u32) -> Result<(), Memo
 }
 
 /// Appends the line of a state.
-#[tactic(auto, unfolding(mh_update_renewed::specs::MissingStates::missing_line))]
+#[tactic(auto, unfolding(crate::specs::MissingStates::missing_line))]
 fn write_missing(
     alloc: Global,
     text: &mut Vec<u8>,

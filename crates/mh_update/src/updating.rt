@@ -3,17 +3,17 @@ ghost use Rattle.std.specs.Prelude.{◌≡◌, ◌≤◌, ◌-◌, ◌++◌, len
 ghost use Rattle.mh_msgfile.specs.Messages.{AreSentencesOf};
 ghost use Rattle.mh_check.specs.Checks.{sentences_of};
 ghost use Rattle.mh_check.specs.Compiling.{ReportsCheckFault};
-ghost use Rattle.mh_report_comments.specs.Fitting.{FitsStates};
-ghost use Rattle.mh_update_renewed.specs.Updates.{FirstUnfit, IsUpdated, kept_text, kept_texts_of, updated};
+ghost use Rattle.mh_report.specs.FitsStates.{FitsStates};
+ghost use Rattle.mh_update.specs.Updates.{FirstUnfit, IsUpdated, kept_text, kept_texts_of, updated};
 
+use crate::comment::Comment;
 use crate::comments::all_comments;
 use mh_check::CheckFault;
 use mh_grammar::{Grammar, Memory, Name};
 use mh_items_kernels::Automaton;
 use mh_msgfile::MsgFile;
-use mh_report_comments::Commenter;
+use mh_report::Commenter;
 use mh_tables_core::Halting;
-use mh_update_renewed::Comment;
 use std::alloc::Global;
 
 /// Appends a line, unless it is generated.

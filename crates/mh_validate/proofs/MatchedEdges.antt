@@ -18,7 +18,7 @@ use Rattle.mh_items_kernels.specs.Automaton.{no_kernel, kernel_at, move_of, HasM
 use Rattle.mh_items_kernels.specs.code.KernelMoves.{IsAfterDot, IsMove}
 use Rattle.mh_items_kernels.specs.Collection.{edge_symbols}
 use Rattle.mh_items.specs.code.AllMoves.{Move, AreMovesOf, symbols_of}
-use Rattle.mh_canon_states.proofs.ItemSets.{AreSameItems-trans, Moved-same, Holds-core_item}
+use Rattle.mh_canon.proofs.ItemSets.{AreSameItems-trans, Moved-same, Holds-core_item}
 use Rattle.mh_tabfile_form.specs.declared.types.RawEdge.{RawEdge}
 use Rattle.mh_tabfile_form.specs.declared.types.RawTable.{RawTable}
 use Rattle.mh_tabfile_form.specs.TableContent.{raw_edge}
@@ -31,7 +31,7 @@ use Rattle.mh_validate.specs.code.MatchedEdges.{MatchesMove, IsRowOf, edges_on}
 use Rattle.mh_validate_valid.specs.code.SearchResult.{FindsOne}
 use Rattle.mh_validate.proofs.KernelWithin.{target_of, holds_move}
 use Rattle.mh_items_kernels.proofs.SymbolAtDot.{drop_from-slice_get}
-use Rattle.mh_canon_states.proofs.IsEdgeRow.{after_dot_of_moved}
+use Rattle.mh_canon.proofs.IsEdgeRow.{after_dot_of_moved}
 
 -- The edges built from moves have the symbols of the moves.
 on_symbols : (g : Grammar) (ks : List Kernel) (ms : List Move) (rs : List RawEdge) → AllZip (MatchesMove g ks) ms rs → edge_symbols (edges_on ms rs) ≡ symbols_of ms

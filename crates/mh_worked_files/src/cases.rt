@@ -5,6 +5,7 @@ ghost use Rattle.mh_rules.specs.Ready.{IsModuleReady, AreModulesReady, IsJoinedR
 
 use crate::devices::{put_counts, put_lines, put_pieces, put_shelf, put_trickled};
 use crate::expanding::put_instances;
+use crate::filling::put;
 use crate::fronts::{put_front, put_line};
 use crate::inlining::put_grammar;
 use crate::joining::put_joined;
@@ -12,7 +13,6 @@ use crate::lexemes::put_lexemes;
 use crate::lines::{Reading, put_reading};
 use crate::modules::{put_costs, put_costs_again, put_depth, put_kept, put_printed};
 use crate::places::put_places;
-use crate::put;
 use crate::words::{put_read, put_words};
 use mh_front::GrammarFault;
 use mh_grammar::{Level, Name, Symbol};

@@ -3,7 +3,7 @@ ghost use Rattle.std.specs.Prelude.{◌≡◌, IfOk, Some, ⊤};
 ghost use Rattle.mh_outside.specs.Fakes.{sink_written, sink_calls};
 
 use crate::cases::{Subject, Wanted, check_answer, check_cases, digit};
-use crate::put;
+use crate::filling::put;
 use mh_outside::{
     Failed, LineFault, MemShelf, MemSink, MemSource, Shelf, ShelfFault, Sink, Source, WriteFault,
     read_line, write_whole,

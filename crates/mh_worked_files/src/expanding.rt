@@ -7,7 +7,7 @@ use crate::cases::{
     Subject, Wanted, check_answer, check_built, check_cases, joined_of, push_digit, push_named,
     push_prec,
 };
-use crate::put;
+use crate::filling::put;
 use mh_expand::{
     ExpandFault, Expanded, Instance, InstanceProduction, Part, expand, is_one_expansion,
     is_one_fault,

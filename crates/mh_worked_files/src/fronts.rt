@@ -4,7 +4,7 @@ ghost use Rattle.mh_rules.specs.Ready.{AreModulesReady};
 use crate::cases::{
     Subject, Wanted, check_built, check_cases, modules_of, push_digit, push_symbol,
 };
-use crate::put;
+use crate::filling::put;
 use mh_front::{GrammarFault, fault_line, grammar_of};
 use mh_grammar::{Grammar, Production};
 use mh_reader_parser::Module;

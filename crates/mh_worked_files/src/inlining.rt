@@ -5,7 +5,7 @@ ghost use Rattle.mh_rules.specs.Ready.{IsExpandedReady};
 use crate::cases::{
     Subject, check_cases, joined_of, push_digit, push_level, push_named, push_symbol,
 };
-use crate::put;
+use crate::filling::put;
 use mh_expand::{Expanded, expand};
 use mh_grammar::{Grammar, NontermInfo, Production};
 use mh_inline::{InlineFault, grammar_excludes_fault, inline_rules, is_one_fault, is_one_grammar};

@@ -5,7 +5,7 @@ use crate::cases::{
     Subject, Wanted, check_built, check_cases, modules_of, push_digit, push_level, push_named,
     push_number, push_prec,
 };
-use crate::put;
+use crate::filling::put;
 use mh_grammar::TokenInfo;
 use mh_join::{
     Applied, Head, JoinFault, Joined, JoinedAlternative, JoinedRule, is_one_fault, is_one_joined,

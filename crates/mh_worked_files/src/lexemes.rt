@@ -1,6 +1,6 @@
 //! Grammar files and their lexemes, worked out by hand.
 use crate::cases::{Subject, check_cases, digit};
-use crate::put;
+use crate::filling::put;
 use mh_lex::{
     Kind, Lexeme, SyntaxFault, code_is_taken, keywords_differ, lex, lexed_always, lexed_code,
     lexed_texts, lexemes_are_unique, spaced_texts_are_lexemes,

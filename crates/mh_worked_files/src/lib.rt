@@ -3,18 +3,13 @@
 //! grammars, and the grammars of the whole front end. Each result was worked out by hand.
 #![tactic(auto)]
 
-mod filling;
-mod one_sentence;
-
-pub use filling::{filled, put};
-pub use one_sentence::{ONE_SENTENCE, ONE_SENTENCE_TABLE};
-
 #[cfg(test)]
 mod cases;
 #[cfg(test)]
 mod devices;
 #[cfg(test)]
 mod expanding;
+mod filling;
 #[cfg(test)]
 mod fronts;
 #[cfg(test)]
@@ -29,9 +24,13 @@ mod lines;
 mod messages;
 #[cfg(test)]
 mod modules;
+mod one_sentence;
 #[cfg(test)]
 mod places;
 #[cfg(test)]
 mod real_devices;
 #[cfg(test)]
 mod words;
+
+pub use filling::{filled, put};
+pub use one_sentence::{ONE_SENTENCE, ONE_SENTENCE_TABLE};

@@ -3,8 +3,8 @@ ghost use Rattle.std.specs.Prelude.{◌<◌, ◌^◌, length};
 ghost use Rattle.mh_grammar.specs.Plain.{plain_of, IsInRange};
 
 use crate::cases::{Subject, check_cases, digit};
+use crate::filling::put;
 use crate::messages::{put_echoed, put_printed};
-use crate::put;
 use mh_grammar::{
     Grammar, Memory, NontermInfo, Sentence, Sequence, TokenInfo, from_bytes, is_in_range,
 };

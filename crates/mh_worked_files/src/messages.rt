@@ -3,8 +3,8 @@ ghost use Rattle.std.specs.Prelude.{◌<◌, ◌^◌, length};
 ghost use Rattle.mh_grammar.specs.Plain.{plain_of, IsInRange};
 
 use crate::cases::{Subject, check_cases, digit};
+use crate::filling::put;
 use crate::lines::{Reading, put_both};
-use crate::put;
 use mh_grammar::{Grammar, Memory};
 use mh_msgfile::{MsgFault, echo, print_messages, read_messages};
 use std::alloc::Global;

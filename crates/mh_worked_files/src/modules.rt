@@ -1,7 +1,7 @@
 //! Grammar files and the modules that they spell, worked out by hand.
 use crate::cases::{Subject, Wanted, check_answer, check_cases, put_number};
+use crate::filling::put;
 use crate::messages::put_made;
-use crate::put;
 use mh_grammar::Memory;
 use mh_lex::SyntaxFault;
 use mh_reader::{print_module, read_module};

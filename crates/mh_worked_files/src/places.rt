@@ -1,6 +1,6 @@
 //! Grammar files and the places of their names, worked out by hand.
 use crate::cases::{Subject, check_cases, put_number};
-use crate::put;
+use crate::filling::put;
 use mh_grammar::Name;
 use mh_reader::{Mention, PlacedFault, PlacedModule, Ref, Role, read_placed};
 use std::alloc::Global;

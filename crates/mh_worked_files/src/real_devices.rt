@@ -1,5 +1,5 @@
 //! Tests of real files, readers and writers as shelf, source and sink.
-use crate::put;
+use crate::filling::put;
 use mh_outside::{
     FileShelf, Shelf, ShelfFault, Sink, Source, StdSink, StdSource, WriteFault, read_line,
     write_whole,

@@ -1,6 +1,6 @@
 //! Words of the command line and the orders that they spell, worked out by hand.
 use crate::cases::{Subject, check_cases, put_number};
-use crate::put;
+use crate::filling::put;
 use mh_opts::{Job, Order, UsageFault, read_words};
 use std::alloc::Global;
 use std::test::Fail;

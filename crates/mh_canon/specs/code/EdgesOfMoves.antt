@@ -4,7 +4,7 @@ use Rattle.mh_grammar.specs.declared.edges.Edge.{Edge}
 use Rattle.mh_grammar.specs.Plain.{PlainGrammar}
 use Rattle.mh_items_kernels.specs.KernelTypes.{Items, Kernel}
 use Rattle.mh_items.specs.code.AllMoves.{Move, AreMoves, AreMovesOf, symbols_of}
-use Rattle.mh_canon_states.specs.code.FoundStates.{AreStateEdges}
+use Rattle.mh_canon.specs.code.FoundStates.{AreStateEdges}
 
 -- `row` holds the edges of a state with these moves, whatever closure the moves come from. Targets that are new states
 -- were appended to the list `old`, which gave `new`.

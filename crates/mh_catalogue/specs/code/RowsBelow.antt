@@ -4,7 +4,7 @@ use Rattle.std.specs.List.{AllByRecursion, Contains}
 use Rattle.mh_grammar.specs.Edges.{IsRising}
 use Rattle.mh_tables_core.specs.Table.{TableData}
 use Rattle.mh_tables_core.specs.Failing.{CatalogueRow, IsRowBefore, FailsFirst, FailsWithinMaxCost, Failing}
-use Rattle.mh_catalogue_rows.specs.Rows.{AreShort}
+use Rattle.mh_catalogue.specs.Rows.{AreShort}
 
 -- The rows are those of the catalogue's states below the limit.
 pub record RowsBelow (t : TableData) (limit : ℕ) (rows : List CatalogueRow) : Type 0 where

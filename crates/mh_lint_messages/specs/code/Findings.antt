@@ -7,12 +7,12 @@ use Rattle.mh_msgfile.specs.Sentences.{vocabulary_of, LineResult, sentence_in}
 use Rattle.mh_msgfile.specs.declared.loose.LooseLine.{LooseLine}
 use Rattle.mh_msgfile.specs.declared.loose.LooseEntry.{LooseEntry}
 use Rattle.mh_msgfile.specs.declared.sentence.SentenceFault.{SentenceFault}
-use Rattle.mh_rebase_form.specs.declared.reason.DropReason.{DropReason}
-use Rattle.mh_rebase_form.specs.Decisions.{Decision, Drop, DecidedLine}
-use Rattle.mh_rebase_form.specs.RebasedText.{DecidedEntry, without_decisions, lines_in}
+use Rattle.mh_rebase.specs.declared.reason.DropReason.{DropReason}
+use Rattle.mh_rebase.specs.Decisions.{Decision, Drop, DecidedLine}
+use Rattle.mh_rebase.specs.RebasedText.{DecidedEntry, without_decisions, lines_in}
 use Rattle.mh_rebase.specs.code.Reasons.{IsReasonOfFault}
 use Rattle.mh_rebase.specs.code.Parts.{AreKeptLines}
-use Rattle.mh_rebase_form.specs.ErrorLines.{IsLineDecision, AreLineDecisions, decision_text, decision_texts, entries_text, last_line}
+use Rattle.mh_rebase.specs.ErrorLines.{IsLineDecision, AreLineDecisions, decision_text, decision_texts, entries_text, last_line}
 use Rattle.mh_lint_messages.specs.declared.lines.Findings.{Findings}
 
 -- Nothing is found yet.

@@ -4,7 +4,7 @@ use Rattle.std.specs.Prelude.{◌≡◌, ◌<◌, ℕ, List, Some, length, slice
 use Rattle.std.specs.List.{All, Contains}
 use Rattle.mh_grammar.specs.Edges.{IsRising}
 use Rattle.mh_items_kernels.specs.KernelTypes.{Kernel}
-use Rattle.mh_pager_steps.specs.code.Cores.{core_of, IsBefore}
+use Rattle.mh_pager.specs.code.Cores.{core_of, IsBefore}
 
 -- The number of the group of each core, as entries of a map.
 abbrev pub GroupNumbers : Type 0

@@ -8,7 +8,7 @@ use Rattle.mh_items_kernels.specs.KernelTypes.{Items, Kernel}
 use Rattle.mh_items_kernels.specs.Kernels.{Holds, IsItemList}
 use Rattle.mh_items.specs.code.AllMoves.{Move, AreMoves}
 use Rattle.mh_items_kernels.specs.Collection.{targets_of, edge_symbols}
-use Rattle.mh_pager_steps.specs.MergeSteps.{MergeState, PlacesMoves}
+use Rattle.mh_pager.specs.MergeSteps.{MergeState, PlacesMoves}
 use Rattle.mh_pager.specs.declared.worklist.Worklist.{Worklist}
 
 -- The work before state n was taken from the queue.

@@ -4,11 +4,11 @@ use Rattle.mh_grammar.specs.Plain.{PlainGrammar}
 use Rattle.mh_items_kernels.specs.KernelTypes.{Kernel}
 use Rattle.mh_items_kernels.specs.Kernels.{Holds, IsItemList}
 use Rattle.mh_pager.specs.declared.worklist.Worklist.{Worklist}
-use Rattle.mh_pager_steps.specs.WeakCompatibility.{HaveSameCore, IsJoin}
-use Rattle.mh_pager_steps.specs.code.QueueFlags.{AreFlagged}
-use Rattle.mh_pager_steps.specs.code.Cores.{core_of}
+use Rattle.mh_pager.specs.WeakCompatibility.{HaveSameCore, IsJoin}
+use Rattle.mh_pager.specs.code.QueueFlags.{AreFlagged}
+use Rattle.mh_pager.specs.code.Cores.{core_of}
 use Rattle.mh_pager.specs.code.CoreIndex.{HasGroupNumber, IsCoreIndex}
-use Rattle.mh_pager_steps.specs.MergeSteps.{MergeState, Enqueues}
+use Rattle.mh_pager.specs.MergeSteps.{MergeState, Enqueues}
 
 -- The moment of the construction that the worklist denotes.
 abbrev pub merge_state_of : {W : ℕ} → Worklist W → MergeState

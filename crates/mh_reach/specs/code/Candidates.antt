@@ -15,9 +15,9 @@ use Rattle.mh_reach_words.specs.declared.word_parts.WordParts.{WordParts}
 use Rattle.mh_reach_words.specs.declared.word_parts.LastPart.TheVariants as lasts
 use Rattle.mh_reach_words.specs.code.Sorting.{LexNoLater}
 use Rattle.mh_reach_words.specs.code.Words.{Words, HasParts}
-use Rattle.mh_reach_found.specs.declared.arrivals.StateAndNext.{StateAndNext}
-use Rattle.mh_reach_found.specs.code.Arrivals.{spot}
-use Rattle.mh_reach_found.specs.code.SentenceComparison.{numbers_of}
+use Rattle.mh_reach_words.specs.declared.arrivals.StateAndNext.{StateAndNext}
+use Rattle.mh_reach_words.specs.code.Arrivals.{spot}
+use Rattle.mh_reach_words.specs.code.SentenceComparison.{numbers_of}
 use Rattle.mh_reach_spots.specs.declared.spots.SpotArrival.{SpotArrival}
 use Rattle.mh_reach_spots.specs.declared.spots.Spots.{Spots}
 use Rattle.mh_reach_spots.specs.code.Spots.{IsWordAt, LabelAssignment, SpotList, arrival_at}

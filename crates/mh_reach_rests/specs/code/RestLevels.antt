@@ -13,8 +13,8 @@ use Rattle.mh_facts.specs.code.Queues.{AddsToRow, Among, QueueGains, Waits, Wait
 use Rattle.mh_facts.specs.code.TokenClasses.{rep_of, place_of}
 use Rattle.mh_facts.specs.code.WordCosts.{WordNoLater, cost_up_to_cap}
 use Rattle.mh_reach_words.specs.code.Numbering.{AreBelowGroup}
-use Rattle.mh_reach_found.specs.code.QueueDraws.{DrawsOne, DrawsNone, AppendsUnlessDone, DrawsAll}
-use Rattle.mh_reach_found.specs.code.WordNumbers.{IsNumberOfWord}
+use Rattle.mh_reach_words.specs.code.QueueDraws.{DrawsOne, DrawsNone, AppendsUnlessDone, DrawsAll}
+use Rattle.mh_reach_words.specs.code.WordNumbers.{IsNumberOfWord}
 use Rattle.mh_reach_rests.specs.declared.settled.SettledWord.{SettledWord}
 use Rattle.mh_reach_rests.specs.declared.settled.SettledWords.{SettledWords}
 use Rattle.mh_reach_rests.specs.declared.settling.RankedWord.{RankedWord}

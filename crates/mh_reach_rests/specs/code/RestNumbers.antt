@@ -11,7 +11,7 @@ use Rattle.mh_reach_words.specs.declared.word_parts.LastPart.TheVariants as last
 use Rattle.mh_reach_words.specs.declared.word_parts.WordParts.{WordParts}
 use Rattle.mh_reach_words.specs.code.Words.{Words, IsBook, HasParts, empty_word, letters_of, spelled}
 use Rattle.mh_reach_words.specs.code.Numbering.{AreBelowGroup}
-use Rattle.mh_reach_found.specs.code.WordNumbers.{IsNumberOfWord}
+use Rattle.mh_reach_words.specs.code.WordNumbers.{IsNumberOfWord}
 use Rattle.mh_reach_rests.specs.declared.settled.SettledWord.{SettledWord}
 use Rattle.mh_reach_rests.specs.declared.settled.SettledWords.{SettledWords}
 use Rattle.mh_reach_rests.specs.declared.waiting.WaitingWord.{WaitingWord}

@@ -8,7 +8,7 @@ use Rattle.mh_facts.specs.Stored.{same_fact}
 use Rattle.mh_facts.specs.Costs.{cap}
 use Rattle.mh_facts.specs.code.WordCosts.{before_dot, cost_up_to_cap}
 use Rattle.mh_reach_words.specs.code.Words.{Words}
-use Rattle.mh_reach_found.specs.code.WordNumbers.{IsNumberOfWord}
+use Rattle.mh_reach_words.specs.code.WordNumbers.{IsNumberOfWord}
 use Rattle.mh_reach_rests.specs.declared.settled.SettledWord.{SettledWord}
 use Rattle.mh_reach_rests.specs.declared.settled.SettledWords.{SettledWords}
 use Rattle.mh_reach_rests.specs.declared.sought.Sought.{Sought}

@@ -13,10 +13,10 @@ use Rattle.mh_facts.specs.code.WordCosts.{cost_up_to_cap}
 use Rattle.mh_reach_words.specs.code.Numbering.{AreBelowGroup}
 use Rattle.mh_reach_words.specs.code.Sorting.{IsSorted}
 use Rattle.mh_reach_words.specs.code.Words.{Words, HasParts, spelled}
-use Rattle.mh_reach_found.specs.declared.arrivals.StateAndNext.{StateAndNext}
-use Rattle.mh_reach_found.specs.code.Arrivals.{LabelNoLater, labels_at, spot}
-use Rattle.mh_reach_found.specs.code.QueueDraws.{AppendsUnlessDone, DrawsAll, DrawsNone, DrawsOne, DrawsSome}
-use Rattle.mh_reach_found.specs.code.SentenceComparison.{numbers_of}
+use Rattle.mh_reach_words.specs.declared.arrivals.StateAndNext.{StateAndNext}
+use Rattle.mh_reach_words.specs.code.Arrivals.{LabelNoLater, labels_at, spot}
+use Rattle.mh_reach_words.specs.code.QueueDraws.{AppendsUnlessDone, DrawsAll, DrawsNone, DrawsOne, DrawsSome}
+use Rattle.mh_reach_words.specs.code.SentenceComparison.{numbers_of}
 use Rattle.mh_reach_rests.specs.code.ClosedRests.{GotoWords}
 use Rattle.mh_reach_spots.specs.declared.goto_rows.NumberedGoto.{NumberedGoto}
 use Rattle.mh_reach_spots.specs.declared.spots.SpotArrival.{SpotArrival}

@@ -13,7 +13,7 @@ use Rattle.mh_facts.specs.code.TokenClasses.{AreTokenClasses, place_of, rep_of, 
 use Rattle.mh_reach_words.specs.declared.word_parts.WordParts.{WordParts}
 use Rattle.mh_reach_words.specs.declared.word_parts.LastPart.{LastPart}
 use Rattle.mh_reach_words.specs.declared.word_parts.LastPart.TheVariants as lasts
-use Rattle.mh_reach_found.specs.code.Arrivals.{spot}
+use Rattle.mh_reach_words.specs.code.Arrivals.{spot}
 use Rattle.mh_reach_spots.specs.declared.goto_rows.NumberedGoto.{NumberedGoto}
 use Rattle.mh_reach_spots.specs.declared.waiting.SettledSpot.{SettledSpot}
 use Rattle.mh_reach_spots.specs.declared.waiting.WaitingSpot.{WaitingSpot}

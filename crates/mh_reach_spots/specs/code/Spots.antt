@@ -9,9 +9,9 @@ use Rattle.mh_facts.specs.code.BestFirst.{Label, HasNoLaterLabel, SoundLabel}
 use Rattle.mh_facts.specs.code.TokenClasses.{rep_of}
 use Rattle.mh_facts.specs.code.WordCosts.{cost_up_to_cap}
 use Rattle.mh_reach_words.specs.code.Words.{Words, letters_of}
-use Rattle.mh_reach_found.specs.declared.arrivals.StateAndNext.{StateAndNext}
-use Rattle.mh_reach_found.specs.code.Arrivals.{LabelNoLater, labels_at, same_spot, spot}
-use Rattle.mh_reach_found.specs.code.SentenceComparison.{numbers_of}
+use Rattle.mh_reach_words.specs.declared.arrivals.StateAndNext.{StateAndNext}
+use Rattle.mh_reach_words.specs.code.Arrivals.{LabelNoLater, labels_at, same_spot, spot}
+use Rattle.mh_reach_words.specs.code.SentenceComparison.{numbers_of}
 use Rattle.mh_reach_spots.specs.declared.spots.SpotArrival.{SpotArrival}
 use Rattle.mh_reach_spots.specs.declared.spots.Spots.{Spots}
 

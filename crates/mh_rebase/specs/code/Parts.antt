@@ -13,10 +13,10 @@ use Rattle.mh_msgfile.specs.FileTexts.{sentence_text}
 use Rattle.mh_msgfile.specs.declared.loose.LooseLine.{LooseLine}
 use Rattle.mh_msgfile.specs.declared.loose.LooseEntry.{LooseEntry}
 use Rattle.mh_expected.specs.Expected.{ExpectedTokens}
-use Rattle.mh_report_comments.specs.Comments.{HasFarthestDot, comments, expected_comment}
-use Rattle.mh_rebase_form.specs.Decisions.{Decision, Drop, DecidedLine, is_keep, kept_line, IsDecision, AreDecided}
-use Rattle.mh_rebase_form.specs.declared.reason.DropReason.{DropReason}
-use Rattle.mh_rebase_form.specs.RebasedText.{DecidedEntry, without_decisions, lines_in, has_kept, kept_sentence_text, kept_sentence_texts, kept_entries_text, dropped_line_text, dropped_lines_text, dropped_entries_text}
+use Rattle.mh_report.specs.Comments.{HasFarthestDot, comments, expected_comment}
+use Rattle.mh_rebase.specs.Decisions.{Decision, Drop, DecidedLine, is_keep, kept_line, IsDecision, AreDecided}
+use Rattle.mh_rebase.specs.declared.reason.DropReason.{DropReason}
+use Rattle.mh_rebase.specs.RebasedText.{DecidedEntry, without_decisions, lines_in, has_kept, kept_sentence_text, kept_sentence_texts, kept_entries_text, dropped_line_text, dropped_lines_text, dropped_entries_text}
 use Rattle.mh_rebase.specs.code.Reasons.{IsReasonOfFault}
 use Rattle.mh_rebase.specs.declared.entries.Parts.{Parts}
 

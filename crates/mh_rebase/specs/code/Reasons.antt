@@ -4,13 +4,13 @@ use Rattle.mh_grammar.specs.Text.{Text}
 use Rattle.mh_tables_core.specs.Table.{TableData}
 use Rattle.mh_msgfile.specs.Sentences.{Vocabulary, sentence_in, ReadsSentence}
 use Rattle.mh_msgfile.specs.declared.sentence.SentenceFault.{SentenceFault}
-use Rattle.mh_rebase_form.specs.Decisions.{DecidedLine, IsReason}
+use Rattle.mh_rebase.specs.Decisions.{DecidedLine, IsReason}
 use Rattle.mh_run.specs.Verdicts.{ending_for}
 use Rattle.mh_run.specs.declared.outcome.Verdict.{Verdict}
 use Rattle.mh_run.specs.declared.outcome.Verdict.TheVariants.{Reject}
 use Rattle.mh_check.specs.Checks.{IsNoRefusal}
-use Rattle.mh_rebase_form.specs.declared.reason.DropReason.{DropReason}
-use Rattle.mh_rebase_form.specs.declared.reason.DropReason.TheVariants as reasons
+use Rattle.mh_rebase.specs.declared.reason.DropReason.{DropReason}
+use Rattle.mh_rebase.specs.declared.reason.DropReason.TheVariants as reasons
 
 -- Each line with this fault is dropped for this reason.
 abbrev pub IsReasonOfFault : SentenceFault → DropReason → Type 0

@@ -6,9 +6,9 @@ use Rattle.mh_rebase.specs.code.Reasons.{kept_line_in}
 use Rattle.mh_items_kernels.specs.KernelTypes.{Automaton}
 use Rattle.mh_tables_core.specs.Table.{TableData}
 use Rattle.mh_tables_core.specs.Failing.{Fails, CatalogueRow}
-use Rattle.mh_catalogue_rows.specs.Rows.{rows_of}
-use Rattle.mh_catalogue_rows.specs.declared.rows.Row.{Row}
-use Rattle.mh_report_comments.specs.CatalogueTexts.{AreEntries}
+use Rattle.mh_catalogue.specs.Rows.{rows_of}
+use Rattle.mh_catalogue.specs.declared.rows.Row.{Row}
+use Rattle.mh_report.specs.CatalogueTexts.{AreEntries}
 
 -- The sentence of the row fails in the state of the row, and its tokens can be counted.
 pub record IsFitRow (t : TableData) (row : Row) : Type 0 where

@@ -7,10 +7,10 @@ use Rattle.mh_items.specs.Fitting.{FitsSets}
 use Rattle.mh_opts.specs.Orders.{IsWithinLimits}
 use Rattle.mh_opts.specs.declared.jobs.Job.TheVariants.{Check}
 use Rattle.mh_top_plans.specs.Files.{files_of_mode}
-use Rattle.mh_top_tables.specs.MayAskForTables.{MayAskForTables}
-use Rattle.mh_top_types.specs.Shapes.{Prepared}
-use Rattle.mh_top_types.specs.code.Prepared.{IsConsistent}
-use Rattle.mh_top_types.specs.declared.front.OrderAndGrammar.{OrderAndGrammar}
+use Rattle.mh_top_prepare.specs.MayAskForTables.{MayAskForTables}
+use Rattle.mh_top_drive.specs.Shapes.{Prepared}
+use Rattle.mh_top_drive.specs.code.Prepared.{IsConsistent}
+use Rattle.mh_top_drive.specs.declared.front.OrderAndGrammar.{OrderAndGrammar}
 use Rattle.mh_validate_valid.specs.Valid.{AreTokenNamesDistinct}
 
 -- The order and the grammar allow the work: the grammar has a start symbol, its tokens have costs and distinct names,

@@ -22,7 +22,7 @@ use Rattle.mh_top_drive.specs.declared.stop.Cause.TheVariants.{Refused}
 use Rattle.mh_top_drive.specs.declared.stop.Stop.{Stop}
 use Rattle.mh_top_drive.specs.declared.stop.Stop.TheVariants.{Halted, ShelfFailed, OutOfMemory}
 use Rattle.mh_top_plans.specs.Plan.{Ends, Findings, Plan, plan_of_stage}
-use Rattle.mh_top_types.specs.declared.front.OrderAndGrammar.{OrderAndGrammar}
+use Rattle.mh_top_drive.specs.declared.front.OrderAndGrammar.{OrderAndGrammar}
 use Rattle.mh_validate_valid.specs.Valid.{AreTokenNamesDistinct}
 
 -- The files are short, and each finding is within its file.

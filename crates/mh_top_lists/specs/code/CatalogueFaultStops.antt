@@ -1,7 +1,7 @@
 -- The reason to stop the work for a fault of the catalogue, or of rebasing or examining a messages file.
 use Rattle.std.specs.Prelude.{◌≡◌}
-use Rattle.mh_catalogue_rows.specs.declared.rows.CatalogueFault.{CatalogueFault}
-use Rattle.mh_catalogue_rows.specs.declared.rows.CatalogueFault.TheVariants.{TooLong, Memory}
+use Rattle.mh_catalogue.specs.declared.rows.CatalogueFault.{CatalogueFault}
+use Rattle.mh_catalogue.specs.declared.rows.CatalogueFault.TheVariants.{TooLong, Memory}
 use Rattle.mh_lint_messages.specs.declared.errors.ErrorsFault.{ErrorsFault}
 use Rattle.mh_lint_messages.specs.declared.errors.ErrorsFault.TheVariants as examining
 use Rattle.mh_rebase.specs.declared.rebasing.RebaseFault.{RebaseFault}

@@ -5,10 +5,10 @@ use Rattle.std.specs.Io.KnownBytes.{Appends}
 use Rattle.mh_outside.specs.Sink.{AppendsPrefix}
 use Rattle.mh_tables_core.specs.Table.{TableData}
 use Rattle.mh_tables_core.specs.Failing.{CatalogueRow, Fails, max_sentence_cost}
-use Rattle.mh_report_comments.specs.Comments.{IsEntryText}
+use Rattle.mh_report.specs.Comments.{IsEntryText}
 use Rattle.mh_grammar.specs.Text.{Text}
-use Rattle.mh_report_comments.specs.CatalogueTexts.{AreEntries}
-use Rattle.mh_top_types.specs.Shapes.{Prepared}
+use Rattle.mh_report.specs.CatalogueTexts.{AreEntries}
+use Rattle.mh_top_drive.specs.Shapes.{Prepared}
 use Rattle.mh_top_drive.specs.declared.stop.Stop.{Stop}
 use Rattle.mh_top_drive.specs.declared.stop.Stop.TheVariants.{WriteFailed, OutOfMemory}
 

@@ -4,8 +4,8 @@ use Rattle.mh_grammar.specs.Text.{Text}
 use Rattle.mh_top_drive.specs.code.ModeCalls.{ModeRan}
 use Rattle.mh_top_drive.specs.declared.stop.Stop.{Stop}
 use Rattle.mh_top_drive.specs.declared.stop.Stop.TheVariants.{Halted, ShelfFailed, OutOfMemory}
-use Rattle.mh_top_types.specs.Shapes.{Prepared}
-use Rattle.mh_top_types.specs.code.Prepared.{IsConsistent}
+use Rattle.mh_top_drive.specs.Shapes.{Prepared}
+use Rattle.mh_top_drive.specs.code.Prepared.{IsConsistent}
 use Rattle.mh_top_plans.specs.Plan.{Plan, plan_behavior, halts, writing_plan}
 use Rattle.mh_top_plans.specs.declared.at_end.FinalText.{FinalText}
 

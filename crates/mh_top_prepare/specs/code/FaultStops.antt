@@ -14,9 +14,9 @@ use Rattle.mh_validate.specs.declared.fault.ValidFault.{ValidFault}
 use Rattle.mh_validate.specs.declared.fault.ValidFault.TheVariants as tables
 use Rattle.mh_items_kernels.specs.declared.kernels.StatesFault.{StatesFault}
 use Rattle.mh_items_kernels.specs.declared.kernels.StatesFault.TheVariants as automata
-use Rattle.mh_top_tables.specs.TableStage.{IsAutomatonStage}
-use Rattle.mh_top_tables.specs.TableTexts.{invalid_line, too_many_states}
-use Rattle.mh_top_tables.specs.declared.sources.AutomatonSource.TheVariants.{File}
+use Rattle.mh_top_prepare.specs.TableStage.{IsAutomatonStage}
+use Rattle.mh_top_prepare.specs.TableTexts.{invalid_line, too_many_states}
+use Rattle.mh_top_prepare.specs.declared.sources.AutomatonSource.TheVariants.{File}
 
 -- The stop for an automaton that cannot be built: the refusal for too many states, or lack of memory.
 abbrev pub IsStopForStatesFault : StatesFault → Stop → Type 0

@@ -1,7 +1,7 @@
 use Rattle.std.proofs.Common.{rules}
 use Rattle.mh_grammar.specs.Plain.{plain_of}
-use Rattle.mh_canon_states.specs.Limits.{max_states}
-use Rattle.mh_canon_states.proofs.CanonicalIsAutomaton.{IsAutomaton-canonical, canonical_within_limit}
+use Rattle.mh_canon.specs.Limits.{max_states}
+use Rattle.mh_canon.proofs.CanonicalIsAutomaton.{IsAutomaton-canonical, canonical_within_limit}
 use Rattle.mh_canon.proofs.collection.canonical.Goals as goal
 
 pub collect-requires : goal.collect-requires

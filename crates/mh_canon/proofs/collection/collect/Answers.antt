@@ -1,8 +1,8 @@
 use Rattle.std.proofs.Common.{◌≡◌, length, ap, arith, rules}
 use Rattle.mh_grammar.specs.Plain.{plain_of}
 use Rattle.mh_items.specs.code.AllMoves.{symbols_of}
-use Rattle.mh_canon_states.proofs.PartialCollection.{PartialCollection-start, PartialCollection-step}
-use Rattle.mh_canon_states.proofs.CollectionIsCanonical.{IsCanonical-done}
+use Rattle.mh_canon.proofs.PartialCollection.{PartialCollection-start, PartialCollection-step}
+use Rattle.mh_canon.proofs.CollectionIsCanonical.{IsCanonical-done}
 use Rattle.mh_canon.proofs.collection.collect.Goals as goal
 
 pub states-init : goal.states-init

@@ -1,8 +1,8 @@
 use Rattle.std.proofs.Common.{◌≤◌, ◌-◌, length, vec_len}
 use Rattle.mh_grammar.specs.Plain.{plain_of}
 use Rattle.mh_items.specs.code.MoveBuilder.{IsMoveBuilder}
-use Rattle.mh_canon_states.specs.Limits.{max_states}
-use Rattle.mh_canon_states.proofs.PartialCollection.{PartialCollection}
+use Rattle.mh_canon.specs.Limits.{max_states}
+use Rattle.mh_canon.proofs.PartialCollection.{PartialCollection}
 use Rattle.mh_canon.proofs.collection.collect.Given as goal
 
 abbrev pub invariant-states : goal.invariant-states

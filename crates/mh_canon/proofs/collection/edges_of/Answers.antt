@@ -4,8 +4,8 @@ use Rattle.std.proofs.lemmas.List.Elements.{All-get_or}
 use Rattle.std.proofs.lemmas.Option.{slice_get-get_or}
 use Rattle.std.proofs.lemmas.Result.{IfOk-weaker}
 use Rattle.mh_grammar.specs.Plain.{plain_of}
-use Rattle.mh_canon_states.specs.code.FoundStates.{IsCanonicalState}
-use Rattle.mh_canon_states.proofs.AreCanonicalStates.{IsStateClosure-close}
+use Rattle.mh_canon.specs.code.FoundStates.{IsCanonicalState}
+use Rattle.mh_canon.proofs.AreCanonicalStates.{IsStateClosure-close}
 use Rattle.mh_canon.proofs.collection.edges_of.Goals as goal
 
 pub moves-requires : goal.moves-requires

@@ -3,8 +3,8 @@ use Rattle.std.proofs.lemmas.Iterator.Consumers.{YieldsList-turn, YieldsList-end
 use Rattle.std.proofs.lemmas.Iterator.Adapters.{YieldsList-from_vec}
 use Rattle.mh_grammar.specs.Plain.{plain_of}
 use Rattle.mh_items_kernels.specs.declared.kernels.StatesFault.TheVariants.{TooManyStates}
-use Rattle.mh_canon_states.specs.Limits.{max_states}
-use Rattle.mh_canon_states.proofs.AreCanonicalStates.{Placed-few}
+use Rattle.mh_canon.specs.Limits.{max_states}
+use Rattle.mh_canon.proofs.AreCanonicalStates.{Placed-few}
 use Rattle.mh_canon.proofs.AreEdgesOfMoves.{placed-start, placed-more, placed-over}
 use Rattle.mh_canon.proofs.collection.place_all.Goals as goal
 

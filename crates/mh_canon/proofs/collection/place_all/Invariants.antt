@@ -1,6 +1,6 @@
 use Rattle.std.proofs.Common.{◌≤◌, length}
 use Rattle.mh_grammar.specs.Plain.{plain_of}
-use Rattle.mh_canon_states.specs.Limits.{max_states}
+use Rattle.mh_canon.specs.Limits.{max_states}
 use Rattle.mh_canon.proofs.AreEdgesOfMoves.{PlacedSoFar}
 use Rattle.mh_canon.proofs.collection.place_all.Given as goal
 

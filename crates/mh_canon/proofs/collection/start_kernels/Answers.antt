@@ -1,4 +1,4 @@
-use Rattle.mh_canon_states.proofs.PartialCollection.{AreStarts-none, AreStarts-step}
+use Rattle.mh_canon.proofs.PartialCollection.{AreStarts-none, AreStarts-step}
 use Rattle.mh_canon.proofs.collection.start_kernels.Goals as goal
 
 pub loop-start-init : goal.loop-start-init

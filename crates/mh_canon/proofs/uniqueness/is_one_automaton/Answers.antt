@@ -1,5 +1,5 @@
 use Rattle.mh_grammar.specs.Plain.{plain_of}
-use Rattle.mh_canon_states.proofs.OneCanonical.{canonical_unique}
+use Rattle.mh_canon.proofs.OneCanonical.{canonical_unique}
 use Rattle.mh_canon.proofs.uniqueness.is_one_automaton.Goals as goal
 
 pub returns : goal.returns

@@ -1,6 +1,6 @@
 use Rattle.std.proofs.Common.{◌≡◌, refl, subst}
 use Rattle.mh_tables_core.specs.Failing.{TooLongAt}
-use Rattle.mh_catalogue_rows.specs.Rows.{rows_of}
+use Rattle.mh_catalogue.specs.Rows.{rows_of}
 use Rattle.mh_catalogue.proofs.RowsBelow.{FailsWithinMaxCost-least, rows_added, RowsBelow-skip, too_long}
 use Rattle.mh_catalogue.proofs.gathering.add_row.Goals.{in-Err-push, in-Ok-push}
 use Rattle.mh_catalogue.proofs.gathering.add_row.Goals as goal

@@ -1,4 +1,4 @@
-use Rattle.mh_catalogue_rows.specs.Rows.{rows_of}
+use Rattle.mh_catalogue.specs.Rows.{rows_of}
 use Rattle.mh_catalogue.specs.code.RowsBelow.{RowsBelow}
 use Rattle.mh_catalogue.proofs.gathering.all_rows.Given as goal
 

@@ -1,6 +1,6 @@
 use Rattle.std.proofs.Common.{subst}
 use Rattle.mh_tables_core.specs.Table.{TableData}
-use Rattle.mh_catalogue_rows.specs.Rows.{IsCatalogueResult}
+use Rattle.mh_catalogue.specs.Rows.{IsCatalogueResult}
 use Rattle.mh_catalogue.proofs.making.catalogue.Goals as goal
 
 pub returns-in-Ok-clause-ok : goal.returns-in-Ok-clause-ok

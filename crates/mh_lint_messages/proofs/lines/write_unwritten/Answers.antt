@@ -1,6 +1,6 @@
 use Rattle.std.proofs.Common.{Bool, ◌++◌, ap, sym, ◌∙◌, append-nil}
 use Rattle.std.proofs.lemmas.Result.{on_ok_weaker}
-use Rattle.mh_rebase_form.specs.ErrorLines.{unwritten_text}
+use Rattle.mh_rebase.specs.ErrorLines.{unwritten_text}
 use Rattle.mh_lint_messages.proofs.lines.write_unwritten.Goals as goal
 
 pub returns-then-unwritten : goal.returns-then-unwritten

@@ -1,5 +1,5 @@
 use Rattle.mh_pager.specs.code.Worklist.{merge_state_of, IsConsistentWorklist}
-use Rattle.mh_pager_steps.specs.code.ReachedByMerging.{IsInitialUpTo}
+use Rattle.mh_pager.specs.code.ReachedByMerging.{IsInitialUpTo}
 use Rattle.mh_pager.proofs.construction.begin.Given as goal
 
 abbrev pub invariant-loop-start : goal.invariant-loop-start

@@ -1,6 +1,6 @@
 use Rattle.std.proofs.Common.{◌≡◌, ◌∷◌, ◌∙◌, rules}
 use Rattle.mh_grammar.specs.Plain.{plain_of}
-use Rattle.mh_canon_states.specs.Limits.{max_states}
+use Rattle.mh_canon.specs.Limits.{max_states}
 use Rattle.mh_pager.specs.code.Worklist.{merge_state_of}
 use Rattle.mh_pager.proofs.IsReachedByMerging.{IsReachedByMerging-start, IsReachedByMerging-step, next_well_formed, step_lowers_weight, few_starts}
 use Rattle.mh_pager.proofs.construction.step_all.Goals as goal

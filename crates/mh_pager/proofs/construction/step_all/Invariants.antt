@@ -1,8 +1,8 @@
 use Rattle.std.proofs.Common.{◌≤◌, length}
 use Rattle.mh_grammar.specs.Plain.{plain_of}
-use Rattle.mh_canon_states.specs.Limits.{max_states}
+use Rattle.mh_canon.specs.Limits.{max_states}
 use Rattle.mh_pager.specs.code.Worklist.{merge_state_of, IsConsistentWorklist}
-use Rattle.mh_pager_steps.specs.code.ReachedByMerging.{IsReachedByMerging}
+use Rattle.mh_pager.specs.code.ReachedByMerging.{IsReachedByMerging}
 use Rattle.mh_items.specs.code.MoveBuilder.{IsMoveBuilder}
 use Rattle.mh_pager.proofs.TerminationMeasure.{weight}
 use Rattle.mh_pager.proofs.construction.step_all.Given as goal

@@ -1,6 +1,6 @@
 use Rattle.std.proofs.Common.{map, ap, ◌∙◌}
 use Rattle.std.proofs.lemmas.List.{take_all}
-use Rattle.mh_pager_steps.specs.code.Cores.{core_item}
+use Rattle.mh_pager.specs.code.Cores.{core_item}
 use Rattle.mh_grammar.proofs.Lists.{map_step}
 use Rattle.mh_pager.proofs.index.without_looks.Goals as goal
 

@@ -1,5 +1,5 @@
 use Rattle.std.proofs.Common.{◌≡◌, map, take}
-use Rattle.mh_pager_steps.specs.code.Cores.{core_item}
+use Rattle.mh_pager.specs.code.Cores.{core_item}
 use Rattle.mh_pager.proofs.index.without_looks.Given as goal
 
 abbrev pub invariant-loop-item : goal.invariant-loop-item

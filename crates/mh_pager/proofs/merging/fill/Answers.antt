@@ -1,9 +1,9 @@
 use Rattle.std.proofs.Common.{arith, rules}
 use Rattle.std.proofs.lemmas.Result.{on_ok_weaker}
 use Rattle.mh_grammar.specs.Plain.{plain_of}
-use Rattle.mh_canon_states.specs.Limits.{max_states}
+use Rattle.mh_canon.specs.Limits.{max_states}
 use Rattle.mh_pager.specs.code.Worklist.{merge_state_of}
-use Rattle.mh_pager_steps.proofs.IsMerged.{starts_within, AreTargetsInRange-list, IsMerged-list, few_list}
+use Rattle.mh_pager.proofs.IsMerged.{starts_within, AreTargetsInRange-list, IsMerged-list, few_list}
 use Rattle.mh_pager.proofs.IsReachedByMerging.{is_well_formed}
 use Rattle.mh_pager.proofs.merging.fill.Goals as goal
 

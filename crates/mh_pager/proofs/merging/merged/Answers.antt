@@ -1,6 +1,6 @@
 use Rattle.mh_grammar.specs.Plain.{plain_of}
-use Rattle.mh_pager.proofs.PlacesMove.{if_both}
-use Rattle.mh_pager_steps.proofs.IsMerged.{merged_automaton, merged_paths, merged_conflicts, merged_any_conflicts}
+use Rattle.mh_pager.proofs.JoinsMoveAt.{if_both}
+use Rattle.mh_pager.proofs.IsMerged.{merged_automaton, merged_paths, merged_conflicts, merged_any_conflicts}
 use Rattle.mh_pager.proofs.merging.merged.Goals as goal
 
 pub returns-clause-automaton : goal.returns-clause-automaton

@@ -1,9 +1,9 @@
 use Rattle.std.proofs.Common.{◌≡◌, Err, ap}
 use Rattle.mh_grammar.specs.Plain.{plain_of}
 use Rattle.mh_items_kernels.specs.declared.kernels.StatesFault.TheVariants.{TooManyStates}
-use Rattle.mh_canon_states.specs.Limits.{max_states}
+use Rattle.mh_canon.specs.Limits.{max_states}
 use Rattle.mh_pager.specs.code.Worklist.{merge_state_of}
-use Rattle.mh_pager_steps.proofs.IsMerged.{not_exceeded}
+use Rattle.mh_pager.proofs.IsMerged.{not_exceeded}
 use Rattle.mh_pager.proofs.merging.merged_over.Goals as goal
 
 pub returns-in_ok-numbered-in-Ok-clause-ok : goal.returns-in_ok-numbered-in-Ok-clause-ok

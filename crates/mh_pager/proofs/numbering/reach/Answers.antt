@@ -1,6 +1,6 @@
 use Rattle.std.proofs.Common.{◌≡◌, ◌<◌, length, get_or, ap, ◌∙◌, arith}
 use Rattle.std.proofs.lemmas.List.{length_push}
-use Rattle.mh_pager_steps.proofs.RenumberingInvariant.{RenumberingInvariant-start, RenumberingInvariant-step, AreReachedStates-done, next_state, next_row, below_few}
+use Rattle.mh_pager.proofs.RenumberingInvariant.{RenumberingInvariant-start, RenumberingInvariant-step, AreReachedStates-done, next_state, next_row, below_few}
 use Rattle.mh_pager.proofs.numbering.reach.Goals as goal
 
 pub states-init : goal.states-init

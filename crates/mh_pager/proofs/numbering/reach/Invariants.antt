@@ -1,6 +1,6 @@
 use Rattle.std.proofs.Common.{◌-◌, length}
-use Rattle.mh_canon_states.specs.Limits.{max_states}
-use Rattle.mh_pager_steps.proofs.RenumberingInvariant.{RenumberingInvariant}
+use Rattle.mh_canon.specs.Limits.{max_states}
+use Rattle.mh_pager.proofs.RenumberingInvariant.{RenumberingInvariant}
 use Rattle.mh_pager.proofs.numbering.reach.Given as goal
 
 abbrev pub invariant-states : goal.invariant-states

@@ -2,7 +2,7 @@ use Rattle.std.proofs.Common.{◌<◌, ◌∷◌, [], take, get_or, arith}
 use Rattle.std.proofs.lemmas.List.{take_more}
 use Rattle.mh_grammar.specs.declared.types.Symbol.TheVariants.{T}
 use Rattle.mh_grammar.specs.declared.edges.Edge.{Edge}
-use Rattle.mh_pager_steps.proofs.RenumberingInvariant.{target_below, placed_below, placed_small, one_placed, one_below, IsRenumbered-none, IsRenumbered-push}
+use Rattle.mh_pager.proofs.RenumberingInvariant.{target_below, placed_below, placed_small, one_placed, one_below, IsRenumbered-none, IsRenumbered-push}
 use Rattle.mh_pager.proofs.numbering.renamed.Goals as goal
 
 pub loop-edge-init : goal.loop-edge-init

@@ -1,5 +1,5 @@
 use Rattle.std.proofs.Common.{take}
-use Rattle.mh_pager_steps.specs.code.Renumbering.{AreWithinLimit, IsRenumbered}
+use Rattle.mh_pager.specs.code.Renumbering.{AreWithinLimit, IsRenumbered}
 use Rattle.mh_pager.proofs.numbering.renamed.Given as goal
 
 abbrev pub invariant-loop-edge : goal.invariant-loop-edge

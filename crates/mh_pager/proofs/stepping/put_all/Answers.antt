@@ -3,7 +3,7 @@ use Rattle.std.proofs.lemmas.Iterator.Consumers.{YieldsList-turn, YieldsList-so_
 use Rattle.std.proofs.lemmas.Iterator.Adapters.{YieldsList-from_vec}
 use Rattle.mh_grammar.specs.Plain.{plain_of}
 use Rattle.mh_items_kernels.specs.declared.kernels.StatesFault.TheVariants.{TooManyStates}
-use Rattle.mh_canon_states.specs.Limits.{max_states}
+use Rattle.mh_canon.specs.Limits.{max_states}
 use Rattle.mh_pager.specs.code.Worklist.{merge_state_of}
 use Rattle.mh_pager.proofs.IsWellFormed.{put_well_formed}
 use Rattle.mh_pager.proofs.PlacesAllMoves.{PutSoFar-start, PutSoFar-more, put-exceeds, found-valid}

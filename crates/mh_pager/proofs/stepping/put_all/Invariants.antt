@@ -1,8 +1,8 @@
 use Rattle.std.proofs.Common.{◌≤◌, length}
 use Rattle.mh_grammar.specs.Plain.{plain_of}
-use Rattle.mh_canon_states.specs.Limits.{max_states}
+use Rattle.mh_canon.specs.Limits.{max_states}
 use Rattle.mh_pager.specs.code.Worklist.{merge_state_of, IsConsistentWorklist}
-use Rattle.mh_pager_steps.specs.code.ReachedByMerging.{IsWellFormed}
+use Rattle.mh_pager.specs.code.ReachedByMerging.{IsWellFormed}
 use Rattle.mh_pager.proofs.PlacesAllMoves.{PutSoFar}
 use Rattle.mh_pager.proofs.stepping.put_all.Given as goal
 

@@ -5,10 +5,10 @@ use Rattle.mh_grammar.specs.Plain.{plain_of}
 use Rattle.mh_grammar.proofs.Lists.{contains_here}
 use Rattle.mh_items_kernels.specs.Collection.{targets_of}
 use Rattle.mh_items_kernels.specs.declared.kernels.StatesFault.TheVariants.{TooManyStates}
-use Rattle.mh_canon_states.specs.Limits.{max_states}
+use Rattle.mh_canon.specs.Limits.{max_states}
 use Rattle.mh_pager.specs.code.MergeStep.{with_oldest}
 use Rattle.mh_pager.specs.code.Worklist.{merge_state_of}
-use Rattle.mh_pager_steps.proofs.StepsAreUnique.{all_put_longer}
+use Rattle.mh_pager.proofs.StepsAreUnique.{all_put_longer}
 use Rattle.mh_pager.proofs.IsWellFormed.{rest_well_formed}
 use Rattle.mh_pager.proofs.IsPlacedRow.{merge_step_of_row, step_exceeds, row_ready}
 use Rattle.mh_pager.proofs.PlacesAllMoves.{symbols_in}

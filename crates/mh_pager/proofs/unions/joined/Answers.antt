@@ -3,7 +3,7 @@ use Rattle.std.specs.List.{slice_get}
 use Rattle.std.proofs.lemmas.Option.{slice_get_read}
 use Rattle.mh_grammar.specs.Plain.{plain_of}
 use Rattle.mh_items_kernels.specs.KernelTypes.{Kernel}
-use Rattle.mh_pager_steps.proofs.HaveSameCoreList.{core_paired}
+use Rattle.mh_pager.proofs.HaveSameCoreList.{core_paired}
 use Rattle.mh_pager.proofs.IsJoin.{JoinedSoFar, JoinedSoFar-more, joined_kernel, joined_exact}
 use Rattle.mh_pager.proofs.unions.joined.Goals as goal
 

@@ -1,5 +1,5 @@
 use Rattle.std.proofs.Common.{sym, ◌∙◌}
-use Rattle.mh_reach_found.specs.code.Arrivals.{spot}
+use Rattle.mh_reach_words.specs.code.Arrivals.{spot}
 use Rattle.mh_reach.proofs.BetterCandidate.{no_candidate, candidate_on}
 use Rattle.mh_reach.proofs.candidates.best_on.Goals as goal
 

@@ -1,4 +1,4 @@
-use Rattle.mh_reach_found.proofs.QueueDraws.{drawn_all, drawn_more, drawn_none}
+use Rattle.mh_reach_words.proofs.QueueDraws.{drawn_all, drawn_more, drawn_none}
 use Rattle.mh_reach_rests.specs.code.RestLevels.{IsDone}
 use Rattle.mh_reach_rests.proofs.settling.all_new.Goals as goal
 

@@ -1,6 +1,6 @@
 use Rattle.std.proofs.Common.{length}
 use Rattle.mh_facts.specs.code.Queues.{row_of}
-use Rattle.mh_reach_found.specs.code.QueueDraws.{DrawsSome}
+use Rattle.mh_reach_words.specs.code.QueueDraws.{DrawsSome}
 use Rattle.mh_reach_rests.specs.code.RestLevels.{IsDone}
 use Rattle.mh_reach_rests.proofs.settling.all_new.Given as goal
 

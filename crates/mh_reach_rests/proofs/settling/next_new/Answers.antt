@@ -1,5 +1,5 @@
 use Rattle.std.proofs.Common.{◌≡◌, None}
-use Rattle.mh_reach_found.proofs.QueueDraws.{draws_none, draws_one, drop_done}
+use Rattle.mh_reach_words.proofs.QueueDraws.{draws_none, draws_one, drop_done}
 use Rattle.mh_reach_rests.specs.code.RestLevels.{IsDone}
 use Rattle.mh_reach_rests.specs.code.SettledWords.{settled_at}
 use Rattle.mh_reach_rests.proofs.WordsOfSettled.{none_there, some_there}

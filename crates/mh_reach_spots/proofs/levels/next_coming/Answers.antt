@@ -1,5 +1,5 @@
 use Rattle.std.proofs.Common.{◌≡◌, None}
-use Rattle.mh_reach_found.proofs.QueueDraws.{draws_none, draws_one, drop_done}
+use Rattle.mh_reach_words.proofs.QueueDraws.{draws_none, draws_one, drop_done}
 use Rattle.mh_reach_spots.specs.code.Spots.{arrival_at}
 use Rattle.mh_reach_spots.specs.code.SpotLevels.{IsReachedAlready}
 use Rattle.mh_reach_spots.proofs.StepsShift.{none_there, some_there}

@@ -1,6 +1,6 @@
 use Rattle.std.proofs.Common.{length}
 use Rattle.mh_facts.specs.code.Queues.{row_of}
-use Rattle.mh_reach_found.proofs.QueueDraws.{Thinned}
+use Rattle.mh_reach_words.proofs.QueueDraws.{Thinned}
 use Rattle.mh_reach_spots.specs.code.SpotLevels.{IsReachedAlready}
 use Rattle.mh_reach_spots.proofs.levels.next_coming.Given as goal
 

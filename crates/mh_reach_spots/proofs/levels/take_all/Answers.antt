@@ -1,4 +1,4 @@
-use Rattle.mh_reach_found.proofs.QueueDraws.{drawn_none, drawn_more, drawn_all}
+use Rattle.mh_reach_words.proofs.QueueDraws.{drawn_none, drawn_more, drawn_all}
 use Rattle.mh_reach_spots.specs.code.SpotLevels.{IsReachedAlready}
 use Rattle.mh_reach_spots.proofs.levels.take_all.Goals as goal
 

@@ -1,7 +1,7 @@
 use Rattle.std.proofs.Common.{get_or, refl}
 use Rattle.mh_grammar.proofs.Lists.{map_step}
 use Rattle.mh_reach_words.specs.declared.word_parts.LastPart.TheVariants as lasts
-use Rattle.mh_reach_found.specs.code.Arrivals.{spot}
+use Rattle.mh_reach_words.specs.code.Arrivals.{spot}
 use Rattle.mh_reach_spots.specs.declared.waiting.WaitingSpot.{WaitingSpot}
 use Rattle.mh_reach_spots.proofs.numbering.all_made.Goals as goal
 

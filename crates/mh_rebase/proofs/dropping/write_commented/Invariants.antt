@@ -1,6 +1,6 @@
 use Rattle.std.proofs.Common.{◌≡◌, ◌++◌, ℕ, List, flat_map}
 use Rattle.std.specs.Prelude.{codes}
-use Rattle.mh_rebase_form.specs.RebasedText.{commented_message}
+use Rattle.mh_rebase.specs.RebasedText.{commented_message}
 use Rattle.mh_rebase.proofs.dropping.write_commented.Given as goal
 
 abbrev pub invariant-loop-line : goal.invariant-loop-line

@@ -1,8 +1,8 @@
 use Rattle.std.proofs.Common.{◌++◌, ap, sym, ◌∙◌}
 use Rattle.std.specs.Prelude.{codes}
 use Rattle.mh_grammar.specs.Text.{Text}
-use Rattle.mh_rebase_form.specs.declared.reason.DropReason.{DropReason}
-use Rattle.mh_rebase_form.specs.RebasedText.{reason_text}
+use Rattle.mh_rebase.specs.declared.reason.DropReason.{DropReason}
+use Rattle.mh_rebase.specs.RebasedText.{reason_text}
 use Rattle.mh_rebase.proofs.dropping.write_reason.Goals as goal
 
 pub returns-in_ok-write_named-in-UnknownStart : goal.returns-in_ok-write_named-in-UnknownStart

@@ -1,6 +1,6 @@
 use Rattle.std.proofs.Common.{◌∙◌, append_assoc}
 use Rattle.std.proofs.lemmas.Result.{on_ok_weaker}
-use Rattle.mh_rebase_form.specs.RebasedText.{dropped_title, reason_text}
+use Rattle.mh_rebase.specs.RebasedText.{dropped_title, reason_text}
 use Rattle.mh_rebase.proofs.entries.add_fault.Goals as goal
 
 pub returns-clause-dropped : goal.returns-clause-dropped

@@ -2,7 +2,7 @@ use Rattle.std.proofs.Common.{◌<◌, ◌^◌, ℕ, List, length, arith, rules,
 use Rattle.std.proofs.lemmas.Result.{on_ok_weaker}
 use Rattle.mh_tables_core.specs.Failing.{Fails}
 use Rattle.mh_report_notation.proofs.KernelItems.{kernel_items}
-use Rattle.mh_report_comments.proofs.CommentParts.{kernel_has, some_item}
+use Rattle.mh_report.proofs.CommentParts.{kernel_has, some_item}
 use Rattle.mh_rebase.proofs.DecidesLine.{kept_plainly, kept_with_expected}
 use Rattle.mh_rebase.proofs.entries.write_kept.Goals as goal
 

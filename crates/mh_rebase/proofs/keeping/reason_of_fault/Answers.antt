@@ -1,7 +1,7 @@
 use Rattle.std.proofs.Common.{Err, subst}
 use Rattle.mh_msgfile.specs.Sentences.{sentence_in, ReadsSentence}
 use Rattle.mh_msgfile.specs.declared.sentence.SentenceFault.{SentenceFault}
-use Rattle.mh_rebase_form.specs.Decisions.{LineIsUnreadable, StartIsUnknown, StartIsMissing, TokenIsUnknown}
+use Rattle.mh_rebase.specs.Decisions.{LineIsUnreadable, StartIsUnknown, StartIsMissing, TokenIsUnknown}
 use Rattle.mh_rebase.proofs.keeping.reason_of_fault.Goals as goal
 
 pub returns-in-Unreadable : goal.returns-in-Unreadable

@@ -1,7 +1,7 @@
 use Rattle.mh_tabfile_form.specs.Form.{table_text}
 use Rattle.mh_tabfile_form.specs.TableContent.{raw_of}
 use Rattle.mh_tabfile_read.proofs.ReadingUnique.{only_reading}
-use Rattle.mh_tabfile_write.proofs.WrittenIsFile.{is_written}
+use Rattle.mh_tabfile.proofs.WrittenIsFile.{is_written}
 use Rattle.mh_validate_valid.proofs.WrittenIsValid.{written_is_valid_for}
 use Rattle.mh_tabfile.proofs.WrittenAgain.{one_content}
 use Rattle.mh_tabfile.proofs.laws.written_again.Goals as goal

@@ -7,7 +7,7 @@ use Rattle.mh_top_check.proofs.checking.check_files.Goals.{in-Ok, in-Err}
 use Rattle.mh_top_check.specs.Examination.{faulty}
 use Rattle.mh_top_check.specs.code.Findings.{FindsIn, IsAcceptedBy}
 use Rattle.mh_top_check.specs.declared.checking.Found.{Found}
-use Rattle.mh_top_types.specs.declared.front.OrderAndGrammar.{OrderAndGrammar}
+use Rattle.mh_top_drive.specs.declared.front.OrderAndGrammar.{OrderAndGrammar}
 
 pub examine_at_width-requires : goal.examine_at_width-requires
 examine_at_width-requires g c =

@@ -16,7 +16,7 @@ use Rattle.mh_opts.specs.declared.jobs.Job.TheVariants.{CheckErrors}
 use Rattle.mh_top_plans.proofs.FileBlocks.{short_blocks}
 use Rattle.mh_top_plans.proofs.MessagesFileLines.{one_opens}
 use Rattle.mh_top_plans.proofs.OpenedAndRan.{opened_followed, opened_read}
-use Rattle.mh_top_types.specs.Shapes.{Prepared}
+use Rattle.mh_top_drive.specs.Shapes.{Prepared}
 use Rattle.mh_top_lists.proofs.ChecksErrors.{IsPlanOfBlocks}
 use Rattle.mh_top_lists.proofs.checking.check_errors.Goals as goal
 

@@ -1,5 +1,5 @@
 use Rattle.std.proofs.Common.{◌≡◌, take}
-use Rattle.mh_catalogue_rows.specs.Rows.{rows_of}
+use Rattle.mh_catalogue.specs.Rows.{rows_of}
 use Rattle.mh_top_lists.proofs.WriteEntriesLoop.{Written}
 use Rattle.mh_top_lists.proofs.entries.write_entries.Given as goal
 

@@ -1,6 +1,6 @@
 use Rattle.std.proofs.Common.{ℕ, List, subst}
-use Rattle.mh_report_comments.specs.Comments.{IsEntryText}
-use Rattle.mh_catalogue_rows.specs.Rows.{row_of}
+use Rattle.mh_report.specs.Comments.{IsEntryText}
+use Rattle.mh_catalogue.specs.Rows.{row_of}
 use Rattle.mh_top_lists.specs.code.Entries.{IsEntryOf}
 use Rattle.mh_top_lists.proofs.WriteEntriesLoop.{entry_ran}
 use Rattle.mh_top_lists.proofs.entries.write_entry.Goals as goal

@@ -16,7 +16,7 @@ use Rattle.mh_opts.specs.declared.jobs.Job.TheVariants.{RebaseErrors}
 use Rattle.mh_top_plans.proofs.LooseFiles.{short_file}
 use Rattle.mh_top_plans.proofs.MessagesFileLines.{one_opens}
 use Rattle.mh_top_plans.proofs.OpenedAndRan.{opened_followed, opened_read}
-use Rattle.mh_top_types.specs.Shapes.{Prepared}
+use Rattle.mh_top_drive.specs.Shapes.{Prepared}
 use Rattle.mh_top_lists.proofs.RebasedWritten.{IsPlanOfLoose}
 use Rattle.mh_top_lists.proofs.rebasing.rebase_errors.Goals as goal
 

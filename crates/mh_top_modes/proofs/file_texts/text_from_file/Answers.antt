@@ -13,7 +13,7 @@ use Rattle.mh_top_plans.specs.Plan.{IsPlanOfJob, writing_plan}
 use Rattle.mh_top_plans.specs.code.Modes.{Opens, WritesFinal}
 use Rattle.mh_top_plans.specs.declared.at_end.FinalText.TheVariants.{Written}
 use Rattle.mh_top_plans.proofs.MessagesFileLines.{one_opens}
-use Rattle.mh_top_types.specs.Shapes.{Prepared}
+use Rattle.mh_top_drive.specs.Shapes.{Prepared}
 use Rattle.mh_top_modes.proofs.file_texts.text_from_file.Goals as goal
 
 -- A result for the job of a kind of text is one for each value that is equal to this kind.

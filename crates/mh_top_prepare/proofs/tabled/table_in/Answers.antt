@@ -1,5 +1,5 @@
 use Rattle.std.proofs.Common.{rules}
-use Rattle.mh_top_tables.specs.declared.sources.AutomatonSource.TheVariants.{File}
+use Rattle.mh_top_prepare.specs.declared.sources.AutomatonSource.TheVariants.{File}
 use Rattle.mh_top_prepare.proofs.StagesToTable.{automaton_kept, automaton_stops, valid_table}
 use Rattle.mh_top_prepare.proofs.tabled.table_in.Goals as goal
 

@@ -1,7 +1,7 @@
 use Rattle.std.proofs.Common.{◌+◌, ◌++◌, List, take, drop, subst}
 use Rattle.mh_msgfile.specs.declared.messages.MsgSentence.{MsgSentence}
 use Rattle.mh_check.specs.Compiling.{ReportsCheckFault}
-use Rattle.mh_update_renewed.specs.Updates.{FirstUnfit}
+use Rattle.mh_update.specs.Updates.{FirstUnfit}
 use Rattle.mh_update.proofs.AreComments.{of_entries, unfit_more, entry_split}
 use Rattle.mh_update.proofs.comments.all_comments.Goals as goal
 

@@ -1,5 +1,5 @@
 use Rattle.std.proofs.Common.{take, flat_map}
-use Rattle.mh_update_renewed.specs.Updates.{AreComments}
+use Rattle.mh_update.specs.Updates.{AreComments}
 use Rattle.mh_update.proofs.comments.all_comments.Given as goal
 
 abbrev pub invariant-loop-entry : goal.invariant-loop-entry

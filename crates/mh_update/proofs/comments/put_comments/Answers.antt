@@ -1,7 +1,7 @@
 use Rattle.std.proofs.Common.{◌+◌, ◌++◌, List, take, drop, subst}
 use Rattle.mh_msgfile.specs.declared.messages.MsgSentence.{MsgSentence}
 use Rattle.mh_check.specs.Compiling.{ReportsCheckFault}
-use Rattle.mh_update_renewed.specs.Updates.{FirstUnfit}
+use Rattle.mh_update.specs.Updates.{FirstUnfit}
 use Rattle.mh_update.proofs.AreComments.{comments_next, unfit_here, unfit_more, sentences_split}
 use Rattle.mh_update.proofs.comments.put_comments.Goals as goal
 

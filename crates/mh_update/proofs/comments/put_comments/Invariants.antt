@@ -1,6 +1,6 @@
 use Rattle.std.proofs.Common.{◌++◌, List, take}
 use Rattle.mh_msgfile.specs.declared.messages.MsgSentence.{MsgSentence}
-use Rattle.mh_update_renewed.specs.Updates.{AreComments}
+use Rattle.mh_update.specs.Updates.{AreComments}
 use Rattle.mh_update.proofs.comments.put_comments.Given as goal
 
 abbrev pub invariant-loop-sentence : goal.invariant-loop-sentence

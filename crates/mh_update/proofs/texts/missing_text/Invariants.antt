@@ -1,5 +1,5 @@
 use Rattle.std.proofs.Common.{◌≡◌, ◌++◌, drop}
-use Rattle.mh_update_renewed.specs.MissingStates.{missing_lines}
+use Rattle.mh_update.specs.MissingStates.{missing_lines}
 use Rattle.mh_update.proofs.texts.missing_text.Given as goal
 
 abbrev pub invariant-loop-state : goal.invariant-loop-state

@@ -1,6 +1,6 @@
 use Rattle.std.proofs.Common.{◌≡◌, ◌++◌, ℕ, List, ap, ◌∙◌, append_assoc}
 use Rattle.std.specs.Prelude.{codes}
-use Rattle.mh_update_renewed.specs.MissingStates.{missing_line, missing_state_text}
+use Rattle.mh_update.specs.MissingStates.{missing_line, missing_state_text}
 use Rattle.mh_update.proofs.texts.write_missing.Goals as goal
 
 regroup : (o a b c d e : List ℕ) → ((((o ++ a) ++ b) ++ c) ++ d) ++ e ≡ o ++ ((((a ++ b) ++ c) ++ d) ++ e)

@@ -1,5 +1,5 @@
 use Rattle.std.proofs.Common.{◌≡◌, ◌++◌, drop}
-use Rattle.mh_update_renewed.specs.Updates.{updated, updated_from}
+use Rattle.mh_update.specs.Updates.{updated, updated_from}
 use Rattle.mh_update.proofs.updating.with_comments.Given as goal
 
 abbrev pub invariant-loop-comment : goal.invariant-loop-comment

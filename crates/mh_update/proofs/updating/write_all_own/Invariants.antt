@@ -1,5 +1,5 @@
 use Rattle.std.proofs.Common.{◌≡◌, ◌++◌, drop}
-use Rattle.mh_update_renewed.specs.Updates.{kept_texts_of}
+use Rattle.mh_update.specs.Updates.{kept_texts_of}
 use Rattle.mh_update.proofs.updating.write_all_own.Given as goal
 
 abbrev pub invariant-loop-line : goal.invariant-loop-line

@@ -2,7 +2,7 @@ use Rattle.std.proofs.Common.{◌≡◌, ℕ, ◌∷◌, length, sym, ◌∙◌,
 use Rattle.std.specs.List.{Contains}
 use Rattle.std.specs.List.Sorted.{IsPermutation}
 use Rattle.mh_items_kernels.proofs.KernelEquality.{item_Decides, kernel_Decides}
-use Rattle.mh_pager_steps.specs.code.Cores.{core_of}
+use Rattle.mh_pager.specs.code.Cores.{core_of}
 use Rattle.mh_pager.proofs.IsCoreIndex.{found_is_placed, absent_not_placed, group_known, group_new, indexed_new}
 use Rattle.mh_pager.proofs.index.CoreIndex.place.Goals as goal
 

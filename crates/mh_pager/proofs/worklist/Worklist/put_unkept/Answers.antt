@@ -3,10 +3,10 @@ use Rattle.std.proofs.lemmas.Option.{slice_get_within}
 use Rattle.mh_grammar.specs.Plain.{plain_of}
 use Rattle.mh_items_kernels.specs.KernelTypes.{Kernel}
 use Rattle.mh_items_kernels.specs.Kernels.{Holds}
-use Rattle.mh_pager_steps.specs.WeakCompatibility.{HaveSameCore}
-use Rattle.mh_canon_states.specs.Limits.{max_states}
+use Rattle.mh_pager.specs.WeakCompatibility.{HaveSameCore}
+use Rattle.mh_canon.specs.Limits.{max_states}
 use Rattle.mh_pager.specs.code.Worklist.{merge_state_of, HasSameCoreAt}
-use Rattle.mh_pager.proofs.PlacesMove.{if_ok, placed_by_joining, placed_by_appending, placing_exceeds}
+use Rattle.mh_pager.proofs.JoinsMoveAt.{if_ok, placed_by_joining, placed_by_appending, placing_exceeds}
 use Rattle.mh_pager.proofs.worklist.Worklist.put_unkept.Goals as goal
 
 pub fitting-requires : goal.fitting-requires

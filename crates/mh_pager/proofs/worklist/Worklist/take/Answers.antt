@@ -3,7 +3,7 @@ use Rattle.std.specs.List.{slice_get}
 use Rattle.std.proofs.lemmas.List.{length-set}
 use Rattle.std.proofs.lemmas.Option.{slice_get_read}
 use Rattle.mh_grammar.specs.Plain.{plain_of}
-use Rattle.mh_pager_steps.specs.code.Cores.{core_of}
+use Rattle.mh_pager.specs.code.Cores.{core_of}
 use Rattle.mh_pager.proofs.IsCoreIndex.{joined_core, indexed_join}
 use Rattle.mh_pager.proofs.worklist.Worklist.take.Goals as goal
 

@@ -1,6 +1,6 @@
 use Rattle.std.proofs.Common.{ap, rules}
 use Rattle.std.specs.Prelude.{Err}
-use Rattle.mh_catalogue_rows.specs.Rows.{rows_of}
+use Rattle.mh_catalogue.specs.Rows.{rows_of}
 use Rattle.mh_top_lists.proofs.WriteEntriesLoop.{catalogue_fit, rows_listed}
 use Rattle.mh_top_lists.proofs.CatalogueRefused.{OutCounts-catalogue_fault, list_stops}
 use Rattle.mh_top_lists.proofs.listing.ErrorListWriter.write.Goals as goal

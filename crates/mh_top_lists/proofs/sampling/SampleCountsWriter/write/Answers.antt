@@ -1,7 +1,7 @@
 use Rattle.std.proofs.Common.{length, ap, sym, ◌∙◌}
 use Rattle.std.proofs.lemmas.List.{length-map}
 use Rattle.std.specs.Prelude.{Err}
-use Rattle.mh_catalogue_rows.specs.Rows.{row_of, rows_of}
+use Rattle.mh_catalogue.specs.Rows.{row_of, rows_of}
 use Rattle.mh_top_lists.proofs.CountsSample.{counts_ran}
 use Rattle.mh_top_lists.proofs.CatalogueRefused.{sample_stops, OutCounts-catalogue_fault}
 use Rattle.mh_top_lists.proofs.sampling.SampleCountsWriter.write.Goals as goal

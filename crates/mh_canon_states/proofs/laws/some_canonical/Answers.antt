@@ -1,5 +1,0 @@
-use Rattle.mh_canon_states.proofs.SomeCanonical.{canonical_or_exceeds}
-use Rattle.mh_canon_states.proofs.laws.some_canonical.Goals as goal
-
-pub returns : goal.returns
-returns c = canonical_or_exceeds

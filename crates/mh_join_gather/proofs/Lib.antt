@@ -1,3 +1,0 @@
-pub mod AddsDefiningFile
-pub mod InsertsRules
-pub mod HasMeanings

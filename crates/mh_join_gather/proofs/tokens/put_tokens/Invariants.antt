@@ -1,7 +1,0 @@
-use Rattle.std.proofs.Common.{◌≡◌, drop, []}
-use Rattle.mh_join_names.specs.Names.{same, tokens_in, insert_all}
-use Rattle.std.specs.List.{flat_map}
-use Rattle.mh_join_gather.proofs.tokens.put_tokens.Given as goal
-
-abbrev pub invariant-loop-file : goal.invariant-loop-file
-invariant-loop-file l = insert_all same l.names.keys (flat_map tokens_in (drop l.file-index l.files)) ≡ insert_all same [] (flat_map tokens_in l.files)

@@ -1,5 +1,0 @@
-use Rattle.mh_pager.proofs.SomeMerged.{merged_or_exceeds}
-use Rattle.mh_pager.proofs.laws.some_merged.Goals as goal
-
-pub returns : goal.returns
-returns c = λ g limit range few. merged_or_exceeds g range limit few

@@ -1,3 +1,0 @@
-pub mod QueueDraws
-pub mod LabelOrder
-pub mod StateAndNextKeys

@@ -1,4 +1,0 @@
-pub mod Arrivals
-pub mod QueueDraws
-pub mod SentenceComparison
-pub mod WordNumbers

@@ -1,6 +1,0 @@
-use Rattle.std.proofs.Common.{arith}
-use Rattle.std.proofs.lemmas.Grind.{common_steps}
-use Rattle.mh_report_comments.proofs.lines.write_all_reduced.Goals as goal
-
-pub loop-production-preserved : goal.loop-production-preserved
-loop-production-preserved c = grind (arith, common_steps)

@@ -1,6 +1,0 @@
-use Rattle.mh_report_comments.specs.Comments.{state_comment}
-use Rattle.mh_report_comments.proofs.lines.write_state.Goals as goal
-
-pub returns : goal.returns
-unfolding state_comment
-returns c = c.write_between.ensures

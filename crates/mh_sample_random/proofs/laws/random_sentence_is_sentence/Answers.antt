@@ -1,6 +1,0 @@
-use Rattle.mh_grammar.specs.Plain.{plain_of}
-use Rattle.mh_sample_random.proofs.RandomIsSentence.{random_is_sentence}
-use Rattle.mh_sample_random.proofs.laws.random_sentence_is_sentence.Goals as goal
-
-pub returns : goal.returns
-returns c = λ seed n s. random_is_sentence (plain_of c.args.grammar.now) seed n s

@@ -1,9 +1,0 @@
-use Rattle.std.proofs.Common.{◌≡◌, ◌≤◌, ◌*◌, ◌^◌, take}
-use Rattle.mh_sample_random.specs.code.Rows.{lengths_in}
-use Rattle.mh_sample_random.proofs.rows.length_of_all.Given as goal
-
-abbrev pub invariant-loop-symbol : goal.invariant-loop-symbol
-invariant-loop-symbol l = record {
-  sum : l.sum ≡ lengths_in l.lengths (take l.symbol-index l.symbols);
-  few : l.sum ≤ l.symbol-index * 2 ^ 16;
-}

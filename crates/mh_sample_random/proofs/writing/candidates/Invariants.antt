@@ -1,7 +1,0 @@
-use Rattle.std.proofs.Common.{◌≡◌, take}
-use Rattle.std.specs.List.{filter}
-use Rattle.mh_sample_random.specs.code.Rows.{fits}
-use Rattle.mh_sample_random.proofs.writing.candidates.Given as goal
-
-abbrev pub invariant-loop-choice : goal.invariant-loop-choice
-invariant-loop-choice l = l.candidates.items ≡ filter (fits l.room) (take l.choice-index l.row)

@@ -1,4 +1,0 @@
-pub mod Limits
-pub mod Faults
-pub mod Random
-pub mod code

@@ -1,6 +1,0 @@
-use Rattle.std.proofs.Common.{◌≡◌, drop}
-use Rattle.mh_sample_shortest.specs.code.Chains.{lex_less}
-use Rattle.mh_sample_shortest.proofs.order.is_lower.Given as goal
-
-abbrev pub invariant-loop-place : goal.invariant-loop-place
-invariant-loop-place l = lex_less (drop l.place l.word) (drop l.place l.other) ≡ lex_less l.word l.other

@@ -1,2 +1,0 @@
-pub mod WrittenIsFile
-pub mod LinesWritten

@@ -1,6 +1,0 @@
-use Rattle.std.proofs.Common.{arith}
-use Rattle.mh_tabfile_write.proofs.WrittenIsFile.{is_written}
-use Rattle.mh_tabfile_write.proofs.laws.written_is_file.Goals as goal
-
-pub returns : goal.returns
-returns g c = is_written c.args.grammar.now c.args.automaton.now c.args.mode c.args.table.now c.requires.names c.requires.table.range c.requires.table.automaton c.requires.table.table c.facts.ensures

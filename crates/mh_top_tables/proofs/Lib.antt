@@ -1,4 +1,0 @@
-pub mod IsTableFault
-pub mod IsAutomatonSource
-pub mod ResolvedStage
-pub mod HasNumberedStates

@@ -1,2 +1,0 @@
-pub mod MissingStates
-pub mod Updates
