@@ -244,18 +244,22 @@ fn instances_finding(
     }
 }
 
-/// Files whose instances have this fault.
+/// Files whose instances have this fault. `drop` frees the files and the fault at once, because freeing one field after
+/// the other at the end of the scope takes long to prove.
 fn instances_fault(
     alloc: Global,
-    files: &JoinedFiles,
-    fault: &GrammarFault,
+    files: JoinedFiles,
+    fault: GrammarFault,
 ) -> Result<Examined, Memory>
-    requires places { HasPlaces files.now.read }
-    requires cause { HasCauseOrMemory (IsJoinedFault files.now.joined) fault.now }
-    ensures examined { IfOk result (λ e. (given : List Given) (prelude : Bool) (found : List Placed) → AreJoinedFiles prelude given found files.now → IsExaminedAs given prelude e) }
+    requires places { HasPlaces files.read }
+    requires cause { HasCauseOrMemory (IsJoinedFault files.joined) fault }
+    ensures examined { IfOk result (λ e. (given : List Given) (prelude : Bool) (found : List Placed) → AreJoinedFiles prelude given found files → IsExaminedAs given prelude e) }
     ensures ready { IfOk result IsExaminedReady }
 {
-    let findings = instances_finding(alloc, files, fault)?;
+    let found = instances_finding(alloc, &files, &fault);
+    drop(files);
+    drop(fault);
+    let findings = found?;
     Ok(Examined::Faulty { findings })
 }
 
@@ -277,7 +281,10 @@ fn with_expanded(alloc: Global, files: JoinedFiles, expanded: Expanded) -> Resul
             },
             grammar,
         }),
-        Err(fault) => instances_fault(alloc, &files, &GrammarFault::from(fault)),
+        Err(fault) => {
+            drop(expanded);
+            instances_fault(alloc, files, GrammarFault::from(fault))
+        }
     }
 }
 
@@ -289,7 +296,7 @@ fn with_joined(alloc: Global, files: JoinedFiles) -> Result<Examined, Memory>
 {
     match expand(alloc, &files.joined) {
         Ok(expanded) => with_expanded(alloc, files, expanded),
-        Err(fault) => instances_fault(alloc, &files, &GrammarFault::from(fault)),
+        Err(fault) => instances_fault(alloc, files, GrammarFault::from(fault)),
     }
 }
 
@@ -343,7 +350,13 @@ fn with_names(
                 joined,
             },
         ),
-        Err(fault) => names_fault(alloc, &read, &names, &fault),
+        Err(fault) => {
+            let examined = names_fault(alloc, &read, &names, &fault);
+            drop(read);
+            drop(names);
+            drop(fault);
+            examined
+        }
     }
 }
 

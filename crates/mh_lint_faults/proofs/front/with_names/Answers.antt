@@ -10,8 +10,8 @@ with_joined-requires c = record {
   tokens = tokens_named c.args.prelude c.args.read.modules.items c.args.names c.in-Ok.joined c.requires.names (rw c.as_slice.ensures.value at c.in-Ok.ensures.joins);
 }
 
-pub names_fault-requires-clause-kinds : goal.names_fault-requires-clause-kinds
-names_fault-requires-clause-kinds c = rule_kinds c.args.prelude c.args.read.modules.items c.args.names c.requires.names
+pub names_fault-examined-requires-clause-kinds : goal.names_fault-examined-requires-clause-kinds
+names_fault-examined-requires-clause-kinds c = rule_kinds c.args.prelude c.args.read.modules.items c.args.names c.requires.names
 
 pub returns-in-Ok-clause-examined : goal.returns-in-Ok-clause-examined
 returns-in-Ok-clause-examined c =
@@ -21,6 +21,6 @@ returns-in-Ok-clause-examined c =
 
 pub returns-in-Err-clause-examined : goal.returns-in-Err-clause-examined
 returns-in-Err-clause-examined c =
-    IfOk-weaker c.names_fault.result _ _
+    IfOk-weaker c.names_fault-examined.result _ _
     (λ e examined given found reads split. examined given c.args.prelude found reads split c.requires.names (rw c.as_slice.ensures.value at c.in-Err.ensures.joins))
-    c.names_fault.ensures.examined
+    c.names_fault-examined.ensures.examined
