@@ -23,10 +23,21 @@ use std::alloc::Global;
 use std::collections::HashSet;
 
 /// The names whose levels are compared, and the alternatives whose `%prec` gives a level that is compared.
-#[derive(Drop)]
 pub(crate) struct UsedLevels {
     names: HashSet<Name>,
     alternatives: HashSet<AlternativeOf>,
+}
+
+// The exit of a function drops this value by one call.
+impl Drop for UsedLevels {
+    fn drop(self) {
+        let UsedLevels {
+            names,
+            alternatives,
+        } = self;
+        drop(names);
+        drop(alternatives);
+    }
 }
 
 impl UsedLevels {

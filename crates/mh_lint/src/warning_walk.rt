@@ -68,7 +68,6 @@ struct ActualOf {
 
 /// What the names of the files are used for, during the walk over the mentions. The walk sets the flag of a token after
 /// its first declaration, and the flag of a rule after its first definition, so that only this mention gets a warning.
-#[derive(Drop)]
 struct Uses {
     tokens: Vec<bool>,
     rules: Vec<bool>,
@@ -80,6 +79,27 @@ struct Uses {
     own: HashSet<u64>,
     /// The actuals of the `%on_error_reduce` declarations of the current file so far.
     actuals: HashSet<ActualOf>,
+}
+
+// The exit of a function drops this value by one call. With the derived destructor it would drop each field.
+impl Drop for Uses {
+    fn drop(self) {
+        let Uses {
+            tokens,
+            rules,
+            levels,
+            declarations,
+            declarations_before: _,
+            own,
+            actuals,
+        } = self;
+        drop(tokens);
+        drop(rules);
+        drop(levels);
+        drop(declarations);
+        drop(own);
+        drop(actuals);
+    }
 }
 
 /// Whether there is a flag with this number that is not set.
