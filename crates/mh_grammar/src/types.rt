@@ -107,7 +107,6 @@ pub struct Production {
 /// -> S` for start i, and the ordinary productions follow in order. There are at most 65,535 tokens, nonterminals and
 /// starts each, fewer than 2^32 productions, and fewer than 2^32 symbols in a right side. `is_in_range` of mh_grammar
 /// tests these limits, and that each number in the grammar names something.
-#[derive(Drop)]
 pub struct Grammar {
     /// The tokens, by number.
     pub tokens: Sequence<TokenInfo>,
@@ -117,6 +116,22 @@ pub struct Grammar {
     pub productions: Sequence<Production>,
     /// The nonterminal of each start, by the start's number.
     pub starts: Sequence<u16>,
+}
+
+// The exit of a function drops this value by one call. With the derived destructor it would drop each field.
+impl Drop for Grammar {
+    fn drop(self) {
+        let Grammar {
+            tokens,
+            nonterminals,
+            productions,
+            starts,
+        } = self;
+        drop(tokens);
+        drop(nonterminals);
+        drop(productions);
+        drop(starts);
+    }
 }
 
 /// A sentence: the number of a start, from 0, and tokens.

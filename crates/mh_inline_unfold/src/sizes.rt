@@ -18,10 +18,18 @@ pub struct Size {
 
 /// The sizes of those inline instances whose size has been computed, and the list of these instances, in which each
 /// comes after the inline instances that it uses.
-#[derive(Drop)]
 pub struct SizeTable {
     pub sizes: Vec<Option<Size>>,
     pub order: Vec<u32>,
+}
+
+// The exit of a function drops this value by one call. With the derived destructor it would drop each field.
+impl Drop for SizeTable {
+    fn drop(self) {
+        let SizeTable { sizes, order } = self;
+        drop(sizes);
+        drop(order);
+    }
 }
 
 /// The size of two lists of unfoldings together: the sum of their counts, capped at one more than `MAX_PRODUCTIONS`,

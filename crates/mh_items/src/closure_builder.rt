@@ -18,7 +18,6 @@ use mh_items_kernels::{Closure, Kernel, KernelItem, symbol_at};
 use std::alloc::Global;
 
 /// The sets of a grammar from which closures are computed, with scratch space that is used again for each kernel.
-#[derive(Drop)]
 pub struct ClosureBuilder<const W: usize> {
     /// The sets and links of the grammar.
     pub(crate) firsts: Firsts<W>,
@@ -26,6 +25,20 @@ pub struct ClosureBuilder<const W: usize> {
     pub(crate) asked: PendingLooks<W>,
     /// For each nonterminal, whether a production of it is empty or begins with a marked nonterminal.
     pub(crate) empties: Vec<bool>,
+}
+
+// The exit of a function drops this value by one call. With the derived destructor it would drop each field.
+impl<const W: usize> Drop for ClosureBuilder<W> {
+    fn drop(self) {
+        let ClosureBuilder {
+            firsts,
+            asked,
+            empties,
+        } = self;
+        drop(firsts);
+        drop(asked);
+        drop(empties);
+    }
 }
 
 impl<const W: usize> ClosureBuilder<W> {

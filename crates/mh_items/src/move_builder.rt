@@ -15,12 +15,20 @@ use std::alloc::Global;
 
 /// The sets of a grammar from which moves of kernels are computed, with scratch space that is used again for each
 /// kernel.
-#[derive(Drop)]
 pub struct MoveBuilder<const W: usize> {
     /// Computes the closures of the kernels.
     pub(crate) closer: ClosureBuilder<W>,
     /// Scratch space, empty between two kernels.
     pub(crate) rows: SymbolRows<W>,
+}
+
+// The exit of a function drops this value by one call. With the derived destructor it would drop each field.
+impl<const W: usize> Drop for MoveBuilder<W> {
+    fn drop(self) {
+        let MoveBuilder { closer, rows } = self;
+        drop(closer);
+        drop(rows);
+    }
 }
 
 impl<const W: usize> MoveBuilder<W> {

@@ -20,12 +20,20 @@ pub struct ItemsWith<L> {
 }
 
 /// The kernels of the states, and for each state its edges in the order of their symbols.
-#[derive(Drop)]
 pub struct AutomatonWith<L> {
     /// The kernels of the states, by their numbers.
     pub kernels: Sequence<ItemsWith<L>>,
     /// The edges of each state, in the order of their symbols.
     pub edges: Sequence<Sequence<Edge>>,
+}
+
+// The exit of a function drops this value by one call. With the derived destructor it would drop each field.
+impl<L: Drop> Drop for AutomatonWith<L> {
+    fn drop(self) {
+        let AutomatonWith { kernels, edges } = self;
+        drop(kernels);
+        drop(edges);
+    }
 }
 
 /// An item whose lookahead set has W words.

@@ -37,7 +37,6 @@ pub enum DefiningFiles {
 pub type DefiningFilesOf = HashMap<Name, DefiningFiles>;
 
 /// The meanings of the names of all files, as hash tables. Files are numbered from 1; the prelude is file 0.
-#[derive(Drop)]
 pub struct SymbolTables {
     pub tokens: NameList,
     pub starts: NameList,
@@ -47,6 +46,29 @@ pub struct SymbolTables {
     pub kinds: NameKinds,
     pub definers: DefiningFilesOf,
     pub numbering: Numbering,
+}
+
+// The exit of a function drops this value by one call. With the derived destructor it would drop each field.
+impl Drop for SymbolTables {
+    fn drop(self) {
+        let SymbolTables {
+            tokens,
+            starts,
+            aliases,
+            levels: _,
+            costs,
+            kinds,
+            definers,
+            numbering,
+        } = self;
+        drop(tokens);
+        drop(starts);
+        drop(aliases);
+        drop(costs);
+        drop(kinds);
+        drop(definers);
+        drop(numbering);
+    }
 }
 
 impl SymbolTables {

@@ -37,12 +37,27 @@ use mh_rules::{Expanded, Joined, MAX_TOKENS, Rule};
 use std::alloc::Global;
 
 /// The files of an accepted grammar at each stage of the front end, with the places of their names.
-#[derive(Drop)]
 pub struct AcceptedFiles {
     pub read: ReadFiles,
     pub names: SymbolTables,
     pub joined: Joined,
     pub expanded: Expanded,
+}
+
+// The exit of a function drops this value by one call. With the derived destructor it would drop each field.
+impl Drop for AcceptedFiles {
+    fn drop(self) {
+        let AcceptedFiles {
+            read,
+            names,
+            joined,
+            expanded,
+        } = self;
+        drop(read);
+        drop(names);
+        drop(joined);
+        drop(expanded);
+    }
 }
 
 /// The outcome of the examination of files.

@@ -45,7 +45,6 @@ pub struct FileNames<'a> {
 }
 
 /// What the earlier mentions of the file say about the next mention.
-#[derive(Drop)]
 struct Context<'a> {
     /// The token that was declared last.
     token: Name,
@@ -58,6 +57,25 @@ struct Context<'a> {
     formals: Formals,
     /// The alternatives that have a `%prec` of their own.
     precs: HashSet<u64>,
+}
+
+// The exit of a function drops this value by one call. With the derived destructor it would drop each field.
+impl<'a> Drop for Context<'a> {
+    fn drop(self) {
+        let Context {
+            token,
+            own,
+            rules: _,
+            seen,
+            formals,
+            precs,
+        } = self;
+        drop(token);
+        drop(own);
+        drop(seen);
+        drop(formals);
+        drop(precs);
+    }
 }
 
 pub fn text_of(reference: &Ref) -> &Name

@@ -20,13 +20,26 @@ use mh_tables_core::Table;
 use std::alloc::Global;
 
 /// Flags for what occurs in some state of an automaton and of its table.
-#[derive(Drop)]
 pub struct ShownByStates {
     pub compared: ComparedLevels,
     /// For each production, the start productions first, whether some state reduces the production.
     pub reduced: Vec<bool>,
     /// For each nonterminal whether some state reduces a production of the nonterminal on errors.
     pub on_errors: Vec<bool>,
+}
+
+// The exit of a function drops this value by one call. With the derived destructor it would drop each field.
+impl Drop for ShownByStates {
+    fn drop(self) {
+        let ShownByStates {
+            compared,
+            reduced,
+            on_errors,
+        } = self;
+        drop(compared);
+        drop(reduced);
+        drop(on_errors);
+    }
 }
 
 /// The flags, none of which is set.

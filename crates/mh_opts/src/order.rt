@@ -8,7 +8,6 @@ use std::alloc::AllocError;
 use thiserror::Error;
 
 /// An order: a job and its options.
-#[derive(Drop)]
 pub struct Order {
     pub job: Job,
     /// The names of the grammar files, in the order of their words.
@@ -30,6 +29,28 @@ pub struct Order {
     pub messages: Option<Name>,
     /// `--tables FILE`: the table file to use in place of a built table, if given.
     pub tables: Option<Name>,
+}
+
+// The exit of a function drops this value by one call. With the derived destructor it would drop each field.
+impl Drop for Order {
+    fn drop(self) {
+        let Order {
+            job,
+            grammars,
+            canonical: _,
+            strict: _,
+            stdlib: _,
+            show_cst: _,
+            show_expected: _,
+            comment_expected: _,
+            messages,
+            tables,
+        } = self;
+        drop(job);
+        drop(grammars);
+        drop(messages);
+        drop(tables);
+    }
 }
 
 /// Why the words are not an order. The faults are tested in the order of the variants, and the first is reported.

@@ -21,7 +21,6 @@ use mh_items_kernels::{Kernel, StatesFault};
 use std::alloc::Global;
 
 /// The states during the construction, with the queue of those that need edges.
-#[derive(Drop)]
 pub struct Worklist<const W: usize> {
     /// The kernels of the states.
     pub kernels: Vec<Kernel<W>>,
@@ -31,6 +30,22 @@ pub struct Worklist<const W: usize> {
     pub queue: Queue,
     /// The states by core.
     pub(crate) index: CoreIndex,
+}
+
+// The exit of a function drops this value by one call. With the derived destructor it would drop each field.
+impl<const W: usize> Drop for Worklist<W> {
+    fn drop(self) {
+        let Worklist {
+            kernels,
+            rows,
+            queue,
+            index,
+        } = self;
+        drop(kernels);
+        drop(rows);
+        drop(queue);
+        drop(index);
+    }
 }
 
 impl<const W: usize> Worklist<W> {

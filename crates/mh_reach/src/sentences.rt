@@ -28,12 +28,25 @@ pub struct FailureCandidate {
 
 /// For each state of a table, whether a sentence fails there, and the first sentence that does; and for each token,
 /// whether a sentence comes to the state with the token next, and the first that does.
-#[derive(Drop)]
 pub struct Reach<'t> {
     pub(crate) table: &'t Halting,
     pub(crate) classes: TokenClasses,
     pub(crate) spots: Spots,
     pub(crate) best: Vec<Option<FailureCandidate>>,
+}
+
+// The exit of a function drops this value by one call. With the derived destructor it would drop each field.
+impl<'t> Drop for Reach<'t> {
+    fn drop(self) {
+        let Reach {
+            table: _,
+            classes: _,
+            spots,
+            best,
+        } = self;
+        drop(spots);
+        drop(best);
+    }
 }
 
 impl<'t> Model for Reach<'t> {

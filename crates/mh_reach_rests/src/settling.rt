@@ -16,15 +16,45 @@ use crate::waiting::{RestData, SettledGoto, SettledRest, WaitingWord};
 use mh_facts::queue::{Queue, push, take};
 use mh_facts::{CAP, TokenClasses};
 use mh_grammar::Memory;
+use mh_reach_words::Book;
 use mh_tables_core::Table;
 use std::alloc::Global;
 
 /// The result of the search: the settled words, the words by their numbers, and the working data.
-#[derive(Drop)]
 pub struct RestsFound {
     pub settled: SettledWords,
     pub words: RestBook,
     pub work: RestData,
+}
+
+// The exit of a function drops this value by one call. With the derived destructor it would drop each field.
+impl Drop for RestsFound {
+    fn drop(self) {
+        let RestsFound {
+            settled,
+            words,
+            work,
+        } = self;
+        drop(settled);
+        drop(words);
+        drop(work);
+    }
+}
+
+impl RestsFound {
+    /// Returns the book of the words, and drops the rest of the result.
+    pub fn into_book(self) -> Book
+        ensures { result ≡ self.words.book }
+    {
+        let RestsFound {
+            settled,
+            words,
+            work,
+        } = self;
+        drop(settled);
+        drop(work);
+        words.book
+    }
 }
 
 /// A waiting word with its number.

@@ -14,7 +14,7 @@ use crate::spots::Spots;
 use crate::steps::starts;
 use mh_facts::{CAP, OrderedMap, TokenClasses};
 use mh_grammar::{Memory, lost};
-use mh_reach_rests::{RestBook, RestsFound};
+use mh_reach_rests::RestsFound;
 use mh_reach_words::Book;
 use mh_tables_core::Table;
 use std::alloc::Global;
@@ -76,20 +76,6 @@ fn arrive_by(
     }
 }
 
-/// Returns the words of the first search by their numbers, and drops the rest of its result.
-fn words_of(found: RestsFound) -> RestBook
-    ensures { result ≡ found.words }
-{
-    found.words
-}
-
-/// Returns the book of the words.
-fn book_of(words: RestBook) -> Book
-    ensures { result ≡ words.book }
-{
-    words.book
-}
-
 /// Finds, for each state and next token that a run reaches, the first of the sentences of least cost: by start and then
 /// lexicographically. Fails only if memory runs out.
 pub fn arrive(
@@ -104,7 +90,7 @@ pub fn arrive(
 {
     match gotos_by_start(alloc, table, classes, &found) {
         Ok(gotos) => {
-            let book = book_of(words_of(found));
+            let book = found.into_book();
             arrive_by(alloc, table, classes, gotos.as_slice(), book)
         }
         Err(_) => Err(lost(found)),

@@ -11,10 +11,18 @@ use std::cmp::Ordering;
 
 /// The parts of two words that are still to be compared, as two stacks with the first part on top. (They are not rests
 /// of paths as in `mh_reach_rests`.)
-#[derive(Drop)]
 pub struct Rests {
     pub left: Vec<LastPart>,
     pub right: Vec<LastPart>,
+}
+
+// The exit of a function drops this value by one call. With the derived destructor it would drop each field.
+impl Drop for Rests {
+    fn drop(self) {
+        let Rests { left, right } = self;
+        drop(left);
+        drop(right);
+    }
 }
 
 /// Two empty stacks.

@@ -36,9 +36,22 @@ pub struct Instance {
 }
 
 /// The instances in the order in which they are found, the numbers of the starts among them, and the tokens.
-#[derive(Drop)]
 pub struct Expanded {
     pub tokens: Sequence<TokenInfo>,
     pub starts: Sequence<u32>,
     pub instances: Sequence<Instance>,
+}
+
+// The exit of a function drops this value by one call. With the derived destructor it would drop each field.
+impl Drop for Expanded {
+    fn drop(self) {
+        let Expanded {
+            tokens,
+            starts,
+            instances,
+        } = self;
+        drop(tokens);
+        drop(starts);
+        drop(instances);
+    }
 }

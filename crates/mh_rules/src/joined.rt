@@ -50,7 +50,6 @@ pub struct JoinedRule {
 }
 
 /// The tokens, starts, on-error declarations and rules of all files.
-#[derive(Drop)]
 pub struct Joined {
     /// The tokens in order of first declaration. A level has the number of its file, from 1, and its rank in the file,
     /// from 0.
@@ -61,4 +60,20 @@ pub struct Joined {
     pub on_error: Sequence<Sequence<Applied>>,
     /// The rules in order of their first definitions; those of the prelude come last.
     pub rules: Sequence<JoinedRule>,
+}
+
+// The exit of a function drops this value by one call. With the derived destructor it would drop each field.
+impl Drop for Joined {
+    fn drop(self) {
+        let Joined {
+            tokens,
+            starts,
+            on_error,
+            rules,
+        } = self;
+        drop(tokens);
+        drop(starts);
+        drop(on_error);
+        drop(rules);
+    }
 }

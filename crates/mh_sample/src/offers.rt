@@ -19,12 +19,20 @@ use std::cmp::Reverse;
 use std::collections::BinaryHeap;
 
 /// The worklist: what the productions still lack, and their offers.
-#[derive(Drop)]
 pub struct Waiting {
     /// For each production the number of symbols in its right side without a word.
     pub missing: Vec<usize>,
     /// The heap of offers, with the least offer on top.
     pub offers: BinaryHeap<Reverse<Offer>>,
+}
+
+// The exit of a function drops this value by one call. With the derived destructor it would drop each field.
+impl Drop for Waiting {
+    fn drop(self) {
+        let Waiting { missing, offers } = self;
+        drop(missing);
+        drop(offers);
+    }
 }
 
 /// Gives a word to each nonterminal that has words of at most `MAX_WORD` tokens, in the order of the offers.

@@ -17,7 +17,6 @@ use std::marker::Model;
 
 /// The table of an LR(1) parser: the states with their cells, defaults, edges and cores, and the grammar without its
 /// names. Its invariant guarantees that a reduction of a run always finds its symbols and its goto.
-#[derive(Drop)]
 pub struct Table {
     tokens: u16,
     nonterminals: u16,
@@ -25,6 +24,24 @@ pub struct Table {
     productions: Sequence<Production>,
     costs: Sequence<u32>,
     states: Sequence<StateParts>,
+}
+
+// The exit of a function drops this value by one call. With the derived destructor it would drop each field.
+impl Drop for Table {
+    fn drop(self) {
+        let Table {
+            tokens: _,
+            nonterminals: _,
+            starts,
+            productions,
+            costs,
+            states,
+        } = self;
+        drop(starts);
+        drop(productions);
+        drop(costs);
+        drop(states);
+    }
 }
 
 impl Model for Table {

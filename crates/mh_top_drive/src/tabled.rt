@@ -7,13 +7,27 @@ use mh_tables_core::Halting;
 
 /// The automaton of a grammar, its table, on which every run ends, and its conflicts in order. `L` is the type of
 /// lookahead sets.
-#[derive(Drop)]
 pub struct TabledAutomatonWith<L> {
     pub automaton: AutomatonWith<L>,
     pub halting: Halting,
     pub conflicts: Sequence<Conflict>,
     /// Whether the table was resolved as that of a merged or of a canonical automaton.
     pub mode: Mode,
+}
+
+// The exit of a function drops this value by one call. With the derived destructor it would drop each field.
+impl<L: Drop> Drop for TabledAutomatonWith<L> {
+    fn drop(self) {
+        let TabledAutomatonWith {
+            automaton,
+            halting,
+            conflicts,
+            mode: _,
+        } = self;
+        drop(automaton);
+        drop(halting);
+        drop(conflicts);
+    }
 }
 
 /// A `TabledAutomatonWith` whose lookahead sets have `W` words of 64 bits.

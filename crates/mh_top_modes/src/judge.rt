@@ -9,7 +9,6 @@ use mh_msgfile::Lexicon;
 use mh_tables_core::Halting;
 
 /// The mode of `--interpret`: all that the answer to a line depends on.
-#[derive(Drop)]
 pub(crate) struct Judging<'a> {
     /// True if an accepted sentence is shown with its tree.
     pub(crate) trees: bool,
@@ -22,4 +21,20 @@ pub(crate) struct Judging<'a> {
     pub(crate) messages: Option<Compiled>,
     ghost numbers: { vocabulary_in lexicon ≡ vocabulary_of grammar.now },
     ghost same: { halting.now.grammar ≡ plain_of grammar.now },
+}
+
+// The exit of a function drops this value by one call. With the derived destructor it would drop each field.
+impl<'a> Drop for Judging<'a> {
+    fn drop(self) {
+        let Judging {
+            trees: _,
+            expected: _,
+            grammar: _,
+            lexicon,
+            halting: _,
+            messages,
+        } = self;
+        drop(lexicon);
+        drop(messages);
+    }
 }
