@@ -1,7 +1,7 @@
 //! A first look at the libraries, for readers: from the text of a grammar file to its table, a verdict, trees,
-//! checkpoints and sessions. `mh_surface_files` and `mh_surface_rooms` go on. Each file is one way to use the
-//! libraries, and all files use one small grammar, whose only sentence is `A EOF`. Each compared value was worked out
-//! by hand. Begin with `making` and `from_text_to_verdict`.
+//! checkpoints and sessions. `mh_surface_files` goes on. Each file is one way to use the libraries, and all files use
+//! one small grammar, whose only sentence is `A EOF`. Each compared value was worked out by hand. Begin with `making`
+//! and `from_text_to_verdict`.
 #![tactic(auto)]
 
 #[cfg(test)]

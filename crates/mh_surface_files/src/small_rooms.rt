@@ -1,5 +1,5 @@
 //! Small libraries that can be used alone: names and derivations, sets of tokens, least costs, generated grammars, the
-//! words of the command line, and devices in memory; and the whole tool as one call.
+//! words of the command line, and devices in memory.
 ghost use Rattle.std.specs.Prelude.{◌≤◌, ◌<◌, length};
 ghost use Rattle.mh_grammar.specs.Plain.{plain_of, IsInRange};
 
@@ -14,7 +14,6 @@ use mh_reader::read_module;
 use mh_sample::{Sample, Shortest, random_sentence, sample, shortest_words};
 use mh_sets::{TokenSet, with_width};
 use mh_surface::{grammar_of, is_small};
-use mh_top::menhir;
 use mh_worked_files::ONE_SENTENCE;
 use std::alloc::Global;
 use std::process::Abort;
@@ -295,23 +294,5 @@ fn shelves(rt: HostRuntime) -> Result<(), Fail> {
     let is_absent = matches!(read, Err(ShelfFault::Absent));
     drop(read);
     assert!(rt; is_absent);
-    Ok(())
-}
-
-/// The whole tool over devices in memory: status 2 and a line on `err`, because no word selects a mode.
-#[test]
-fn the_command(rt: HostRuntime) -> Result<(), Fail> {
-    let alloc = rt.alloc();
-    let mut shelf = MemShelf::new(Vec::new(alloc), Vec::new(alloc));
-    let mut input = MemSource::new(Vec::new(alloc), Vec::new(alloc));
-    let mut out = MemSink::new(alloc, Vec::new(alloc));
-    let mut err = MemSink::new(alloc, Vec::new(alloc));
-    let status = menhir(alloc, &[], &mut shelf, &mut input, &mut out, &mut err);
-    assert!(rt; status == 2 && out.written().is_empty());
-    assert!(rt; err.written() == "menhir: usage: no mode\n".as_bytes());
-    drop(shelf);
-    drop(input);
-    drop(out);
-    drop(err);
     Ok(())
 }

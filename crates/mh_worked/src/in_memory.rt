@@ -1,5 +1,8 @@
-//! The program in memory: lists of errors, verdicts, rooms that are too small, and calls that are refused.
+//! The program in memory: as one call over devices, and as one call over words, files and an input, as other languages
+//! call it: lists of errors, verdicts, rooms that are too small, and calls that are refused.
+use mh_outside::{MemShelf, MemSink, MemSource};
 use mh_page::{PageFile, Request, run_in_memory};
+use mh_top::menhir;
 use std::alloc::Global;
 use std::process::Abort;
 use std::test::Fail;
@@ -208,4 +211,22 @@ fn nothing(rt: HostRuntime) -> Result<(), Fail> {
         err: b"menhir: usage: no mode\n",
     };
     check(&rt, rt.alloc(), &request, 0, &wanted)
+}
+
+/// The whole tool over devices in memory: status 2 and a line on `err`, because no word selects a mode.
+#[test]
+fn the_command(rt: HostRuntime) -> Result<(), Fail> {
+    let alloc = rt.alloc();
+    let mut shelf = MemShelf::new(Vec::new(alloc), Vec::new(alloc));
+    let mut input = MemSource::new(Vec::new(alloc), Vec::new(alloc));
+    let mut out = MemSink::new(alloc, Vec::new(alloc));
+    let mut err = MemSink::new(alloc, Vec::new(alloc));
+    let status = menhir(alloc, &[], &mut shelf, &mut input, &mut out, &mut err);
+    assert!(rt; status == 2 && out.written().is_empty());
+    assert!(rt; err.written() == "menhir: usage: no mode\n".as_bytes());
+    drop(shelf);
+    drop(input);
+    drop(out);
+    drop(err);
+    Ok(())
 }
