@@ -10,6 +10,7 @@ ghost use Rattle.mh_resolve_cells.specs.States.{IsTableOf};
 ghost use Rattle.mh_resolve_cells.specs.declared.kinds.Mode.TheVariants.{Merged};
 ghost use Rattle.mh_tables_core.specs.Failing.{Fails};
 
+use crate::texts::check_written;
 use mh_catalogue::{CatalogueFault, Row, catalogue};
 use mh_check::{CheckFault, Compiled, compare, compile};
 use mh_grammar::{Grammar, Memory, Sentence, Token};
@@ -162,8 +163,7 @@ fn check_sentence(
     let tokens = sentence.tokens.as_slice();
     assert!(rt; sentence.start == 0 && tokens == [A, A].as_slice());
     let text = comment_lines(alloc, grammar, automaton, table, sentence.start, tokens)?;
-    assert_eq!(rt; str::from_utf8(&text)?, COMMENT);
-    drop(text);
+    check_written(rt, text, COMMENT);
     Ok(())
 }
 
@@ -200,8 +200,7 @@ fn check_entry_text(
     let ends = comments.ends_with(b"## Expected: EOF\n");
     drop(comments);
     let entry = commenter.entry(alloc, sentence.start, tokens)?;
-    assert_eq!(rt; str::from_utf8(&entry)?, ENTRY);
-    drop(entry);
+    check_written(rt, entry, ENTRY);
     assert!(rt; ends);
     Ok(())
 }
@@ -336,11 +335,9 @@ fn check_prints(
 ) -> Result<(), Fail> {
     let text = print_messages(alloc, grammar, file)?;
     let wanted = "s: EOF\n\nExpected A.\n\ns: A A\n\nExpected EOF.\n\n";
-    assert_eq!(rt; str::from_utf8(&text)?, wanted);
-    drop(text);
+    check_written(rt, text, wanted);
     let text = echo(alloc, grammar, file)?;
-    assert_eq!(rt; str::from_utf8(&text)?, "s: EOF\ns: A A\n");
-    drop(text);
+    check_written(rt, text, "s: EOF\ns: A A\n");
     Ok(())
 }
 
@@ -386,8 +383,7 @@ fn check_update(
     let Ok(text) = update(alloc, grammar, automaton, table, file, false) else {
         return Err(Fail::from("a file that does not fit"));
     };
-    assert_eq!(rt; str::from_utf8(&text)?, UPDATED);
-    drop(text);
+    check_written(rt, text, UPDATED);
     Ok(())
 }
 
@@ -454,8 +450,7 @@ fn check_rebased(
     let Ok(text) = rebase(alloc, grammar, automaton, table, file, false) else {
         return Err(Fail::from("a file that is not rebased"));
     };
-    assert_eq!(rt; str::from_utf8(&text)?, REBASED);
-    drop(text);
+    check_written(rt, text, REBASED);
     Ok(())
 }
 
@@ -496,8 +491,7 @@ fn check_lines(
     let Ok(text) = error_lines(alloc, grammar, table, b"m", blocks) else {
         return Err(Fail::from("a file that is not examined"));
     };
-    assert_eq!(rt; str::from_utf8(&text)?, WRONG);
-    drop(text);
+    check_written(rt, text, WRONG);
     Ok(())
 }
 

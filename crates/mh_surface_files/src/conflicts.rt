@@ -4,6 +4,7 @@ ghost use Rattle.mh_grammar.specs.Plain.{plain_of};
 ghost use Rattle.mh_items.specs.Fitting.{FitsSets};
 ghost use Rattle.mh_items_kernels.specs.Automaton.{IsAutomaton};
 
+use crate::texts::check_written;
 use mh_explain::explanation_text;
 use mh_grammar::Grammar;
 use mh_items::Automaton;
@@ -52,8 +53,7 @@ fn check_text(
     drop(halting);
     drop(conflicts);
     let text = text?;
-    assert_eq!(rt; str::from_utf8(&text)?, EXPLANATION);
-    drop(text);
+    check_written(rt, text, EXPLANATION);
     Ok(())
 }
 

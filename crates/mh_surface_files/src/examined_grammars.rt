@@ -12,6 +12,7 @@ ghost use Rattle.mh_resolve_cells.specs.Conflicts.{AreConflicts};
 ghost use Rattle.mh_resolve_cells.specs.States.{IsTableOf};
 ghost use Rattle.mh_resolve_cells.specs.declared.kinds.Mode.TheVariants.{Merged};
 
+use crate::texts::check_written;
 use mh_grammar::{Grammar, Sequence, from_bytes};
 use mh_items::Automaton;
 use mh_lint::{
@@ -67,8 +68,7 @@ fn check_lines(
         let mut cursor = Cursor::new(0);
         write_finding(&mut text, named, &mut cursor, finding)?;
     }
-    assert_eq!(rt; str::from_utf8(&text)?, wanted);
-    drop(text);
+    check_written(rt, text, wanted);
     Ok(())
 }
 

@@ -7,6 +7,7 @@ ghost use Rattle.mh_resolve_cells.specs.States.{IsTableOf};
 ghost use Rattle.mh_resolve_cells.specs.declared.kinds.Mode.TheVariants.{Merged};
 ghost use Rattle.mh_items.specs.Fitting.{FitsSets};
 
+use crate::texts::check_written;
 use mh_grammar::Grammar;
 use mh_items::Automaton;
 use mh_resolve::Mode;
@@ -36,8 +37,7 @@ pub fn written(
     requires table { IsTableOf grammar.now automaton.now Merged table.now }
 {
     let text = write_tables(alloc, grammar, automaton, table.table(), Mode::Merged)?;
-    assert_eq!(rt; str::from_utf8(&text)?, ONE_SENTENCE_TABLE);
-    drop(text);
+    check_written(rt, text, ONE_SENTENCE_TABLE);
     Ok(())
 }
 

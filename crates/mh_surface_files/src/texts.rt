@@ -44,9 +44,13 @@ pub fn automaton_as_text(
     requires table { IsTableOf grammar.now automaton.now Merged table.now }
 {
     let text = automaton_text(alloc, grammar, automaton, table, Mode::Merged)?;
-    assert_eq!(rt; str::from_utf8(&text)?, AUTOMATON);
-    drop(text);
+    check_written(rt, text, AUTOMATON);
     Ok(())
+}
+
+/// Fails if a text is not the wanted one.
+pub fn check_written(rt: &impl Abort, text: Vec<u8>, wanted: &str) {
+    assert_eq!(rt; str::from_utf8(&text).ok(), Some(wanted));
 }
 
 /// A conflict that levels solve is not reported.
@@ -71,7 +75,6 @@ pub fn warnings(rt: &impl Abort, alloc: Global, grammar: &Grammar) -> Result<(),
     let text = warning_text(alloc, grammar, &conflicts)?;
     let wanted = "menhir: warning: conflict in state 5 on A\n\
         menhir: warning: end-of-stream conflict in state 6\n";
-    assert_eq!(rt; str::from_utf8(&text)?, wanted);
-    drop(text);
+    check_written(rt, text, wanted);
     Ok(())
 }

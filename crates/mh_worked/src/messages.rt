@@ -345,11 +345,13 @@ fn add_both(
 }
 
 fn check_compiled(rt: &impl Abort, alloc: Global, list: &str, got: &Outcome) -> Result<(), Fail> {
-    assert_eq!(rt; str::from_utf8(&got.err)?, "");
-    assert_eq!(rt; got.status, 0);
+    let text = str::from_utf8(&got.out)?;
     let listed = states_of(alloc, list, "## Ends in an error in state: ");
-    let compiled = states_of(alloc, str::from_utf8(&got.out)?, "state ");
-    assert_eq!(rt; compiled.as_slice(), listed.as_slice());
+    let compiled = states_of(alloc, text, "state ");
+    let is_same = compiled.as_slice() == listed.as_slice();
+    drop(listed);
+    drop(compiled);
+    assert!(rt; is_same && got.status == 0 && got.err.is_empty(), "{text}");
     Ok(())
 }
 
