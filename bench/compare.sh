@@ -184,8 +184,8 @@ compare_rebased() { # FILE
     "$ours" --list-errors "$1" >messages.txt 2>err.txt
     token=$("$ours" --write-tables "$1" 2>err.txt | sed -n 's/^tokens .* \([A-Za-z_0-9]*\)$/\1/p' | head -1)
     sed "s/\<$token\>/${token}_RENAMED/g" "$1" >renamed.mly
-    list_time=$(seconds "$ours" --list-errors renamed.mly)
-    rebase_time=$(seconds "$ours" --rebase-errors messages.txt renamed.mly)
+    list_time=$(least_of_three "$ours" --list-errors renamed.mly)
+    rebase_time=$(least_of_three "$ours" --rebase-errors messages.txt renamed.mly)
     mv out.txt rebased.txt
     dropped=$(grep -c '^# dropped' rebased.txt || true)
     "$ours" --compile-errors rebased.txt renamed.mly >out.txt 2>err.txt || differs "$name, rebased and compiled"
